@@ -1,0 +1,348 @@
+-- The order of all floats: `le` is transitive, total away from `nan`, and `lt` is its strict part. A finite value x is the signed
+-- fraction (PL x - MI x) / den x, where one of PL x and MI x is 0, so that an order between two is one linear fact. Assumes nothing.
+use mathlib.Core.Path.{_≡_, refl, sym, subst}
+use mathlib.Core.Logic.{_⊎_, inl, inr}
+use Prim.Native.Nat.{ℕ, _+_, _*_, _≤_, _<_}
+use native.Mathlib.Nat.{le-of-mul-le-mul-right, mul-le-mul-right, eq-or-lt-of-le}
+use native.Mathlib.Omega.{arith}
+use mathlib.Core.Bool.{Bool, true, false, not, _||_}
+use lib.IntN.{ℤ}
+use lib.Dec.{T, eqb, eqb→eq, ltb→lt, lt→ltb, T-not}
+use lib.Ieee.{Float, nan, inf, fin, up, down, below, level, lt, eq, le, neg, isNan}
+use lib.Ieee.Fits.{down-pos, and-l, and-r, and-i, eq→eqb}
+use lib.Ieee.Positive.{den}
+use lib.Ieee.Scale.{finite}
+
+-- ---- a signed number ±a as P s a - M s a
+abbrev pub P : Bool → ℕ → ℕ
+P false a = a
+P true a = 0
+
+abbrev pub M : Bool → ℕ → ℕ
+M false a = 0
+M true a = a
+
+pub P-mul : (s : Bool) (a d : ℕ) → P s (a * d) ≡ P s a * d
+P-mul false a d = refl
+P-mul true a d = omega arith
+
+pub M-mul : (s : Bool) (a d : ℕ) → M s (a * d) ≡ M s a * d
+M-mul false a d = omega arith
+M-mul true a d = refl
+
+-- ---- Bool
+pub or-l : (a b : Bool) → T a → T (a || b)
+or-l true b t = tt
+or-l false b t = absurd t
+
+pub or-r : (a b : Bool) → T b → T (a || b)
+or-r true b t = tt
+or-r false b t = t
+
+pub or-split : (a b : Bool) → T (a || b) → T a ⊎ T b
+or-split true b t = inl tt
+or-split false b t = inr t
+
+-- ---- ±a < ±b and ±a ≤ ±b as linear facts
+below→ : (s : Bool) (a : ℕ) (t : Bool) (b : ℕ) → T (below s a t b) → P s a + M t b < P t b + M s a
+below→ false a false b h = omega (arith, ltb→lt a b h)
+below→ false a true b h = absurd h
+below→ true a false b h = omega (arith, ltb→lt 0 (a + b) h)
+below→ true a true b h = omega (arith, ltb→lt b a h)
+
+→below : (s : Bool) (a : ℕ) (t : Bool) (b : ℕ) → P s a + M t b < P t b + M s a → T (below s a t b)
+→below false a false b h = lt→ltb a b (omega arith)
+→below false a true b h = absurd (omega arith)
+→below true a false b h = lt→ltb 0 (a + b) (omega arith)
+→below true a true b h = lt→ltb b a (omega arith)
+
+level→ : (s : Bool) (a : ℕ) (t : Bool) (b : ℕ) → T (level s a t b) → P s a + M t b ≡ P t b + M s a
+level→ false a false b h = omega (arith, eqb→eq a b (and-l (eqb a b) true h))
+level→ false a true b h = omega (arith, eqb→eq a b (and-l (eqb a b) (eqb a 0) h), eqb→eq a 0 (and-r (eqb a b) (eqb a 0) h))
+level→ true a false b h = omega (arith, eqb→eq a b (and-l (eqb a b) (eqb a 0) h), eqb→eq a 0 (and-r (eqb a b) (eqb a 0) h))
+level→ true a true b h = omega (arith, eqb→eq a b (and-l (eqb a b) true h))
+
+→level : (s : Bool) (a : ℕ) (t : Bool) (b : ℕ) → P s a + M t b ≡ P t b + M s a → T (level s a t b)
+→level false a false b h = and-i (eqb a b) true (eq→eqb {a = a} {b = b} (omega arith)) tt
+→level false a true b h = and-i (eqb a b) (eqb a 0) (eq→eqb {a = a} {b = b} (omega arith)) (eq→eqb {a = a} {b = 0} (omega arith))
+→level true a false b h = and-i (eqb a b) (eqb a 0) (eq→eqb {a = a} {b = b} (omega arith)) (eq→eqb {a = a} {b = 0} (omega arith))
+→level true a true b h = and-i (eqb a b) true (eq→eqb {a = a} {b = b} (omega arith)) tt
+
+-- ---- a finite value as a signed fraction
+abbrev pub PL : Float → ℕ
+PL nan = 0
+PL (inf s) = 0
+PL (fin s m e) = P s (m * up e)
+
+abbrev pub MI : Float → ℕ
+MI nan = 0
+MI (inf s) = 0
+MI (fin s m e) = M s (m * up e)
+
+abbrev pub Cross : Float → Float → Type 0
+Cross x y = PL x * den y + MI y * den x ≤ PL y * den x + MI x * den y
+
+abbrev pub Cross< : Float → Float → Type 0
+Cross< x y = PL x * den y + MI y * den x < PL y * den x + MI x * den y
+
+pub lt→cross : (x y : Float) → T (finite x) → T (finite y) → T (lt x y) → Cross< x y
+unfolding lt
+lt→cross nan y p q h = absurd p
+lt→cross (inf s) y p q h = absurd p
+lt→cross (fin s m e) nan p q h = absurd q
+lt→cross (fin s m e) (inf t) p q h = absurd q
+lt→cross (fin s m e) (fin t n d) p q h =
+    omega (arith, below→ s (m * up e * down d) t (n * up d * down e) h, P-mul s (m * up e) (down d), P-mul t (n * up d) (down e), M-mul s (m * up e) (down d), M-mul t (n * up d) (down e))
+
+pub cross→lt : (x y : Float) → T (finite x) → T (finite y) → Cross< x y → T (lt x y)
+unfolding lt
+cross→lt nan y p q h = absurd p
+cross→lt (inf s) y p q h = absurd p
+cross→lt (fin s m e) nan p q h = absurd q
+cross→lt (fin s m e) (inf t) p q h = absurd q
+cross→lt (fin s m e) (fin t n d) p q h =
+    →below s (m * up e * down d) t (n * up d * down e) (omega (arith, h, P-mul s (m * up e) (down d), P-mul t (n * up d) (down e), M-mul s (m * up e) (down d), M-mul t (n * up d) (down e)))
+
+pub le→cross : (x y : Float) → T (finite x) → T (finite y) → T (le x y) → Cross x y
+unfolding le
+le→cross nan y p q h = absurd p
+le→cross (inf s) y p q h = absurd p
+le→cross (fin s m e) nan p q h = absurd q
+le→cross (fin s m e) (inf t) p q h = absurd q
+le→cross (fin s m e) (fin t n d) p q h =
+    let a = m * up e * down d in
+    let b = n * up d * down e in
+    elim (or-split (below s a t b) (level s a t b) h) [
+      | inl u ↦ omega (arith, below→ s a t b u, P-mul s (m * up e) (down d), P-mul t (n * up d) (down e), M-mul s (m * up e) (down d), M-mul t (n * up d) (down e))
+      | inr u ↦ omega (arith, level→ s a t b u, P-mul s (m * up e) (down d), P-mul t (n * up d) (down e), M-mul s (m * up e) (down d), M-mul t (n * up d) (down e))
+    ]
+
+pub cross→le : (x y : Float) → T (finite x) → T (finite y) → Cross x y → T (le x y)
+unfolding le
+cross→le nan y p q h = absurd p
+cross→le (inf s) y p q h = absurd p
+cross→le (fin s m e) nan p q h = absurd q
+cross→le (fin s m e) (inf t) p q h = absurd q
+cross→le (fin s m e) (fin t n d) p q h =
+    let a = m * up e * down d in
+    let b = n * up d * down e in
+    let k : P s a + M t b ≤ P t b + M s a = omega (arith, P-mul s (m * up e) (down d), P-mul t (n * up d) (down e), M-mul s (m * up e) (down d), M-mul t (n * up d) (down e)) in
+    elim (eq-or-lt-of-le k) [
+      | inl u ↦ or-r (below s a t b) (level s a t b) (→level s a t b u)
+      | inr u ↦ or-l (below s a t b) (level s a t b) (→below s a t b u)
+    ]
+
+-- ---- not a NaN
+abbrev pub num? : Float → Bool
+num? x = not (isNan x)
+
+pub finite-num : (x : Float) → T (finite x) → T (num? x)
+unfolding isNan
+finite-num nan h = absurd h
+finite-num (inf s) h = absurd h
+finite-num (fin s m e) h = tt
+
+-- ---- x ≤ y, by the three ways in which it can hold
+pub data LeV : Float → Float → Type 0 where
+  bottom : (y : Float) → T (num? y) → LeV (inf true) y
+  top : (x : Float) → T (num? x) → LeV x (inf false)
+  both : (s : Bool) (m : ℕ) (e : ℤ) (t : Bool) (n : ℕ) (d : ℤ) → Cross (fin s m e) (fin t n d) → LeV (fin s m e) (fin t n d)
+
+pub le→V : (x y : Float) → T (le x y) → LeV x y
+unfolding le isNan
+le→V nan y h = absurd h
+le→V (inf true) nan h = absurd h
+le→V (inf true) (inf t) h = bottom (inf t) tt
+le→V (inf true) (fin t n d) h = bottom (fin t n d) tt
+le→V (inf false) nan h = absurd h
+le→V (inf false) (inf true) h = absurd h
+le→V (inf false) (inf false) h = top (inf false) tt
+le→V (inf false) (fin t n d) h = absurd h
+le→V (fin s m e) nan h = absurd h
+le→V (fin s m e) (inf true) h = absurd h
+le→V (fin s m e) (inf false) h = top (fin s m e) tt
+le→V (fin s m e) (fin t n d) h = both s m e t n d (le→cross (fin s m e) (fin t n d) tt tt h)
+
+pub bottom-le : (y : Float) → T (num? y) → T (le (inf true) y)
+unfolding le isNan
+bottom-le nan h = absurd h
+bottom-le (inf true) h = tt
+bottom-le (inf false) h = tt
+bottom-le (fin t n d) h = tt
+
+pub le-top : (x : Float) → T (num? x) → T (le x (inf false))
+unfolding le isNan
+le-top nan h = absurd h
+le-top (inf true) h = tt
+le-top (inf false) h = tt
+le-top (fin t n d) h = tt
+
+pub V→le : (x y : Float) → LeV x y → T (le x y)
+V→le x y (bottom v h) = bottom-le v h
+V→le x y (top v h) = le-top v h
+V→le x y (both s m e t n d h) = cross→le (fin s m e) (fin t n d) tt tt h
+
+pub le-num-l : (x y : Float) → T (le x y) → T (num? x)
+unfolding le isNan
+le-num-l nan y h = absurd h
+le-num-l (inf s) y h = tt
+le-num-l (fin s m e) y h = tt
+
+pub le-num-r : (x y : Float) → T (le x y) → T (num? y)
+unfolding le isNan
+le-num-r nan y h = absurd h
+le-num-r (inf s) nan h = absurd h
+le-num-r (inf s) (inf t) h = tt
+le-num-r (inf s) (fin t n d) h = tt
+le-num-r (fin s m e) nan h = absurd h
+le-num-r (fin s m e) (inf t) h = tt
+le-num-r (fin s m e) (fin t n d) h = tt
+
+-- ---- transitivity
+-- (p - u) / a ≤ (q - v) / b ≤ (r - w) / c
+pub chain : (p u a q v b r w c : ℕ) → 0 < b → p * b + v * a ≤ q * a + u * b → q * c + w * b ≤ r * b + v * c → p * c + w * a ≤ r * a + u * c
+chain p u a q v b r w c B h k = le-of-mul-le-mul-right {k = b} (omega (arith, mul-le-mul-right c h, mul-le-mul-right a k)) B
+
+trans-V : (x y z : Float) → LeV x y → LeV y z → LeV x z
+trans-V x y z (bottom v h) k = bottom z (le-num-r v z (V→le v z k))
+trans-V x y z (top v h) k = go z k
+  where
+    go : (z : Float) → LeV (inf false) z → LeV v z
+    go z (top w j) = top v h
+trans-V x y z (both s m e t n d h) k = go z k
+  where
+    go : (z : Float) → LeV (fin t n d) z → LeV (fin s m e) z
+    go z (top w j) = top (fin s m e) (finite-num (fin s m e) tt)
+    go z (both _ _ _ u o c j) = both s m e u o c (chain (P s (m * up e)) (M s (m * up e)) (down e) (P t (n * up d)) (M t (n * up d)) (down d) (P u (o * up c)) (M u (o * up c)) (down c) (down-pos d) h j)
+
+pub le-trans : (x y z : Float) → T (le x y) → T (le y z) → T (le x z)
+le-trans x y z h k = V→le x z (trans-V x y z (le→V x y h) (le→V y z k))
+
+-- ---- reflexivity, totality, and `lt` as the strict part
+pub le-refl-num : (x : Float) → T (num? x) → T (le x x)
+unfolding isNan
+le-refl-num nan h = absurd h
+le-refl-num (inf true) h = bottom-le (inf true) (unfold isNan in tt)
+le-refl-num (inf false) h = le-top (inf false) (unfold isNan in tt)
+le-refl-num (fin s m e) h = cross→le (fin s m e) (fin s m e) tt tt (omega arith)
+
+pub lt→le : (x y : Float) → T (lt x y) → T (le x y)
+unfolding le
+lt→le x y h = or-l (lt x y) (eq x y) h
+
+-- the order fails one way: it holds the other way
+pub total : (x y : Float) → T (num? x) → T (num? y) → T (not (lt x y)) → T (le y x)
+unfolding isNan le
+total nan y p q h = absurd p
+total (inf s) nan p q h = absurd q
+total (inf true) (inf true) p q h = tt
+total (inf true) (inf false) p q h = absurd h
+total (inf false) (inf true) p q h = tt
+total (inf false) (inf false) p q h = tt
+total (inf true) (fin t n d) p q h = absurd h
+total (inf false) (fin t n d) p q h = tt
+total (fin s m e) nan p q h = absurd q
+total (fin s m e) (inf true) p q h = tt
+total (fin s m e) (inf false) p q h = absurd h
+total (fin s m e) (fin t n d) p q h =
+    cross→le (fin t n d) (fin s m e) tt tt (le-of-not (λ (k : Cross< (fin s m e) (fin t n d)). T-not (lt (fin s m e) (fin t n d)) h (cross→lt (fin s m e) (fin t n d) tt tt k)))
+  where
+    le-of-not : (Cross< (fin s m e) (fin t n d) → ⊥) → Cross (fin t n d) (fin s m e)
+    le-of-not k = omega arith
+
+-- and it does not hold both ways
+pub le-not-lt : (x y : Float) → T (le x y) → T (lt y x) → ⊥
+unfolding le
+le-not-lt nan y h k = absurd h
+le-not-lt (inf s) nan h k = absurd h
+le-not-lt (inf true) (inf true) h k = absurd k
+le-not-lt (inf true) (inf false) h k = absurd k
+le-not-lt (inf false) (inf true) h k = absurd h
+le-not-lt (inf false) (inf false) h k = absurd k
+le-not-lt (inf true) (fin t n d) h k = absurd k
+le-not-lt (inf false) (fin t n d) h k = absurd h
+le-not-lt (fin s m e) nan h k = absurd h
+le-not-lt (fin s m e) (inf true) h k = absurd h
+le-not-lt (fin s m e) (inf false) h k = absurd k
+le-not-lt (fin s m e) (fin t n d) h k = clash (le→cross (fin s m e) (fin t n d) tt tt h) (lt→cross (fin t n d) (fin s m e) tt tt k)
+  where
+    clash : Cross (fin s m e) (fin t n d) → Cross< (fin t n d) (fin s m e) → ⊥
+    clash a b = omega arith
+
+by-cases : (b : Bool) → T b ⊎ T (not b)
+by-cases true = inl tt
+by-cases false = inr tt
+
+pub lt-or-ge : (x y : Float) → T (num? x) → T (num? y) → T (lt x y) ⊎ T (le y x)
+lt-or-ge x y p q = elim (by-cases (lt x y)) [ inl h ↦ inl h | inr h ↦ inr (total x y p q h) ]
+
+pub le-lt-trans : (x y z : Float) → T (le x y) → T (lt y z) → T (lt x z)
+le-lt-trans x y z h k = elim (lt-or-ge x z (le-num-l x y h) (le-num-r y z (lt→le y z k))) [ inl g ↦ g | inr g ↦ absurd (le-not-lt z y (le-trans z x y g h) k) ]
+
+-- ---- negation turns the order round
+pub neg-num : (x : Float) → T (num? x) → T (num? (neg x))
+unfolding isNan neg
+neg-num nan h = absurd h
+neg-num (inf s) h = tt
+neg-num (fin s m e) h = tt
+
+flip-P : (s : Bool) (a : ℕ) → P (not s) a ≡ M s a
+flip-P true a = refl
+flip-P false a = refl
+
+flip-M : (s : Bool) (a : ℕ) → M (not s) a ≡ P s a
+flip-M true a = refl
+flip-M false a = refl
+
+pub neg-PL : (x : Float) → PL (neg x) ≡ MI x
+unfolding neg
+neg-PL nan = refl
+neg-PL (inf s) = refl
+neg-PL (fin s m e) = flip-P s (m * up e)
+
+pub neg-MI : (x : Float) → MI (neg x) ≡ PL x
+unfolding neg
+neg-MI nan = refl
+neg-MI (inf s) = refl
+neg-MI (fin s m e) = flip-M s (m * up e)
+
+pub neg-den : (x : Float) → den (neg x) ≡ den x
+unfolding neg
+neg-den nan = refl
+neg-den (inf s) = refl
+neg-den (fin s m e) = refl
+
+neg-V : (x y : Float) → LeV x y → T (le (neg y) (neg x))
+unfolding neg
+neg-V x y (bottom v h) = le-top (neg v) (neg-num v h)
+neg-V x y (top v h) = bottom-le (neg v) (neg-num v h)
+neg-V x y (both s m e t n d h) =
+    cross→le (fin (not t) n d) (fin (not s) m e) tt tt (swap (P s (m * up e)) (M s (m * up e)) (P (not s) (m * up e)) (M (not s) (m * up e)) (P t (n * up d)) (M t (n * up d)) (P (not t) (n * up d)) (M (not t) (n * up d)) (flip-P s (m * up e)) (flip-M s (m * up e)) (flip-P t (n * up d)) (flip-M t (n * up d)) h)
+  where
+    swap : (p u p' u' q v q' v' : ℕ) → p' ≡ u → u' ≡ p → q' ≡ v → v' ≡ q → p * down d + v * down e ≤ q * down e + u * down d → q' * down e + u' * down d ≤ p' * down d + v' * down e
+    swap p u p' u' q v q' v' a b c g h = rw (a, b, c, g) (omega arith)
+
+pub neg-anti : (x y : Float) → T (le x y) → T (le (neg y) (neg x))
+neg-anti x y h = neg-V x y (le→V x y h)
+
+-- ---- a comparison that came out true, as a test of the code leaves it
+pub of-true : (b : Bool) → b ≡ true → T b
+of-true b e = subst (λ (z : Bool). T z) (sym e) tt
+
+pub of-false : (b : Bool) → b ≡ false → T (not b)
+of-false b e = subst (λ (z : Bool). T (not z)) (sym e) tt
+
+-- ---- what lies between two finite values is finite
+top-not-under : (hi : Float) → T (finite hi) → T (le (inf false) hi) → ⊥
+unfolding le
+top-not-under nan q k = q
+top-not-under (inf t) q k = q
+top-not-under (fin t n d) q k = k
+
+between-V : (lo x hi : Float) → LeV lo x → T (finite lo) → T (finite hi) → T (le x hi) → T (finite x)
+between-V lo x hi (bottom y h) p q k = absurd p
+between-V lo x hi (top y h) p q k = absurd (top-not-under hi q k)
+between-V lo x hi (both s m e t n d h) p q k = tt
+
+pub between-finite : (lo x hi : Float) → T (finite lo) → T (finite hi) → T (le lo x) → T (le x hi) → T (finite x)
+between-finite lo x hi p q h k = between-V lo x hi (le→V lo x h) p q k

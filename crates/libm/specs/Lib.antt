@@ -1,0 +1,4 @@
+-- Document 01's stand-ins for libm: what a reader must believe, to be held beside musl 1.1.20's log.c and exp.c.
+pub mod Constants
+pub mod Log
+pub mod Exp
