@@ -1,4 +1,4 @@
--- Sums, differences and products with a positive factor keep the order, infinities included. A value of the format less something that is not negative is no larger. Assumes nothing.
+-- Sums of finite values, and products with a positive factor, keep the order. Assumes nothing.
 use mathlib.Core.Path.{_≡_, sym, ap, subst}
 use Prim.Native.Nat.{ℕ, zero, suc, _+_, _*_, _≤_, _<_}
 use native.Mathlib.Nat.{mul-le-mul-right, mul-pos}
@@ -9,11 +9,11 @@ use lib.Dec.{T, ltb}
 use lib.Ieee.{Float, nan, inf, fin, Format, up, down, le, add, mul, isNan}
 use lib.Ieee.Positive.{den, den-pos, positive}
 use lib.Ieee.Scale.{finite}
-use Rattle.float64.proofs.Order.{PL, MI, Cross, num?, LeV, bottom, top, both, le→V, bottom-le, le-top, le-num-l}
-use Rattle.float64.proofs.Rounding.{Is, is-le, add-is, mul-is}
+use Rattle.float64.proofs.Order.{plus, less, Cross, num?, LeBy, bottom, top, both, le→by, bottom-le, le-top, le-num-l}
+use Rattle.float64.proofs.Rounding.{Rounded, rounded-le, add-rounded, mul-rounded}
 
-pub is-num : (f : Format) (x : Float) (p u c : ℕ) → 0 < c → Is f x p u c → T (num? x)
-is-num f x p u c C i = le-num-l x x (is-le f x x p u c p u c C C i i (omega arith))
+pub rounded-num : (f : Format) (x : Float) (p u c : ℕ) → 0 < c → Rounded f x p u c → T (num? x)
+rounded-num f x p u c C i = le-num-l x x (rounded-le f x x p u c p u c C C i i (omega arith))
 
 -- ---- sums
 spread : (p r a b c d : ℕ) → (p * c + r * a) * (b * d) ≡ p * b * (c * d) + r * d * (a * b)
@@ -32,9 +32,9 @@ sum-cross p u a q v b r w c g k d h j =
 
 pub add-keeps : (f : Format) (x x' y y' : Float) → T (finite x) → T (finite x') → T (finite y) → T (finite y') → Cross x x' → Cross y y' → T (le (add f x y) (add f x' y'))
 add-keeps f x x' y y' p p' q q' h k =
-    is-le f (add f x y) (add f x' y') (PL x * den y + PL y * den x) (MI x * den y + MI y * den x) (den x * den y) (PL x' * den y' + PL y' * den x') (MI x' * den y' + MI y' * den x') (den x' * den y')
-    (mul-pos (den-pos x) (den-pos y)) (mul-pos (den-pos x') (den-pos y')) (add-is f x y p q) (add-is f x' y' p' q')
-    (sum-cross (PL x) (MI x) (den x) (PL x') (MI x') (den x') (PL y) (MI y) (den y) (PL y') (MI y') (den y') h k)
+    rounded-le f (add f x y) (add f x' y') (plus x * den y + plus y * den x) (less x * den y + less y * den x) (den x * den y) (plus x' * den y' + plus y' * den x') (less x' * den y' + less y' * den x') (den x' * den y')
+    (mul-pos (den-pos x) (den-pos y)) (mul-pos (den-pos x') (den-pos y')) (add-rounded f x y p q) (add-rounded f x' y' p' q')
+    (sum-cross (plus x) (less x) (den x) (plus x') (less x') (den x') (plus y) (less y) (den y) (plus y') (less y') (den y') h k)
 
 -- ---- a product with a positive finite factor on the left
 mul-cross : (g c p u a q v b : ℕ) → p * b + v * a ≤ q * a + u * b → (g * p + 0 * u) * (c * b) + (g * v + 0 * q) * (c * a) ≤ (g * q + 0 * v) * (c * a) + (g * u + 0 * p) * (c * b)
@@ -50,7 +50,7 @@ fin-mul-fin : (f : Format) (s : Bool) (m : ℕ) (e : ℤ) (t : Bool) (n : ℕ) (
 fin-mul-fin f s m e t n d =
     let x = fin s m e in
     let y = fin t n d in
-    is-num f (mul f x y) (PL x * PL y + MI x * MI y) (PL x * MI y + MI x * PL y) (den x * den y) (mul-pos (den-pos x) (den-pos y)) (mul-is f x y tt tt)
+    rounded-num f (mul f x y) (plus x * plus y + less x * less y) (plus x * less y + less x * plus y) (den x * den y) (mul-pos (den-pos x) (den-pos y)) (mul-rounded f x y tt tt)
 
 pub pos-mul-num : (f : Format) (k x : Float) → T (positive k) → T (num? x) → T (num? (mul f k x))
 unfolding isNan
@@ -61,18 +61,18 @@ pos-mul-num f (fin false n d) nan p q = absurd q
 pos-mul-num f (fin false n d) (inf s) p q = subst (λ (z : Float). T (num? z)) (sym (pos-mul-inf f n d s p)) tt
 pos-mul-num f (fin false n d) (fin s m e) p q = fin-mul-fin f false n d s m e
 
-mul-V : (f : Format) (n : ℕ) (d : ℤ) (x y : Float) → T (ltb 0 n) → LeV x y → T (le (mul f (fin false n d) x) (mul f (fin false n d) y))
-mul-V f n d x y p (bottom v h) = subst (λ (z : Float). T (le z (mul f (fin false n d) v))) (sym (pos-mul-inf f n d true p)) (bottom-le (mul f (fin false n d) v) (pos-mul-num f (fin false n d) v p h))
-mul-V f n d x y p (top v h) = subst (λ (z : Float). T (le (mul f (fin false n d) v) z)) (sym (pos-mul-inf f n d false p)) (le-top (mul f (fin false n d) v) (pos-mul-num f (fin false n d) v p h))
-mul-V f n d x y p (both s m e t o c h) =
+mul-by : (f : Format) (n : ℕ) (d : ℤ) (x y : Float) → T (ltb 0 n) → LeBy x y → T (le (mul f (fin false n d) x) (mul f (fin false n d) y))
+mul-by f n d x y p (bottom v h) = subst (λ (z : Float). T (le z (mul f (fin false n d) v))) (sym (pos-mul-inf f n d true p)) (bottom-le (mul f (fin false n d) v) (pos-mul-num f (fin false n d) v p h))
+mul-by f n d x y p (top v h) = subst (λ (z : Float). T (le (mul f (fin false n d) v) z)) (sym (pos-mul-inf f n d false p)) (le-top (mul f (fin false n d) v) (pos-mul-num f (fin false n d) v p h))
+mul-by f n d x y p (both s m e t o c h) =
     let k = fin false n d in
     let v = fin s m e in
     let w = fin t o c in
-    is-le f (mul f k v) (mul f k w) (PL k * PL v + MI k * MI v) (PL k * MI v + MI k * PL v) (den k * den v) (PL k * PL w + MI k * MI w) (PL k * MI w + MI k * PL w) (den k * den w)
-    (mul-pos (den-pos k) (den-pos v)) (mul-pos (den-pos k) (den-pos w)) (mul-is f k v tt tt) (mul-is f k w tt tt) (mul-cross (n * up d) (down d) (PL v) (MI v) (den v) (PL w) (MI w) (den w) h)
+    rounded-le f (mul f k v) (mul f k w) (plus k * plus v + less k * less v) (plus k * less v + less k * plus v) (den k * den v) (plus k * plus w + less k * less w) (plus k * less w + less k * plus w) (den k * den w)
+    (mul-pos (den-pos k) (den-pos v)) (mul-pos (den-pos k) (den-pos w)) (mul-rounded f k v tt tt) (mul-rounded f k w tt tt) (mul-cross (n * up d) (down d) (plus v) (less v) (den v) (plus w) (less w) (den w) h)
 
 pub mul-mono : (f : Format) (k x y : Float) → T (positive k) → T (le x y) → T (le (mul f k x) (mul f k y))
 mul-mono f nan x y p h = absurd p
 mul-mono f (inf s) x y p h = absurd p
 mul-mono f (fin true n d) x y p h = absurd p
-mul-mono f (fin false n d) x y p h = mul-V f n d x y p (le→V x y h)
+mul-mono f (fin false n d) x y p h = mul-by f n d x y p (le→by x y h)

@@ -1,6 +1,7 @@
--- The order of all floats: `le` is transitive, total away from `nan`, and `lt` is its strict part. A finite value x is the signed
--- fraction (PL x - MI x) / den x, where one of PL x and MI x is 0, so that an order between two is one linear fact. Assumes nothing.
-use mathlib.Core.Path.{_≡_, refl, sym, subst}
+-- The order of all floats: `le` is transitive, total away from `nan`, `lt` is its strict part, and negation turns it round.
+-- A finite value x is the signed fraction (plus x - less x) / den x, where one of plus x and less x is 0, so that an order between
+-- two is one linear fact on natural numbers. Assumes nothing.
+use mathlib.Core.Path.{_≡_, refl}
 use mathlib.Core.Logic.{_⊎_, inl, inr}
 use Prim.Native.Nat.{ℕ, _+_, _*_, _≤_, _<_}
 use native.Mathlib.Nat.{le-of-mul-le-mul-right, mul-le-mul-right, eq-or-lt-of-le}
@@ -69,21 +70,21 @@ level→ true a true b h = omega (arith, eqb→eq a b (and-l (eqb a b) true h))
 →level true a true b h = and-i (eqb a b) true (eq→eqb {a = a} {b = b} (omega arith)) tt
 
 -- ---- a finite value as a signed fraction
-abbrev pub PL : Float → ℕ
-PL nan = 0
-PL (inf s) = 0
-PL (fin s m e) = P s (m * up e)
+abbrev pub plus : Float → ℕ
+plus nan = 0
+plus (inf s) = 0
+plus (fin s m e) = P s (m * up e)
 
-abbrev pub MI : Float → ℕ
-MI nan = 0
-MI (inf s) = 0
-MI (fin s m e) = M s (m * up e)
+abbrev pub less : Float → ℕ
+less nan = 0
+less (inf s) = 0
+less (fin s m e) = M s (m * up e)
 
 abbrev pub Cross : Float → Float → Type 0
-Cross x y = PL x * den y + MI y * den x ≤ PL y * den x + MI x * den y
+Cross x y = plus x * den y + less y * den x ≤ plus y * den x + less x * den y
 
 abbrev pub Cross< : Float → Float → Type 0
-Cross< x y = PL x * den y + MI y * den x < PL y * den x + MI x * den y
+Cross< x y = plus x * den y + less y * den x < plus y * den x + less x * den y
 
 pub lt→cross : (x y : Float) → T (finite x) → T (finite y) → T (lt x y) → Cross< x y
 unfolding lt
@@ -143,25 +144,25 @@ finite-num (inf s) h = absurd h
 finite-num (fin s m e) h = tt
 
 -- ---- x ≤ y, by the three ways in which it can hold
-pub data LeV : Float → Float → Type 0 where
-  bottom : (y : Float) → T (num? y) → LeV (inf true) y
-  top : (x : Float) → T (num? x) → LeV x (inf false)
-  both : (s : Bool) (m : ℕ) (e : ℤ) (t : Bool) (n : ℕ) (d : ℤ) → Cross (fin s m e) (fin t n d) → LeV (fin s m e) (fin t n d)
+pub data LeBy : Float → Float → Type 0 where
+  bottom : (y : Float) → T (num? y) → LeBy (inf true) y
+  top : (x : Float) → T (num? x) → LeBy x (inf false)
+  both : (s : Bool) (m : ℕ) (e : ℤ) (t : Bool) (n : ℕ) (d : ℤ) → Cross (fin s m e) (fin t n d) → LeBy (fin s m e) (fin t n d)
 
-pub le→V : (x y : Float) → T (le x y) → LeV x y
+pub le→by : (x y : Float) → T (le x y) → LeBy x y
 unfolding le isNan
-le→V nan y h = absurd h
-le→V (inf true) nan h = absurd h
-le→V (inf true) (inf t) h = bottom (inf t) tt
-le→V (inf true) (fin t n d) h = bottom (fin t n d) tt
-le→V (inf false) nan h = absurd h
-le→V (inf false) (inf true) h = absurd h
-le→V (inf false) (inf false) h = top (inf false) tt
-le→V (inf false) (fin t n d) h = absurd h
-le→V (fin s m e) nan h = absurd h
-le→V (fin s m e) (inf true) h = absurd h
-le→V (fin s m e) (inf false) h = top (fin s m e) tt
-le→V (fin s m e) (fin t n d) h = both s m e t n d (le→cross (fin s m e) (fin t n d) tt tt h)
+le→by nan y h = absurd h
+le→by (inf true) nan h = absurd h
+le→by (inf true) (inf t) h = bottom (inf t) tt
+le→by (inf true) (fin t n d) h = bottom (fin t n d) tt
+le→by (inf false) nan h = absurd h
+le→by (inf false) (inf true) h = absurd h
+le→by (inf false) (inf false) h = top (inf false) tt
+le→by (inf false) (fin t n d) h = absurd h
+le→by (fin s m e) nan h = absurd h
+le→by (fin s m e) (inf true) h = absurd h
+le→by (fin s m e) (inf false) h = top (fin s m e) tt
+le→by (fin s m e) (fin t n d) h = both s m e t n d (le→cross (fin s m e) (fin t n d) tt tt h)
 
 pub bottom-le : (y : Float) → T (num? y) → T (le (inf true) y)
 unfolding le isNan
@@ -177,10 +178,10 @@ le-top (inf true) h = tt
 le-top (inf false) h = tt
 le-top (fin t n d) h = tt
 
-pub V→le : (x y : Float) → LeV x y → T (le x y)
-V→le x y (bottom v h) = bottom-le v h
-V→le x y (top v h) = le-top v h
-V→le x y (both s m e t n d h) = cross→le (fin s m e) (fin t n d) tt tt h
+pub by→le : (x y : Float) → LeBy x y → T (le x y)
+by→le x y (bottom v h) = bottom-le v h
+by→le x y (top v h) = le-top v h
+by→le x y (both s m e t n d h) = cross→le (fin s m e) (fin t n d) tt tt h
 
 pub le-num-l : (x y : Float) → T (le x y) → T (num? x)
 unfolding le isNan
@@ -203,28 +204,20 @@ le-num-r (fin s m e) (fin t n d) h = tt
 pub chain : (p u a q v b r w c : ℕ) → 0 < b → p * b + v * a ≤ q * a + u * b → q * c + w * b ≤ r * b + v * c → p * c + w * a ≤ r * a + u * c
 chain p u a q v b r w c B h k = le-of-mul-le-mul-right {k = b} (omega (arith, mul-le-mul-right c h, mul-le-mul-right a k)) B
 
-trans-V : (x y z : Float) → LeV x y → LeV y z → LeV x z
-trans-V x y z (bottom v h) k = bottom z (le-num-r v z (V→le v z k))
-trans-V x y z (top v h) k = go z k
+trans-by : (x y z : Float) → LeBy x y → LeBy y z → LeBy x z
+trans-by x y z (bottom v h) k = bottom z (le-num-r v z (by→le v z k))
+trans-by x y z (top v h) k = go z k
   where
-    go : (z : Float) → LeV (inf false) z → LeV v z
+    go : (z : Float) → LeBy (inf false) z → LeBy v z
     go z (top w j) = top v h
-trans-V x y z (both s m e t n d h) k = go z k
+trans-by x y z (both s m e t n d h) k = go z k
   where
-    go : (z : Float) → LeV (fin t n d) z → LeV (fin s m e) z
+    go : (z : Float) → LeBy (fin t n d) z → LeBy (fin s m e) z
     go z (top w j) = top (fin s m e) (finite-num (fin s m e) tt)
     go z (both _ _ _ u o c j) = both s m e u o c (chain (P s (m * up e)) (M s (m * up e)) (down e) (P t (n * up d)) (M t (n * up d)) (down d) (P u (o * up c)) (M u (o * up c)) (down c) (down-pos d) h j)
 
 pub le-trans : (x y z : Float) → T (le x y) → T (le y z) → T (le x z)
-le-trans x y z h k = V→le x z (trans-V x y z (le→V x y h) (le→V y z k))
-
--- ---- reflexivity, totality, and `lt` as the strict part
-pub le-refl-num : (x : Float) → T (num? x) → T (le x x)
-unfolding isNan
-le-refl-num nan h = absurd h
-le-refl-num (inf true) h = bottom-le (inf true) (unfold isNan in tt)
-le-refl-num (inf false) h = le-top (inf false) (unfold isNan in tt)
-le-refl-num (fin s m e) h = cross→le (fin s m e) (fin s m e) tt tt (omega arith)
+le-trans x y z h k = by→le x z (trans-by x y z (le→by x y h) (le→by y z k))
 
 pub lt→le : (x y : Float) → T (lt x y) → T (le x y)
 unfolding le
@@ -294,43 +287,18 @@ flip-M : (s : Bool) (a : ℕ) → M (not s) a ≡ P s a
 flip-M true a = refl
 flip-M false a = refl
 
-pub neg-PL : (x : Float) → PL (neg x) ≡ MI x
+neg-by : (x y : Float) → LeBy x y → T (le (neg y) (neg x))
 unfolding neg
-neg-PL nan = refl
-neg-PL (inf s) = refl
-neg-PL (fin s m e) = flip-P s (m * up e)
-
-pub neg-MI : (x : Float) → MI (neg x) ≡ PL x
-unfolding neg
-neg-MI nan = refl
-neg-MI (inf s) = refl
-neg-MI (fin s m e) = flip-M s (m * up e)
-
-pub neg-den : (x : Float) → den (neg x) ≡ den x
-unfolding neg
-neg-den nan = refl
-neg-den (inf s) = refl
-neg-den (fin s m e) = refl
-
-neg-V : (x y : Float) → LeV x y → T (le (neg y) (neg x))
-unfolding neg
-neg-V x y (bottom v h) = le-top (neg v) (neg-num v h)
-neg-V x y (top v h) = bottom-le (neg v) (neg-num v h)
-neg-V x y (both s m e t n d h) =
+neg-by x y (bottom v h) = le-top (neg v) (neg-num v h)
+neg-by x y (top v h) = bottom-le (neg v) (neg-num v h)
+neg-by x y (both s m e t n d h) =
     cross→le (fin (not t) n d) (fin (not s) m e) tt tt (swap (P s (m * up e)) (M s (m * up e)) (P (not s) (m * up e)) (M (not s) (m * up e)) (P t (n * up d)) (M t (n * up d)) (P (not t) (n * up d)) (M (not t) (n * up d)) (flip-P s (m * up e)) (flip-M s (m * up e)) (flip-P t (n * up d)) (flip-M t (n * up d)) h)
   where
     swap : (p u p' u' q v q' v' : ℕ) → p' ≡ u → u' ≡ p → q' ≡ v → v' ≡ q → p * down d + v * down e ≤ q * down e + u * down d → q' * down e + u' * down d ≤ p' * down d + v' * down e
     swap p u p' u' q v q' v' a b c g h = rw (a, b, c, g) (omega arith)
 
 pub neg-anti : (x y : Float) → T (le x y) → T (le (neg y) (neg x))
-neg-anti x y h = neg-V x y (le→V x y h)
-
--- ---- a comparison that came out true, as a test of the code leaves it
-pub of-true : (b : Bool) → b ≡ true → T b
-of-true b e = subst (λ (z : Bool). T z) (sym e) tt
-
-pub of-false : (b : Bool) → b ≡ false → T (not b)
-of-false b e = subst (λ (z : Bool). T (not z)) (sym e) tt
+neg-anti x y h = neg-by x y (le→by x y h)
 
 -- ---- what lies between two finite values is finite
 top-not-under : (hi : Float) → T (finite hi) → T (le (inf false) hi) → ⊥
@@ -339,10 +307,10 @@ top-not-under nan q k = q
 top-not-under (inf t) q k = q
 top-not-under (fin t n d) q k = k
 
-between-V : (lo x hi : Float) → LeV lo x → T (finite lo) → T (finite hi) → T (le x hi) → T (finite x)
-between-V lo x hi (bottom y h) p q k = absurd p
-between-V lo x hi (top y h) p q k = absurd (top-not-under hi q k)
-between-V lo x hi (both s m e t n d h) p q k = tt
+between-by : (lo x hi : Float) → LeBy lo x → T (finite lo) → T (finite hi) → T (le x hi) → T (finite x)
+between-by lo x hi (bottom y h) p q k = absurd p
+between-by lo x hi (top y h) p q k = absurd (top-not-under hi q k)
+between-by lo x hi (both s m e t n d h) p q k = tt
 
 pub between-finite : (lo x hi : Float) → T (finite lo) → T (finite hi) → T (le lo x) → T (le x hi) → T (finite x)
-between-finite lo x hi p q h k = between-V lo x hi (le→V lo x h) p q k
+between-finite lo x hi p q h k = between-by lo x hi (le→by lo x h) p q k

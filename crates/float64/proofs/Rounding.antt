@@ -1,4 +1,4 @@
--- `round` keeps the order of signed fractions, and leaves a value of the format as it is. So sums, differences and products with a positive factor keep the order. Assumes nothing.
+-- `round` keeps the order of signed fractions, and the sign goes through it. A sum and a product are each a signed fraction, rounded. Assumes nothing.
 use mathlib.Core.Path.{_≡_, refl, sym, ap, _∙_, subst}
 use Prim.Native.Nat.{ℕ, zero, suc, _+_, _-_, _*_, _^_, _≤_, _<_, zero-le}
 use native.Mathlib.Nat.{le-of-mul-le-mul-right, mul-le-mul-right}
@@ -13,11 +13,11 @@ use lib.Ieee.Exact.{HasValue, round-exact}
 use lib.Ieee.Order.{drop, kept, round-mono}
 use lib.Ieee.Positive.{den}
 use lib.Ieee.Scale.{finite}
-use Rattle.float64.proofs.Order.{P, M, P-mul, M-mul, PL, MI, cross→le, le-trans, neg-anti}
+use Rattle.float64.proofs.Order.{P, M, P-mul, M-mul, plus, less, cross→le, le-trans, neg-anti}
 
 -- ±a / c ≤ ±b / d
-abbrev pub SLe : Bool → ℕ → ℕ → Bool → ℕ → ℕ → Type 0
-SLe s a c t b d = P s a * d + M t b * c ≤ P t b * c + M s a * d
+abbrev pub SignedLe : Bool → ℕ → ℕ → Bool → ℕ → ℕ → Type 0
+SignedLe s a c t b d = P s a * d + M t b * c ≤ P t b * c + M s a * d
 
 -- ---- a value by any signed fraction that it equals
 pub value-finite : (x : Float) (s : Bool) (a c : ℕ) → HasValue x s a c → T (finite x)
@@ -25,38 +25,38 @@ value-finite nan s a c h = h
 value-finite (inf t) s a c h = h
 value-finite (fin t m e) s a c h = tt
 
-val-P : (s : Bool) (n c a d : ℕ) → n * c ≡ a * d → P s n * c ≡ P s a * d
-val-P false n c a d h = h
-val-P true n c a d h = omega arith
+value-P : (s : Bool) (n c a d : ℕ) → n * c ≡ a * d → P s n * c ≡ P s a * d
+value-P false n c a d h = h
+value-P true n c a d h = omega arith
 
-val-M : (s : Bool) (n c a d : ℕ) → n * c ≡ a * d → M s n * c ≡ M s a * d
-val-M false n c a d h = omega arith
-val-M true n c a d h = h
+value-M : (s : Bool) (n c a d : ℕ) → n * c ≡ a * d → M s n * c ≡ M s a * d
+value-M false n c a d h = omega arith
+value-M true n c a d h = h
 
-pub value-PL : (x : Float) (s : Bool) (a c : ℕ) → HasValue x s a c → PL x * c ≡ P s a * den x
-value-PL nan s a c h = absurd h
-value-PL (inf t) s a c h = absurd h
-value-PL (fin t m e) s a c h = subst (λ (z : Bool). P t (m * up e) * c ≡ P z a * down e) (h .0) (val-P t (m * up e) c a (down e) (h .1))
+pub value-plus : (x : Float) (s : Bool) (a c : ℕ) → HasValue x s a c → plus x * c ≡ P s a * den x
+value-plus nan s a c h = absurd h
+value-plus (inf t) s a c h = absurd h
+value-plus (fin t m e) s a c h = subst (λ (z : Bool). P t (m * up e) * c ≡ P z a * down e) (h .0) (value-P t (m * up e) c a (down e) (h .1))
 
-pub value-MI : (x : Float) (s : Bool) (a c : ℕ) → HasValue x s a c → MI x * c ≡ M s a * den x
-value-MI nan s a c h = absurd h
-value-MI (inf t) s a c h = absurd h
-value-MI (fin t m e) s a c h = subst (λ (z : Bool). M t (m * up e) * c ≡ M z a * down e) (h .0) (val-M t (m * up e) c a (down e) (h .1))
+pub value-less : (x : Float) (s : Bool) (a c : ℕ) → HasValue x s a c → less x * c ≡ M s a * den x
+value-less nan s a c h = absurd h
+value-less (inf t) s a c h = absurd h
+value-less (fin t m e) s a c h = subst (λ (z : Bool). M t (m * up e) * c ≡ M z a * down e) (h .0) (value-M t (m * up e) c a (down e) (h .1))
 
 -- from S / c, written (S - U) / c, to (p - u) / dx, of the same value: on the left of an order, and on its right
-xfer-l : (p u dx S U c R W d : ℕ) → 0 < c → p * c ≡ S * dx → u * c ≡ U * dx → S * d + W * c ≤ R * c + U * d → p * d + W * dx ≤ R * dx + u * d
-xfer-l p u dx S U c R W d C a b h = le-of-mul-le-mul-right {k = c} (omega (arith, mul-le-mul-right dx h, ap (λ (z : ℕ). z * d) a, ap (λ (z : ℕ). z * d) b)) C
+carry-l : (p u dx S U c R W d : ℕ) → 0 < c → p * c ≡ S * dx → u * c ≡ U * dx → S * d + W * c ≤ R * c + U * d → p * d + W * dx ≤ R * dx + u * d
+carry-l p u dx S U c R W d C a b h = le-of-mul-le-mul-right {k = c} (omega (arith, mul-le-mul-right dx h, ap (λ (z : ℕ). z * d) a, ap (λ (z : ℕ). z * d) b)) C
 
-xfer-r : (p u dx q v dy R W d : ℕ) → 0 < d → q * d ≡ R * dy → v * d ≡ W * dy → p * d + W * dx ≤ R * dx + u * d → p * dy + v * dx ≤ q * dx + u * dy
-xfer-r p u dx q v dy R W d D a b h = le-of-mul-le-mul-right {k = d} (omega (arith, mul-le-mul-right dy h, ap (λ (z : ℕ). z * dx) a, ap (λ (z : ℕ). z * dx) b)) D
+carry-r : (p u dx q v dy R W d : ℕ) → 0 < d → q * d ≡ R * dy → v * d ≡ W * dy → p * d + W * dx ≤ R * dx + u * d → p * dy + v * dx ≤ q * dx + u * dy
+carry-r p u dx q v dy R W d D a b h = le-of-mul-le-mul-right {k = d} (omega (arith, mul-le-mul-right dy h, ap (λ (z : ℕ). z * dx) a, ap (λ (z : ℕ). z * dx) b)) D
 
-pub xfer : (p u dx q v dy S U c R W d : ℕ) → 0 < c → 0 < d → p * c ≡ S * dx → u * c ≡ U * dx → q * d ≡ R * dy → v * d ≡ W * dy → S * d + W * c ≤ R * c + U * d → p * dy + v * dx ≤ q * dx + u * dy
-xfer p u dx q v dy S U c R W d C D a b g k h = xfer-r p u dx q v dy R W d D g k (xfer-l p u dx S U c R W d C a b h)
+pub carry : (p u dx q v dy S U c R W d : ℕ) → 0 < c → 0 < d → p * c ≡ S * dx → u * c ≡ U * dx → q * d ≡ R * dy → v * d ≡ W * dy → S * d + W * c ≤ R * c + U * d → p * dy + v * dx ≤ q * dx + u * dy
+carry p u dx q v dy S U c R W d C D a b g k h = carry-r p u dx q v dy R W d D g k (carry-l p u dx S U c R W d C a b h)
 
-pub le-of-signed : (x y : Float) (s : Bool) (a c : ℕ) (t : Bool) (b d : ℕ) → 0 < c → 0 < d → HasValue x s a c → HasValue y t b d → SLe s a c t b d → T (le x y)
+pub le-of-signed : (x y : Float) (s : Bool) (a c : ℕ) (t : Bool) (b d : ℕ) → 0 < c → 0 < d → HasValue x s a c → HasValue y t b d → SignedLe s a c t b d → T (le x y)
 le-of-signed x y s a c t b d C D p q h =
     cross→le x y (value-finite x s a c p) (value-finite y t b d q)
-    (xfer (PL x) (MI x) (den x) (PL y) (MI y) (den y) (P s a) (M s a) c (P t b) (M t b) d C D (value-PL x s a c p) (value-MI x s a c p) (value-PL y t b d q) (value-MI y t b d q) h)
+    (carry (plus x) (less x) (den x) (plus y) (less y) (den y) (P s a) (M s a) c (P t b) (M t b) d C D (value-plus x s a c p) (value-less x s a c p) (value-plus y t b d q) (value-less y t b d q) h)
 
 -- ---- the sign goes through `round`
 odd-neg : (d q k l : ℕ) → odd d true q k l ≡ neg (odd d false q k l)
@@ -90,7 +90,7 @@ is-zero s t a c C h z = N.eq-of-mul-eq-mul-right c C a 0 (omega arith)
 up-zero : (f : Format) (a c : ℕ) → 0 < c → T (le (round f false 0 1) (round f false a c))
 up-zero f a c C = round-mono f 0 1 a c (pow-pos 0) C (omega arith)
 
-pub round-keeps : (f : Format) (s : Bool) (a c : ℕ) (t : Bool) (b d : ℕ) → 0 < c → 0 < d → SLe s a c t b d → T (le (round f s a c) (round f t b d))
+pub round-keeps : (f : Format) (s : Bool) (a c : ℕ) (t : Bool) (b d : ℕ) → 0 < c → 0 < d → SignedLe s a c t b d → T (le (round f s a c) (round f t b d))
 round-keeps f false a c false b d C D h = round-mono f a c b d C D (omega arith)
 round-keeps f false a c true b d C D h =
     let za : a ≡ 0 = is-zero (b * c) (0 * c + 0 * d) a d D (omega arith) (omega arith) in
@@ -106,57 +106,57 @@ round-keeps f true a c false b d C D h =
 round-keeps f true a c true b d C D h =
     subst (λ (z : Float). T (le z (round f true b d))) (sym (round-neg f a c)) (subst (λ (z : Float). T (le (neg (round f false a c)) z)) (sym (round-neg f b d)) (neg-anti (round f false b d) (round f false a c) (round-mono f b d a c D C (omega arith))))
 
--- ---- `Is f x p u c`: x is (p - u) / c, rounded
-pub record Is (f : Format) (x : Float) (p u c : ℕ) : Type 0 where
-  pub sg : Bool
-  pub mag : ℕ
-  pub made : x ≡ round f sg mag c
-  pub val : P sg mag + u ≡ p + M sg mag
+-- ---- x is (p - u) / c, rounded
+pub record Rounded (f : Format) (x : Float) (p u c : ℕ) : Type 0 where
+  pub sign : Bool
+  pub size : ℕ
+  pub made : x ≡ round f sign size c
+  pub value : P sign size + u ≡ p + M sign size
 
-cross-is : (S U p u c R W q v d : ℕ) → S + u ≡ p + U → R + v ≡ q + W → p * d + v * c ≤ q * c + u * d → S * d + W * c ≤ R * c + U * d
-cross-is S U p u c R W q v d a b h = omega (arith, ap (λ (z : ℕ). z * d) a, ap (λ (z : ℕ). z * c) b)
+rounded-cross : (S U p u c R W q v d : ℕ) → S + u ≡ p + U → R + v ≡ q + W → p * d + v * c ≤ q * c + u * d → S * d + W * c ≤ R * c + U * d
+rounded-cross S U p u c R W q v d a b h = omega (arith, ap (λ (z : ℕ). z * d) a, ap (λ (z : ℕ). z * c) b)
 
-pub is-le : (f : Format) (x y : Float) (p u c q v d : ℕ) → 0 < c → 0 < d → Is f x p u c → Is f y q v d → p * d + v * c ≤ q * c + u * d → T (le x y)
-is-le f x y p u c q v d C D i j h =
+pub rounded-le : (f : Format) (x y : Float) (p u c q v d : ℕ) → 0 < c → 0 < d → Rounded f x p u c → Rounded f y q v d → p * d + v * c ≤ q * c + u * d → T (le x y)
+rounded-le f x y p u c q v d C D i j h =
     subst (λ (z : Float). T (le z y)) (sym (i .made))
-    (subst (λ (z : Float). T (le (round f (i .sg) (i .mag) c) z)) (sym (j .made))
-    (round-keeps f (i .sg) (i .mag) c (j .sg) (j .mag) d C D
-    (cross-is (P (i .sg) (i .mag)) (M (i .sg) (i .mag)) p u c (P (j .sg) (j .mag)) (M (j .sg) (j .mag)) q v d (i .val) (j .val) h)))
+    (subst (λ (z : Float). T (le (round f (i .sign) (i .size) c) z)) (sym (j .made))
+    (round-keeps f (i .sign) (i .size) c (j .sign) (j .size) d C D
+    (rounded-cross (P (i .sign) (i .size)) (M (i .sign) (i .size)) p u c (P (j .sign) (j .size)) (M (j .sign) (j .size)) q v d (i .value) (j .value) h)))
 
 -- ---- a sum, and a product
-sum-is : (f : Format) (s : Bool) (a : ℕ) (t : Bool) (b c : ℕ) → Is f (sum f s a t b c) (P s a + P t b) (M s a + M t b) c
+sum-rounded : (f : Format) (s : Bool) (a : ℕ) (t : Bool) (b c : ℕ) → Rounded f (sum f s a t b c) (P s a + P t b) (M s a + M t b) c
 unfolding sum
-sum-is f false a false b c = record { sg = false; mag = a + b; made = refl; val = refl }
-sum-is f true a true b c = record { sg = true; mag = a + b; made = refl; val = refl }
-sum-is f false a true b c = go (ltb a b) (ltb→lt a b) (nltb→le a b)
+sum-rounded f false a false b c = record { sign = false; size = a + b; made = refl; value = refl }
+sum-rounded f true a true b c = record { sign = true; size = a + b; made = refl; value = refl }
+sum-rounded f false a true b c = go (ltb a b) (ltb→lt a b) (nltb→le a b)
   where
-    go : (z : Bool) → (T z → a < b) → (T (not z) → b ≤ a) → Is f (cond z (round f true (b - a) c) (round f false (a - b) c)) (a + 0) (0 + b) c
-    go true h k = let g = h tt in record { sg = true; mag = b - a; made = refl; val = omega arith }
-    go false h k = let g = k tt in record { sg = false; mag = a - b; made = refl; val = omega arith }
-sum-is f true a false b c = go (ltb a b) (ltb→lt a b) (nltb→le a b) (ltb b a) (ltb→lt b a) (nltb→le b a)
+    go : (z : Bool) → (T z → a < b) → (T (not z) → b ≤ a) → Rounded f (cond z (round f true (b - a) c) (round f false (a - b) c)) (a + 0) (0 + b) c
+    go true h k = let g = h tt in record { sign = true; size = b - a; made = refl; value = omega arith }
+    go false h k = let g = k tt in record { sign = false; size = a - b; made = refl; value = omega arith }
+sum-rounded f true a false b c = go (ltb a b) (ltb→lt a b) (nltb→le a b) (ltb b a) (ltb→lt b a) (nltb→le b a)
   where
-    go : (z : Bool) → (T z → a < b) → (T (not z) → b ≤ a) → (w : Bool) → (T w → b < a) → (T (not w) → a ≤ b) → Is f (cond z (round f false (b - a) c) (round f w (a - b) c)) (0 + b) (a + 0) c
-    go true h k w i j = let g = h tt in record { sg = false; mag = b - a; made = refl; val = omega arith }
-    go false h k true i j = let g = i tt in record { sg = true; mag = a - b; made = refl; val = omega arith }
-    go false h k false i j = let g = k tt in let g' = j tt in record { sg = false; mag = a - b; made = refl; val = omega arith }
+    go : (z : Bool) → (T z → a < b) → (T (not z) → b ≤ a) → (w : Bool) → (T w → b < a) → (T (not w) → a ≤ b) → Rounded f (cond z (round f false (b - a) c) (round f w (a - b) c)) (0 + b) (a + 0) c
+    go true h k w i j = let g = h tt in record { sign = false; size = b - a; made = refl; value = omega arith }
+    go false h k true i j = let g = i tt in record { sign = true; size = a - b; made = refl; value = omega arith }
+    go false h k false i j = let g = k tt in let g' = j tt in record { sign = false; size = a - b; made = refl; value = omega arith }
 
-pub add-is : (f : Format) (x y : Float) → T (finite x) → T (finite y) → Is f (add f x y) (PL x * den y + PL y * den x) (MI x * den y + MI y * den x) (den x * den y)
+pub add-rounded : (f : Format) (x y : Float) → T (finite x) → T (finite y) → Rounded f (add f x y) (plus x * den y + plus y * den x) (less x * den y + less y * den x) (den x * den y)
 unfolding add
-add-is f nan y p q = absurd p
-add-is f (inf s) y p q = absurd p
-add-is f (fin s m e) nan p q = absurd q
-add-is f (fin s m e) (inf t) p q = absurd q
-add-is f (fin s m e) (fin t n d) p q =
-    let i = sum-is f s (m * up e * down d) t (n * up d * down e) (down e * down d) in
-    record { sg = i .sg; mag = i .mag; made = i .made; val = omega (arith, i .val, P-mul s (m * up e) (down d), P-mul t (n * up d) (down e), M-mul s (m * up e) (down d), M-mul t (n * up d) (down e)) }
+add-rounded f nan y p q = absurd p
+add-rounded f (inf s) y p q = absurd p
+add-rounded f (fin s m e) nan p q = absurd q
+add-rounded f (fin s m e) (inf t) p q = absurd q
+add-rounded f (fin s m e) (fin t n d) p q =
+    let i = sum-rounded f s (m * up e * down d) t (n * up d * down e) (down e * down d) in
+    record { sign = i .sign; size = i .size; made = i .made; value = omega (arith, i .value, P-mul s (m * up e) (down d), P-mul t (n * up d) (down e), M-mul s (m * up e) (down d), M-mul t (n * up d) (down e)) }
 
-pub mul-is : (f : Format) (x y : Float) → T (finite x) → T (finite y) → Is f (mul f x y) (PL x * PL y + MI x * MI y) (PL x * MI y + MI x * PL y) (den x * den y)
+pub mul-rounded : (f : Format) (x y : Float) → T (finite x) → T (finite y) → Rounded f (mul f x y) (plus x * plus y + less x * less y) (plus x * less y + less x * plus y) (den x * den y)
 unfolding mul
-mul-is f nan y p q = absurd p
-mul-is f (inf s) y p q = absurd p
-mul-is f (fin s m e) nan p q = absurd q
-mul-is f (fin s m e) (inf t) p q = absurd q
-mul-is f (fin false m e) (fin false n d) p q = record { sg = false; mag = m * up e * (n * up d); made = refl; val = omega arith }
-mul-is f (fin false m e) (fin true n d) p q = record { sg = true; mag = m * up e * (n * up d); made = refl; val = omega arith }
-mul-is f (fin true m e) (fin false n d) p q = record { sg = true; mag = m * up e * (n * up d); made = refl; val = omega arith }
-mul-is f (fin true m e) (fin true n d) p q = record { sg = false; mag = m * up e * (n * up d); made = refl; val = omega arith }
+mul-rounded f nan y p q = absurd p
+mul-rounded f (inf s) y p q = absurd p
+mul-rounded f (fin s m e) nan p q = absurd q
+mul-rounded f (fin s m e) (inf t) p q = absurd q
+mul-rounded f (fin false m e) (fin false n d) p q = record { sign = false; size = m * up e * (n * up d); made = refl; value = omega arith }
+mul-rounded f (fin false m e) (fin true n d) p q = record { sign = true; size = m * up e * (n * up d); made = refl; value = omega arith }
+mul-rounded f (fin true m e) (fin false n d) p q = record { sign = true; size = m * up e * (n * up d); made = refl; value = omega arith }
+mul-rounded f (fin true m e) (fin true n d) p q = record { sign = false; size = m * up e * (n * up d); made = refl; value = omega arith }

@@ -1,0 +1,42 @@
+-- The table of document 01's marked facts, computed. Assumes nothing.
+use mathlib.Core.Path.{_≡_, refl}
+use mathlib.Core.Bool.{Bool}
+use lib.Ieee.{Float, nan, inf, fin, binary64, ofBits, toBits, ofInt, add, sub, mul, div, neg, lt, le}
+use Rattle.float64.specs.Pick.{pick}
+use Rattle.libm.specs.Log.{log, logOfWord, logAround, remainder}
+use Rattle.libm.specs.Exp.{exp, expWithin}
+use Rattle.matrix.specs.Matrix.{determinant, hasWildEntry, inverse, inversePositive}
+use Rattle.likelihood.specs.Terms.{variance}
+use Rattle.likelihood.specs.Answer.{refused}
+use Rattle.likelihood.specs.RowTerms.{rowTerms, termsAt, finiteTerms}
+use Rattle.curlewstand.specs.Leaves.{observationOf}
+use Rattle.marked.specs.Marked.{Marked, zero}
+
+-- a NaN swallows what is added to it
+nan-added : (x : Float) → add binary64 x nan ≡ nan
+unfolding add
+nan-added nan = refl
+nan-added (inf s) = refl
+nan-added (fin s m e) = refl
+
+infinite-variance : (additive : Float) (s : Bool) → variance additive zero (inf s) ≡ nan
+unfolding ofBits mul
+infinite-variance additive s = nan-added (mul binary64 additive additive)
+
+infinite-row : (value additive f-eta : Float) (s : Bool) → rowTerms (observationOf value additive zero) (inf s) f-eta additive ≡ refused 11
+unfolding rowTerms pick observationOf
+infinite-row value additive f-eta s = rw (infinite-variance additive s)
+
+pub marked : Marked
+unfolding rowTerms termsAt finiteTerms observationOf pick log logOfWord logAround remainder exp expWithin determinant hasWildEntry inverse inversePositive ofBits toBits ofInt add sub mul div neg lt le
+marked =
+    record {
+      additive-row = refl;
+      proportional-row = refl;
+      no-variance = λ value f-eta. refl;
+      infinite-prediction = infinite-row;
+      inverse = refl;
+      singular = refl;
+      exp-zero = refl;
+      log-one = refl;
+    }

@@ -1,0 +1,42 @@
+-- Document 01's marked facts of the leaves, as one table. The proof is proofs/Table.antt, and src/main.rt holds the code to it.
+use mathlib.Core.Path.{_≡_}
+use mathlib.Core.Bool.{Bool}
+use lib.Ieee.{Float, inf}
+use Rattle.float64.specs.Arithmetic.{word, half, one, two}
+use Rattle.libm.specs.Log.{log}
+use Rattle.libm.specs.Exp.{exp}
+use Rattle.matrix.specs.Matrix.{pair, inversePositive, some, none}
+use Rattle.likelihood.specs.Answer.{given, refused}
+use Rattle.likelihood.specs.RowTerms.{rowTerms}
+use Rattle.curlewstand.specs.Leaves.{observationOf}
+
+abbrev pub zero : Float
+zero = word 0
+
+abbrev pub three : Float
+three = word 0x4008_0000_0000_0000
+
+abbrev pub four : Float
+four = word 0x4010_0000_0000_0000
+
+pub record Marked : Type 0 where
+  -- value 3, f 1, f_eta 2, a 1, p 0: score -4, information 4
+  pub additive-row :
+      rowTerms (observationOf three one zero) one two one
+      ≡ given (record { nll = word 0x4007_59fc_7219_2fad; score = word 0xc010_0000_0000_0000; information = four })
+  -- value 4, f 2, f_eta 1, a 0, p 1: score -0.5, information 0.75
+  pub proportional-row :
+      rowTerms (observationOf four zero one) two one zero
+      ≡ given (record { nll = word 0x4000_e58d_31d7_be29; score = word 0xbfe0_0000_0000_0000; information = word 0x3fe8_0000_0000_0000 })
+  -- p 1, a 0, f 0: 11, whatever the value and f_eta
+  pub no-variance : (value f-eta : Float) → rowTerms (observationOf value zero one) zero f-eta zero ≡ refused 11
+  -- p 0, f infinite: 11, whatever the value, a and f_eta
+  pub infinite-prediction : (value additive f-eta : Float) (s : Bool) → rowTerms (observationOf value additive zero) (inf s) f-eta additive ≡ refused 11
+  -- the inverse of (2,0;0,4): (0.5,-0;-0,0.25), det 8
+  pub inverse :
+      inversePositive (pair (pair two zero) (pair zero four))
+      ≡ some (pair (pair half (word 0x8000_0000_0000_0000)) (pair (word 0x8000_0000_0000_0000) (word 0x3fd0_0000_0000_0000))) (word 0x4020_0000_0000_0000)
+  -- (1,1;1,1): none
+  pub singular : inversePositive (pair (pair one one) (pair one one)) ≡ none
+  pub exp-zero : exp zero ≡ one
+  pub log-one : log one ≡ zero

@@ -1,0 +1,82 @@
+// Pairs and two by two matrices of floats, by value, with the operations of population_focei_2d.rs in
+// its order. Each function is defined for all floats.
+ghost use mathlib.Core.Path.{_≡_};
+ghost use Rattle.matrix.specs.Matrix.{answer, determinant, hasWildEntry, inverse, inversePositive, product, dot};
+
+// The answer of inverse_positive: the determinant, or no inverse. An enum holds no array, so the
+// inverse itself, which the source answers too, is `inverse(matrix, det)`.
+pub enum InversePositive {
+    Exists(f64),
+    None,
+}
+
+pub fn determinant(matrix: [[f64; 2]; 2]) -> f64
+    ensures { λ r. ⌜ r ≡ determinant matrix ⌝ }
+{
+    matrix[0][0] * matrix[1][1] - matrix[0][1] * matrix[1][0]
+}
+
+// Whether some entry is a NaN or an infinity.
+pub fn has_wild_entry(matrix: [[f64; 2]; 2]) -> bool
+    ensures { λ r. ⌜ r ≡ hasWildEntry matrix ⌝ }
+{
+    if float64::is_wild(matrix[0][0]) {
+        return true;
+    }
+    if float64::is_wild(matrix[0][1]) {
+        return true;
+    }
+    if float64::is_wild(matrix[1][0]) {
+        return true;
+    }
+    float64::is_wild(matrix[1][1])
+}
+
+// The determinant of a matrix that is positive on the diagonal and has an inverse. The last test turns
+// away a matrix that only rounding keeps from being singular.
+pub fn inverse_positive(matrix: [[f64; 2]; 2]) -> InversePositive
+    ensures { λ r. ⌜ answer matrix r ≡ inversePositive matrix ⌝ }
+{
+    let det = determinant(matrix);
+    if has_wild_entry(matrix) {
+        return InversePositive::None;
+    }
+    if matrix[0][0] <= 0.0 {
+        return InversePositive::None;
+    }
+    if matrix[1][1] <= 0.0 {
+        return InversePositive::None;
+    }
+    if float64::is_wild(det) {
+        return InversePositive::None;
+    }
+    if det <= 1e-12 * matrix[0][0] * matrix[1][1] {
+        return InversePositive::None;
+    }
+    InversePositive::Exists(det)
+}
+
+// The inverse of a matrix whose determinant is `det`.
+pub fn inverse(matrix: [[f64; 2]; 2], det: f64) -> [[f64; 2]; 2]
+    ensures { λ r. ⌜ r ≡ inverse matrix det ⌝ }
+{
+    [
+        [matrix[1][1] / det, -matrix[0][1] / det],
+        [-matrix[1][0] / det, matrix[0][0] / det],
+    ]
+}
+
+pub fn product(matrix: [[f64; 2]; 2], vector: [f64; 2]) -> [f64; 2]
+    ensures { λ r. ⌜ r ≡ product matrix vector ⌝ }
+{
+    [
+        matrix[0][0] * vector[0] + matrix[0][1] * vector[1],
+        matrix[1][0] * vector[0] + matrix[1][1] * vector[1],
+    ]
+}
+
+pub fn dot(left: [f64; 2], right: [f64; 2]) -> f64
+    ensures { λ r. ⌜ r ≡ dot left right ⌝ }
+{
+    left[0] * right[0] + left[1] * right[1]
+}

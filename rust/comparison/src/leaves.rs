@@ -1,0 +1,282 @@
+//! Every leaf as a function from floats to an answer, on both sides.
+
+use crate::compare::{word_of, Answer};
+
+/// The answer's code where a matrix has no inverse.
+pub const NO_INVERSE: u32 = 1;
+
+/// Rust leaves the sign of the larger of two zeros free, so that a zero of
+/// either sign will do there and only there.
+fn larger(a: f64, b: f64, larger: f64) -> Answer {
+    if a == 0. && b == 0. && a.to_bits() != b.to_bits() {
+        Answer::floats(&[larger.abs()])
+    } else {
+        Answer::floats(&[larger])
+    }
+}
+
+fn all_finite(nll: f64, score: [f64; 2], information: [[f64; 2]; 2]) -> bool {
+    nll.is_finite()
+        && score.iter().all(|x| x.is_finite())
+        && information.iter().flatten().all(|x| x.is_finite())
+}
+
+fn sums(nll: f64, score: [f64; 2], information: [[f64; 2]; 2]) -> Answer {
+    Answer::floats(&[
+        nll,
+        score[0],
+        score[1],
+        information[0][0],
+        information[0][1],
+        information[1][0],
+        information[1][1],
+    ])
+}
+
+fn inverted(found: Option<([[f64; 2]; 2], f64)>) -> Answer {
+    match found {
+        Some(([[a, b], [c, d]], det)) => Answer::floats(&[det, a, b, c, d]),
+        None => Answer::refused(NO_INVERSE),
+    }
+}
+
+/// Curlewstand's leaves. What a call writes is filled beforehand, to see that
+/// a refusal leaves it alone.
+pub mod ours {
+    use super::*;
+    use crate::compare::TOUCHED;
+    use curlewstand::ffi::*;
+
+    const FILLED: f64 = -1.2345e67;
+
+    fn touched<'a>(lent: impl IntoIterator<Item = &'a f64>) -> bool {
+        lent.into_iter().any(|x| x.to_bits() != FILLED.to_bits())
+    }
+
+    pub fn word([x]: [f64; 1]) -> Answer {
+        let read = curlewstand::from_word(x.to_bits());
+        Answer::words(&[word_of(read), curlewstand::to_word(x)])
+    }
+
+    pub fn is_finite([x]: [f64; 1]) -> Answer {
+        Answer::words(&[curlewstand::is_finite(x) as u64])
+    }
+
+    pub fn abs([x]: [f64; 1]) -> Answer {
+        Answer::floats(&[curlewstand::abs(x)])
+    }
+
+    pub fn max([a, b]: [f64; 2]) -> Answer {
+        larger(a, b, curlewstand::max(a, b))
+    }
+
+    pub fn clamp([x, low, high]: [f64; 3]) -> Answer {
+        Answer::floats(&[curlewstand::clamp(x, low, high)])
+    }
+
+    pub fn log([x]: [f64; 1]) -> Answer {
+        Answer::floats(&[curlewstand::log(x)])
+    }
+
+    pub fn exp([x]: [f64; 1]) -> Answer {
+        Answer::floats(&[curlewstand::exp(x)])
+    }
+
+    pub fn determinant([a, b, c, d]: [f64; 4]) -> Answer {
+        Answer::floats(&[curlewstand::determinant([[a, b], [c, d]])])
+    }
+
+    pub fn inverse_positive([a, b, c, d]: [f64; 4]) -> Answer {
+        let mut inverse = [[FILLED; 2]; 2];
+        let mut det = FILLED;
+        let found =
+            unsafe { curlewstand_inverse_positive(&[[a, b], [c, d]], &mut inverse, &mut det) };
+        if !found && (touched(inverse.iter().flatten()) || touched([&det])) {
+            return Answer::refused(TOUCHED);
+        }
+        inverted(found.then_some((inverse, det)))
+    }
+
+    pub fn product([a, b, c, d, v, w]: [f64; 6]) -> Answer {
+        Answer::floats(&curlewstand::product([[a, b], [c, d]], [v, w]))
+    }
+
+    pub fn dot([a, b, c, d]: [f64; 4]) -> Answer {
+        Answer::floats(&[curlewstand::dot([a, b], [c, d])])
+    }
+
+    pub fn row_terms([value, proportional, prediction, f_eta, additive]: [f64; 5]) -> Answer {
+        let mut terms = [FILLED; 3];
+        let code = unsafe {
+            curlewstand_row_terms(value, proportional, prediction, f_eta, additive, &mut terms)
+        };
+        match code {
+            0 => Answer::floats(&terms),
+            _ if touched(&terms) => Answer::refused(TOUCHED),
+            code => Answer::refused(code),
+        }
+    }
+
+    /// One row added to sums of zero. Whether sums are finite is asked after
+    /// the last row, as the source does.
+    pub fn add_row(row: [f64; 6]) -> Answer {
+        let mut refused = ([[FILLED; 2]; 2], [FILLED; 2], FILLED);
+        if add(row, &mut refused) != 0
+            && (touched(refused.0.iter().flatten()) || touched(&refused.1) || touched([&refused.2]))
+        {
+            return Answer::refused(TOUCHED);
+        }
+        rows(&[row])
+    }
+
+    /// One row added, then another.
+    pub fn add_two_rows(both: [f64; 12]) -> Answer {
+        let (first, second) = both.split_at(6);
+        rows(&[first.try_into().unwrap(), second.try_into().unwrap()])
+    }
+
+    type Lent = ([[f64; 2]; 2], [f64; 2], f64);
+
+    fn rows(rows: &[[f64; 6]]) -> Answer {
+        let mut lent: Lent = Default::default();
+        for row in rows {
+            let code = add(*row, &mut lent);
+            if code != 0 {
+                return Answer::refused(code);
+            }
+        }
+        let (information, score, nll) = lent;
+        if all_finite(nll, score, information) {
+            sums(nll, score, information)
+        } else {
+            Answer::refused(12)
+        }
+    }
+
+    fn add([value, additive, proportional, prediction, f, g]: [f64; 6], lent: &mut Lent) -> u32 {
+        let (information, score, nll) = lent;
+        unsafe {
+            curlewstand_add_row(
+                value,
+                additive,
+                proportional,
+                prediction,
+                &[f, g],
+                nll,
+                score,
+                information,
+            )
+        }
+    }
+}
+
+/// Rust's own functions on floats, and the stand-ins for `libm`.
+pub mod rust {
+    use super::*;
+
+    pub fn word([x]: [f64; 1]) -> Answer {
+        Answer::floats(&[x, x])
+    }
+
+    pub fn is_finite([x]: [f64; 1]) -> Answer {
+        Answer::words(&[x.is_finite() as u64])
+    }
+
+    pub fn abs([x]: [f64; 1]) -> Answer {
+        Answer::floats(&[x.abs()])
+    }
+
+    pub fn max([a, b]: [f64; 2]) -> Answer {
+        larger(a, b, a.max(b))
+    }
+
+    /// Rust's clamp panics unless `low <= high`; there the rule is written out.
+    pub fn clamp([x, low, high]: [f64; 3]) -> Answer {
+        let clamped = if low <= high {
+            x.clamp(low, high)
+        } else if x < low {
+            low
+        } else if high < x {
+            high
+        } else {
+            x
+        };
+        Answer::floats(&[clamped])
+    }
+
+    pub fn log([x]: [f64; 1]) -> Answer {
+        Answer::floats(&[oracle::libm::log(x)])
+    }
+
+    pub fn exp([x]: [f64; 1]) -> Answer {
+        Answer::floats(&[oracle::libm::exp(x)])
+    }
+}
+
+/// The original's leaves.
+#[cfg(source_at_hand)]
+pub mod original {
+    use super::*;
+    use oracle::session::Row2;
+    use oracle::Rows2;
+    use std::cell::RefCell;
+
+    pub fn determinant([a, b, c, d]: [f64; 4]) -> Answer {
+        Answer::floats(&[oracle::determinant([[a, b], [c, d]])])
+    }
+
+    pub fn inverse_positive([a, b, c, d]: [f64; 4]) -> Answer {
+        inverted(oracle::inverse_positive([[a, b], [c, d]]))
+    }
+
+    pub fn product([a, b, c, d, v, w]: [f64; 6]) -> Answer {
+        Answer::floats(&oracle::product([[a, b], [c, d]], [v, w]))
+    }
+
+    pub fn dot([a, b, c, d]: [f64; 4]) -> Answer {
+        Answer::floats(&[oracle::dot([a, b], [c, d])])
+    }
+
+    pub fn row_terms([value, proportional, prediction, f_eta, additive]: [f64; 5]) -> Answer {
+        match oracle::row_terms(value, proportional, prediction, f_eta, additive) {
+            Ok(terms) => Answer::floats(&terms),
+            Err(code) => Answer::refused(code),
+        }
+    }
+
+    pub fn add_row(row: [f64; 6]) -> Answer {
+        rows(&[row2(row)])
+    }
+
+    pub fn add_two_rows(both: [f64; 12]) -> Answer {
+        let (first, second) = both.split_at(6);
+        rows(&[
+            row2(first.try_into().unwrap()),
+            row2(second.try_into().unwrap()),
+        ])
+    }
+
+    thread_local! {
+        static ROWS: RefCell<Rows2> = RefCell::new(Rows2::new());
+    }
+
+    fn rows(rows: &[Row2]) -> Answer {
+        match ROWS.with_borrow_mut(|original| original.sums(rows)) {
+            Ok(sum) => {
+                assert!(all_finite(sum.nll, sum.score, sum.information));
+                sums(sum.nll, sum.score, sum.information)
+            }
+            Err(code) => Answer::refused(code),
+        }
+    }
+
+    fn row2([value, additive, proportional, prediction, f, g]: [f64; 6]) -> Row2 {
+        Row2 {
+            value,
+            additive,
+            proportional,
+            prediction,
+            f_eta: [f, g],
+        }
+    }
+}

@@ -1,0 +1,204 @@
+//! Random inputs of the sizes that a fit meets, and of the sizes at which its
+//! arithmetic runs over or under.
+
+use crate::floats::{power, EXP_TURNS, LOG_TURNS};
+use crate::random::Random;
+
+/// A proportional deviation: none, usual, or so tiny that its square is lost.
+fn proportional(random: &mut Random) -> f64 {
+    match random.below(4) {
+        0 => 0.,
+        1 => random.magnitude(-540, -505),
+        _ => random.uniform(0., 0.6),
+    }
+}
+
+fn additive(random: &mut Random) -> f64 {
+    match random.below(4) {
+        0 => 0.,
+        1 => random.magnitude(-20, 4),
+        _ => random.uniform(0., 3.),
+    }
+}
+
+fn subnormal(random: &mut Random) -> f64 {
+    let bits = 1 << random.below(53);
+    f64::from_bits(random.below(bits))
+}
+
+fn value(random: &mut Random) -> f64 {
+    random.uniform(-5., 100.)
+}
+
+/// Value, proportional, prediction, f_eta and additive of a usual row. With a
+/// tiny proportional deviation the prediction is large, so that the variance
+/// is not lost with it.
+fn usual(random: &mut Random) -> [f64; 5] {
+    let proportional = proportional(random);
+    let additive = additive(random);
+    let tiny = 0. < proportional && proportional < 1e-100;
+    let prediction = if tiny && random.below(8) != 0 {
+        random.magnitude(480, 1000)
+    } else {
+        value(random)
+    };
+    let measured = match random.below(4) {
+        0 => prediction,
+        1 => prediction * random.uniform(0.5, 1.5),
+        _ => value(random),
+    };
+    let size = random.magnitude(-10, 10);
+    let f_eta = random.signed(size);
+    [measured, proportional, prediction, f_eta, additive]
+}
+
+/// A row whose numbers are of very unlike sizes.
+fn unlike(random: &mut Random) -> [f64; 5] {
+    let mut row = std::array::from_fn(|_| {
+        let size = random.magnitude(-300, 300);
+        if random.below(8) == 0 {
+            0.
+        } else {
+            size
+        }
+    });
+    for argument in [0, 2, 3] {
+        row[argument] = random.signed(row[argument]);
+    }
+    row
+}
+
+pub fn row_terms(random: &mut Random) -> [f64; 5] {
+    if random.below(4) == 0 {
+        unlike(random)
+    } else {
+        usual(random)
+    }
+}
+
+/// Value, additive, proportional, prediction and both eta sensitivities. A
+/// subnormal sensitivity matters: halved, it may lose its last bit, and the
+/// information then depends on the order of the effects.
+pub fn add_row(random: &mut Random) -> [f64; 6] {
+    let [value, proportional, prediction, first, additive] = row_terms(random);
+    let second = match random.below(4) {
+        0 => 0.,
+        1 => {
+            let size = subnormal(random);
+            random.signed(size)
+        }
+        _ => first * random.uniform(-2., 2.),
+    };
+    if random.coin() {
+        [value, additive, proportional, prediction, first, second]
+    } else {
+        [value, additive, proportional, prediction, second, first]
+    }
+}
+
+pub fn add_two_rows(random: &mut Random) -> [f64; 12] {
+    let first = add_row(random);
+    let second = add_row(random);
+    std::array::from_fn(|argument| {
+        if argument < 6 {
+            first[argument]
+        } else {
+            second[argument - 6]
+        }
+    })
+}
+
+/// A symmetric matrix that has an inverse, or whose determinant is at the
+/// edge of having one, or any matrix.
+pub fn matrix(random: &mut Random) -> [f64; 4] {
+    let [a, d] = match random.below(8) {
+        // so small that a share of 1e-12 of it is lost
+        0 => [subnormal(random), random.magnitude(960, 1023)],
+        1 => [random.magnitude(960, 1023), subnormal(random)],
+        _ => [random.magnitude(-30, 30), random.magnitude(-30, 30)],
+    };
+    let geometric = (a * d).sqrt();
+    let b = match random.below(4) {
+        0 => random.uniform(-1., 1.) * geometric,
+        1 => (1. - random.magnitude(-54, -30)) * geometric,
+        2 => (1. - power(-41) * random.uniform(0.9, 1.2)) * geometric,
+        _ => random.uniform(-2., 2.) * geometric,
+    };
+    match random.below(8) {
+        0 => [-a, b, b, d],
+        1 => [a, b, -b, d],
+        2 => {
+            let other = random.uniform(-1., 1.) * geometric;
+            [a, b, other, d]
+        }
+        _ => [a, b, b, d],
+    }
+}
+
+pub fn matrix_and_vector(random: &mut Random) -> [f64; 6] {
+    let [a, b, c, d] = matrix(random);
+    [a, b, c, d, random.uniform(-4., 4.), random.uniform(-4., 4.)]
+}
+
+/// Four floats for a sum of two products, often nearly cancelling.
+pub fn four(random: &mut Random) -> [f64; 4] {
+    let [a, b, c] = std::array::from_fn(|_| random.uniform(-100., 100.));
+    let d = if random.coin() {
+        a * b / c * random.uniform(0.999, 1.001)
+    } else {
+        random.uniform(-100., 100.)
+    };
+    [a, c, b, -d]
+}
+
+/// A float with one of the high words, whatever its low word.
+fn with_high_word(random: &mut Random, high_words: &[u64]) -> f64 {
+    let high = random.pick(high_words);
+    f64::from_bits(high << 32 | random.below(1 << 32))
+}
+
+/// Variances and determinants, and floats about the turns of `log`.
+pub fn log(random: &mut Random) -> [f64; 1] {
+    [match random.below(5) {
+        4 => with_high_word(random, LOG_TURNS),
+        0 => random.uniform(0.5, 2.),
+        1 => 1. + random.uniform(-1., 1.) * random.magnitude(-52, -1),
+        2 => random.magnitude(-1022, 1023),
+        _ => random.uniform(0., 1000.),
+    }]
+}
+
+/// Etas within the bound of 16, a few beyond, and floats about the turns of
+/// `exp`.
+pub fn exp(random: &mut Random) -> [f64; 1] {
+    [match random.below(8) {
+        3 => {
+            let turn = with_high_word(random, EXP_TURNS);
+            random.signed(turn)
+        }
+        0 => {
+            let size = random.magnitude(-40, 5);
+            random.signed(size)
+        }
+        1 => {
+            // near a change of k
+            let turn = (random.below(24) as f64 + 0.5) * std::f64::consts::LN_2;
+            let near = f64::from_bits(turn.to_bits() ^ random.below(1 << 20));
+            random.signed(near)
+        }
+        2 => random.uniform(-1.5, 1.5),
+        _ => random.uniform(-16.1, 16.1),
+    }]
+}
+
+/// A point between bounds, beyond one, or at one.
+pub fn clamp(random: &mut Random) -> [f64; 3] {
+    let low = random.uniform(-16., 16.);
+    let high = low + random.uniform(-1., 8.);
+    let x = match random.below(8) {
+        0 => low,
+        1 => high,
+        _ => random.uniform(-20., 20.),
+    };
+    [x, low, high]
+}

@@ -1,0 +1,50 @@
+//! The C face of the static library, as it is. Arrays go by pointer; an
+//! answer that is written is written whole or not at all.
+
+extern "C" {
+    /// Every pattern is accepted; that of a NaN gives a NaN.
+    pub fn curlewstand_from_word(word: u64) -> f64;
+    /// A NaN gives 7ff8000000000000.
+    pub fn curlewstand_to_word(x: f64) -> u64;
+    pub fn curlewstand_is_finite(x: f64) -> bool;
+    pub fn curlewstand_abs(x: f64) -> f64;
+    pub fn curlewstand_max(a: f64, b: f64) -> f64;
+    pub fn curlewstand_clamp(x: f64, low: f64, high: f64) -> f64;
+    pub fn curlewstand_log(x: f64) -> f64;
+    pub fn curlewstand_exp(x: f64) -> f64;
+    pub fn curlewstand_determinant(matrix: *const [[f64; 2]; 2]) -> f64;
+    /// True, with inverse and determinant written, or false with neither.
+    pub fn curlewstand_inverse_positive(
+        matrix: *const [[f64; 2]; 2],
+        inverse: *mut [[f64; 2]; 2],
+        det: *mut f64,
+    ) -> bool;
+    pub fn curlewstand_product(
+        matrix: *const [[f64; 2]; 2],
+        vector: *const [f64; 2],
+        product: *mut [f64; 2],
+    );
+    pub fn curlewstand_dot(left: *const [f64; 2], right: *const [f64; 2]) -> f64;
+    /// 0 with negative log likelihood, score and information written, or the
+    /// number of the refusal with nothing written.
+    pub fn curlewstand_row_terms(
+        value: f64,
+        proportional: f64,
+        prediction: f64,
+        f_eta: f64,
+        additive: f64,
+        terms: *mut [f64; 3],
+    ) -> u32;
+    /// 0 with the row added to the three sums, or the number of the refusal
+    /// with the sums as they were.
+    pub fn curlewstand_add_row(
+        value: f64,
+        additive: f64,
+        proportional: f64,
+        prediction: f64,
+        f_eta: *const [f64; 2],
+        nll: *mut f64,
+        score: *mut [f64; 2],
+        information: *mut [[f64; 2]; 2],
+    ) -> u32;
+}

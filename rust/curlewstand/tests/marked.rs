@@ -1,0 +1,50 @@
+//! Document 01's marked facts about the leaves, through the safe functions.
+
+use curlewstand::*;
+
+#[test]
+fn floats() {
+    assert_eq!(from_word(0x3ff0000000000000), 1.);
+    assert_eq!(to_word(-f64::NAN), 0x7ff8000000000000);
+    assert_eq!(to_word(-0.), 1 << 63);
+    assert!(is_finite(f64::MAX) && !is_finite(f64::INFINITY) && !is_finite(f64::NAN));
+    assert_eq!(to_word(abs(-0.)), 0);
+    assert_eq!(max(f64::NAN, 1.), 1.);
+    assert_eq!(clamp(5., -1., 4.), 4.);
+    assert_eq!(to_word(exp(0.)), to_word(1.));
+    assert_eq!(to_word(log(1.)), 0);
+}
+
+#[test]
+fn matrices() {
+    let (inverse, det) = inverse_positive([[2., 0.], [0., 4.]]).unwrap();
+    assert_eq!(
+        inverse.map(|row| row.map(to_word)),
+        [[0.5, -0.], [-0., 0.25]].map(|row| row.map(to_word))
+    );
+    assert_eq!(det, 8.);
+    assert_eq!(inverse_positive([[1., 1.], [1., 1.]]), None);
+    assert_eq!(determinant([[1., 2.], [3., 4.]]), -2.);
+    assert_eq!(product([[1., 2.], [3., 4.]], [5., 6.]), [17., 39.]);
+    assert_eq!(dot([1., 2.], [3., 4.]), 11.);
+}
+
+#[test]
+fn rows() {
+    let terms = row_terms(3., 0., 1., 2., 1.).unwrap();
+    assert_eq!((terms.score, terms.information), (-4., 4.));
+    let terms = row_terms(4., 1., 2., 1., 0.).unwrap();
+    assert_eq!((terms.score, terms.information), (-0.5, 0.75));
+    assert_eq!(row_terms(1., 1., 0., 1., 0.), Err(Refusal(11)));
+    assert_eq!(row_terms(1., 0., f64::INFINITY, 1., 1.), Err(Refusal(11)));
+    assert_eq!(row_terms(1e200, 0., 0., 1., 1.), Err(Refusal(12)));
+
+    let mut sums = Sums::default();
+    add_row(3., 1., 0., 1., [2., 1.], &mut sums).unwrap();
+    assert_eq!(sums.score, [-4., -2.]);
+    assert_eq!(sums.information, [[4., 2.], [2., 1.]]);
+    let before = sums;
+    let refused = add_row(1., 0., 1., 0., [1., 1.], &mut sums);
+    assert_eq!(refused, Err(Refusal(11)));
+    assert_eq!(sums, before);
+}
