@@ -1,6 +1,6 @@
 -- A definition by cases, in the order of the code's own tests: `pick b x y` is x where the test b holds, and y elsewhere.
 -- It stays shut outside this file, so that a proof goes through nested ones by the laws below, a test at a time. Assumes nothing.
-use mathlib.Core.Path.{_≡_, sym, subst, _∙_}
+use mathlib.Core.Path.{_≡_, refl, sym, subst, _∙_}
 use mathlib.Core.Bool.{Bool, true, false}
 use lib.Dec.{T}
 
@@ -25,6 +25,12 @@ yesOf y e p q = yes y (sym e ∙ p) q
 
 pub noOf : {X : Type 0} {r b : Bool} {y z : X} (x : X) → r ≡ b → r ≡ false → z ≡ y → z ≡ pick b x y
 noOf x e p q = no x (sym e ∙ p) q
+
+-- a test that does not matter, since the answer is the same further on
+pub pass : {X : Type 0} {y z : X} (b : Bool) → z ≡ y → z ≡ pick b z y
+unfolding pick
+pass true p = refl
+pass false p = p
 
 -- what holds of both cases holds of the one picked
 pub both : {X : Type 0} (P : X → Type 0) (b : Bool) {x y : X} → P x → P y → P (pick b x y)

@@ -45,6 +45,7 @@ pub fn row_variance(observation: Observation, prediction: f64, f_eta: [f64; 2]) 
     RowVariance::Valid(variance)
 }
 
+// `variance` is the one that row_variance gave.
 pub fn scaled_row(observation: Observation, prediction: f64, f_eta: [f64; 2], variance: f64) -> Row2
     ensures { λ r. ⌜ r ≡ scaledRow observation prediction «f_eta» variance ⌝ }
 {

@@ -1,8 +1,8 @@
 -- `matrix::has_wild_entry` meets its contract. Assumes nothing.
 use mathlib.Core.Path.{refl}
-use Rattle.float64.specs.Pick.{yesOf, noOf}
+use Rattle.float64.specs.Pick.{pass, yesOf, noOf}
 use Rattle.matrix.specs.Matrix.{hasWildEntry}
-use Rattle.matrix.proofs.Laws.{at-0, at-1, free, pass}
+use Rattle.matrix.proofs.Laws.{at-0, at-1, free}
 use Rattle.matrix.proofs.has_wild_entry.Statement.{statement}
 use Rattle.matrix.proofs.has_wild_entry.Tie as tie
 

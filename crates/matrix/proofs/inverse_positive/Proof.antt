@@ -1,8 +1,8 @@
 -- `matrix::inverse_positive` meets its contract. Assumes nothing.
 use mathlib.Core.Path.{refl}
-use Rattle.float64.specs.Pick.{yes, no, yesOf, noOf}
+use Rattle.float64.specs.Pick.{pass, yes, no, yesOf, noOf}
 use Rattle.matrix.specs.Matrix.{answer, inversePositive}
-use Rattle.matrix.proofs.Laws.{at-0, at-1, free, pass}
+use Rattle.matrix.proofs.Laws.{at-0, at-1, free}
 use Rattle.matrix.proofs.inverse_positive.Statement.{statement}
 use Rattle.matrix.proofs.inverse_positive.Tie as tie
 

@@ -1,7 +1,7 @@
 -- `likelihood::population_focei::row_terms` meets its contract. Assumes nothing.
 use mathlib.Core.Path.{_≡_, refl}
-use Rattle.float64.specs.Pick.{yes, no, yesOf, noOf}
-use Rattle.matrix.proofs.Laws.{free, pass}
+use Rattle.float64.specs.Pick.{pass, yes, no, yesOf, noOf}
+use Rattle.matrix.proofs.Laws.{free}
 use Rattle.likelihood.specs.Answer.{Answer}
 use Rattle.likelihood.specs.Terms.{variance}
 use Rattle.likelihood.specs.declared.population_focei.RowTerms.{RowTerms}
