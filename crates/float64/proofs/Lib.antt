@@ -1,5 +1,10 @@
--- Laws: what this crate's own tests say. Order, Rounding, Monotone: what callers' proofs cite of the order of floats and of rounding.
+-- Laws: what this crate's own tests say. The others are what callers' proofs cite: the order of floats, rounding and how both keep it, values as whole
+-- numbers of the format's smallest, which results are numbers, the points of a bracket.
 pub mod Laws
 pub mod Order
 pub mod Rounding
 pub mod Monotone
+pub mod Units
+pub mod Numbers
+pub mod Bracket
+pub mod Bracket64

@@ -1,16 +1,17 @@
--- Sums of finite values, and products with a positive factor, keep the order. Assumes nothing.
-use mathlib.Core.Path.{_≡_, sym, ap, subst}
+-- Sums, differences and products with a positive factor keep the order, infinities included. A value of the format less something that is not
+-- negative is no larger. Assumes nothing.
+use mathlib.Core.Path.{_≡_, refl, sym, ap, subst}
 use Prim.Native.Nat.{ℕ, zero, suc, _+_, _*_, _≤_, _<_}
 use native.Mathlib.Nat.{mul-le-mul-right, mul-pos}
 use native.Mathlib.Omega.{arith}
 use mathlib.Core.Bool.{Bool, true, false, cond}
 use lib.IntN.{ℤ}
 use lib.Dec.{T, ltb}
-use lib.Ieee.{Float, nan, inf, fin, Format, up, down, le, add, mul, isNan}
+use lib.Ieee.{Float, nan, inf, fin, Format, up, down, le, neg, add, sub, mul, isNan, fits}
 use lib.Ieee.Positive.{den, den-pos, positive}
 use lib.Ieee.Scale.{finite}
-use Rattle.float64.proofs.Order.{plus, less, Cross, num?, LeBy, bottom, top, both, le→by, bottom-le, le-top, le-num-l}
-use Rattle.float64.proofs.Rounding.{Rounded, rounded-le, add-rounded, mul-rounded}
+use Rattle.float64.proofs.Order.{plus, less, Cross, le→cross, num?, LeBy, bottom, top, both, le→by, bottom-le, le-top, le-num-l, le-trans, le-refl-num, neg-anti, zero⁺}
+use Rattle.float64.proofs.Rounding.{Rounded, rounded-le, rounded-le-value, value-le-rounded, add-rounded, mul-rounded}
 
 pub rounded-num : (f : Format) (x : Float) (p u c : ℕ) → 0 < c → Rounded f x p u c → T (num? x)
 rounded-num f x p u c C i = le-num-l x x (rounded-le f x x p u c p u c C C i i (omega arith))
@@ -35,6 +36,72 @@ add-keeps f x x' y y' p p' q q' h k =
     rounded-le f (add f x y) (add f x' y') (plus x * den y + plus y * den x) (less x * den y + less y * den x) (den x * den y) (plus x' * den y' + plus y' * den x') (less x' * den y' + less y' * den x') (den x' * den y')
     (mul-pos (den-pos x) (den-pos y)) (mul-pos (den-pos x') (den-pos y')) (add-rounded f x y p q) (add-rounded f x' y' p' q')
     (sum-cross (plus x) (less x) (den x) (plus x') (less x') (den x') (plus y) (less y) (den y) (plus y') (less y') (den y') h k)
+
+inf-add : (f : Format) (s : Bool) (y : Float) → T (num? (add f (inf s) y)) → add f (inf s) y ≡ inf s
+unfolding add isNan
+inf-add f s nan h = absurd h
+inf-add f true (inf true) h = refl
+inf-add f true (inf false) h = absurd h
+inf-add f false (inf true) h = absurd h
+inf-add f false (inf false) h = refl
+inf-add f s (fin t n d) h = refl
+
+fin-add-inf : (f : Format) (s : Bool) (m : ℕ) (e : ℤ) (t : Bool) → add f (fin s m e) (inf t) ≡ inf t
+unfolding add
+fin-add-inf f s m e t = refl
+
+add-by : (f : Format) (x x' y y' : Float) → LeBy x x' → LeBy y y' → T (num? (add f x y)) → T (num? (add f x' y')) → T (le (add f x y) (add f x' y'))
+add-by f x x' y y' (bottom v h) k p q = subst (λ (z : Float). T (le z (add f v y'))) (sym (inf-add f true y p)) (bottom-le (add f v y') q)
+add-by f x x' y y' (top v h) k p q = subst (λ (z : Float). T (le (add f v y) z)) (sym (inf-add f false y' q)) (le-top (add f v y) p)
+add-by f x x' y y' (both s m e t n d h) (bottom v k) p q = subst (λ (z : Float). T (le z (add f (fin t n d) v))) (sym (fin-add-inf f s m e true)) (bottom-le (add f (fin t n d) v) q)
+add-by f x x' y y' (both s m e t n d h) (top v k) p q = subst (λ (z : Float). T (le (add f (fin s m e) v) z)) (sym (fin-add-inf f t n d false)) (le-top (add f (fin s m e) v) p)
+add-by f x x' y y' (both s m e t n d h) (both s' m' e' t' n' d' k) p q = add-keeps f (fin s m e) (fin t n d) (fin s' m' e') (fin t' n' d') tt tt tt tt h k
+
+pub add-mono : (f : Format) (x x' y y' : Float) → T (le x x') → T (le y y') → T (num? (add f x y)) → T (num? (add f x' y')) → T (le (add f x y) (add f x' y'))
+add-mono f x x' y y' h k p q = add-by f x x' y y' (le→by x x' h) (le→by y y' k) p q
+
+pub sub-mono : (f : Format) (x x' y y' : Float) → T (le x x') → T (le y' y) → T (num? (sub f x y)) → T (num? (sub f x' y')) → T (le (sub f x y) (sub f x' y'))
+unfolding sub
+sub-mono f x x' y y' h k p q = add-mono f x x' (neg y) (neg y') h (neg-anti y' y k) p q
+
+-- ---- x ≤ x + d for 0 ≤ d, and x + d ≤ x for d ≤ 0, where x is a value of the format
+grow : (p u a r w c : ℕ) → 0 * c + w * 1 ≤ r * 1 + 0 * c → p * (a * c) + (u * c + w * a) * a ≤ (p * c + r * a) * a + u * (a * c)
+grow p u a r w c h = omega (arith, mul-le-mul-right (a * a) h)
+
+shrink : (p u a r w c : ℕ) → r * 1 + 0 * c ≤ 0 * c + w * 1 → (p * c + r * a) * a + u * (a * c) ≤ p * (a * c) + (u * c + w * a) * a
+shrink p u a r w c h = omega (arith, mul-le-mul-right (a * a) h)
+
+pub add-ge : (f : Format) (x d : Float) → T (fits f x) → T (le zero⁺ d) → T (num? (add f x d)) → T (le x (add f x d))
+add-ge f nan d p h q = absurd (unfold add isNan in q)
+add-ge f (inf s) d p h q = subst (λ (z : Float). T (le (inf s) z)) (sym (inf-add f s d q)) (le-refl-num (inf s) (unfold isNan in tt))
+add-ge f (fin s m e) nan p h q = absurd (unfold le in h)
+add-ge f (fin s m e) (inf true) p h q = absurd (unfold le in h)
+add-ge f (fin s m e) (inf false) p h q = subst (λ (z : Float). T (le (fin s m e) z)) (sym (fin-add-inf f s m e false)) (le-top (fin s m e) (unfold isNan in tt))
+add-ge f (fin s m e) (fin t n d) p h q =
+    let x = fin s m e in
+    let y = fin t n d in
+    value-le-rounded f x (add f x y) (plus x * den y + plus y * den x) (less x * den y + less y * den x) (den x * den y) (mul-pos (den-pos x) (den-pos y)) (add-rounded f x y tt tt) p tt
+    (grow (plus x) (less x) (den x) (plus y) (less y) (den y) (le→cross zero⁺ y tt tt h))
+
+pub add-le : (f : Format) (x d : Float) → T (fits f x) → T (le d zero⁺) → T (num? (add f x d)) → T (le (add f x d) x)
+add-le f nan d p h q = absurd (unfold add isNan in q)
+add-le f (inf s) d p h q = subst (λ (z : Float). T (le z (inf s))) (sym (inf-add f s d q)) (le-refl-num (inf s) (unfold isNan in tt))
+add-le f (fin s m e) nan p h q = absurd (unfold le in h)
+add-le f (fin s m e) (inf false) p h q = absurd (unfold le in h)
+add-le f (fin s m e) (inf true) p h q = subst (λ (z : Float). T (le z (fin s m e))) (sym (fin-add-inf f s m e true)) (bottom-le (fin s m e) (unfold isNan in tt))
+add-le f (fin s m e) (fin t n d) p h q =
+    let x = fin s m e in
+    let y = fin t n d in
+    rounded-le-value f (add f x y) x (plus x * den y + plus y * den x) (less x * den y + less y * den x) (den x * den y) (mul-pos (den-pos x) (den-pos y)) (add-rounded f x y tt tt) p tt
+    (shrink (plus x) (less x) (den x) (plus y) (less y) (den y) (le→cross y zero⁺ tt tt h))
+
+neg-zero : T (le (neg zero⁺) zero⁺)
+unfolding neg le
+neg-zero = tt
+
+pub sub-le : (f : Format) (x d : Float) → T (fits f x) → T (le zero⁺ d) → T (num? (sub f x d)) → T (le (sub f x d) x)
+unfolding sub
+sub-le f x d p h q = add-le f x (neg d) p (le-trans (neg d) (neg zero⁺) zero⁺ (neg-anti zero⁺ d h) neg-zero) q
 
 -- ---- a product with a positive finite factor on the left
 mul-cross : (g c p u a q v b : ℕ) → p * b + v * a ≤ q * a + u * b → (g * p + 0 * u) * (c * b) + (g * v + 0 * q) * (c * a) ≤ (g * q + 0 * v) * (c * a) + (g * u + 0 * p) * (c * b)
@@ -76,3 +143,15 @@ mul-mono f nan x y p h = absurd p
 mul-mono f (inf s) x y p h = absurd p
 mul-mono f (fin true n d) x y p h = absurd p
 mul-mono f (fin false n d) x y p h = mul-by f n d x y p (le→by x y h)
+
+pub mul-nonneg : (f : Format) (k x : Float) → T (positive k) → T (le zero⁺ x) → T (le zero⁺ (mul f k x))
+mul-nonneg f nan x p h = absurd p
+mul-nonneg f (inf s) x p h = absurd p
+mul-nonneg f (fin true n d) x p h = absurd p
+mul-nonneg f (fin false n d) x p h =
+    let k = fin false n d in
+    le-trans zero⁺ (mul f k zero⁺) (mul f k x)
+    (value-le-rounded f zero⁺ (mul f k zero⁺) (plus k * plus zero⁺ + less k * less zero⁺) (plus k * less zero⁺ + less k * plus zero⁺) (den k * den zero⁺) (mul-pos (den-pos k) (den-pos zero⁺)) (mul-rounded f k zero⁺ tt tt) (unfold fits in tt) tt (omega arith))
+    (mul-mono f k zero⁺ x p h)
+
+-- ---- the accepted step of a descent: t ≤ c - k * d, with d above 0 or a NaN

@@ -1,7 +1,7 @@
 -- The order of all floats: `le` is transitive, total away from `nan`, `lt` is its strict part, and negation turns it round.
 -- A finite value x is the signed fraction (plus x - less x) / den x, where one of plus x and less x is 0, so that an order between
 -- two is one linear fact on natural numbers. Assumes nothing.
-use mathlib.Core.Path.{_≡_, refl}
+use mathlib.Core.Path.{_≡_, refl, sym, subst}
 use mathlib.Core.Logic.{_⊎_, inl, inr}
 use Prim.Native.Nat.{ℕ, _+_, _*_, _≤_, _<_}
 use native.Mathlib.Nat.{le-of-mul-le-mul-right, mul-le-mul-right, eq-or-lt-of-le}
@@ -13,6 +13,7 @@ use lib.Ieee.{Float, nan, inf, fin, up, down, below, level, lt, eq, le, neg, isN
 use lib.Ieee.Fits.{down-pos, and-l, and-r, and-i, eq→eqb}
 use lib.Ieee.Positive.{den}
 use lib.Ieee.Scale.{finite}
+use Rattle.float64.specs.Float64.{abs}
 
 -- ---- a signed number ±a as P s a - M s a
 abbrev pub P : Bool → ℕ → ℕ
@@ -219,6 +220,14 @@ trans-by x y z (both s m e t n d h) k = go z k
 pub le-trans : (x y z : Float) → T (le x y) → T (le y z) → T (le x z)
 le-trans x y z h k = by→le x z (trans-by x y z (le→by x y h) (le→by y z k))
 
+-- ---- reflexivity, totality, and `lt` as the strict part
+pub le-refl-num : (x : Float) → T (num? x) → T (le x x)
+unfolding isNan
+le-refl-num nan h = absurd h
+le-refl-num (inf true) h = bottom-le (inf true) (unfold isNan in tt)
+le-refl-num (inf false) h = le-top (inf false) (unfold isNan in tt)
+le-refl-num (fin s m e) h = cross→le (fin s m e) (fin s m e) tt tt (omega arith)
+
 pub lt→le : (x y : Float) → T (lt x y) → T (le x y)
 unfolding le
 lt→le x y h = or-l (lt x y) (eq x y) h
@@ -269,6 +278,12 @@ by-cases false = inr tt
 pub lt-or-ge : (x y : Float) → T (num? x) → T (num? y) → T (lt x y) ⊎ T (le y x)
 lt-or-ge x y p q = elim (by-cases (lt x y)) [ inl h ↦ inl h | inr h ↦ inr (total x y p q h) ]
 
+pub le-or-gt : (x y : Float) → T (num? x) → T (num? y) → T (le x y) ⊎ T (lt y x)
+le-or-gt x y p q = elim (by-cases (lt y x)) [ inl h ↦ inr h | inr h ↦ inl (total y x q p h) ]
+
+pub lt-le-trans : (x y z : Float) → T (lt x y) → T (le y z) → T (lt x z)
+lt-le-trans x y z h k = elim (lt-or-ge x z (le-num-l x y (lt→le x y h)) (le-num-r y z k)) [ inl g ↦ g | inr g ↦ absurd (le-not-lt y x (le-trans y z x k g) h) ]
+
 pub le-lt-trans : (x y z : Float) → T (le x y) → T (lt y z) → T (lt x z)
 le-lt-trans x y z h k = elim (lt-or-ge x z (le-num-l x y h) (le-num-r y z (lt→le y z k))) [ inl g ↦ g | inr g ↦ absurd (le-not-lt z y (le-trans z x y g h) k) ]
 
@@ -287,6 +302,24 @@ flip-M : (s : Bool) (a : ℕ) → M (not s) a ≡ P s a
 flip-M true a = refl
 flip-M false a = refl
 
+pub neg-plus : (x : Float) → plus (neg x) ≡ less x
+unfolding neg
+neg-plus nan = refl
+neg-plus (inf s) = refl
+neg-plus (fin s m e) = flip-P s (m * up e)
+
+pub neg-less : (x : Float) → less (neg x) ≡ plus x
+unfolding neg
+neg-less nan = refl
+neg-less (inf s) = refl
+neg-less (fin s m e) = flip-M s (m * up e)
+
+pub neg-den : (x : Float) → den (neg x) ≡ den x
+unfolding neg
+neg-den nan = refl
+neg-den (inf s) = refl
+neg-den (fin s m e) = refl
+
 neg-by : (x y : Float) → LeBy x y → T (le (neg y) (neg x))
 unfolding neg
 neg-by x y (bottom v h) = le-top (neg v) (neg-num v h)
@@ -299,6 +332,28 @@ neg-by x y (both s m e t n d h) =
 
 pub neg-anti : (x y : Float) → T (le x y) → T (le (neg y) (neg x))
 neg-anti x y h = neg-by x y (le→by x y h)
+
+pub neg-neg : (x : Float) → neg (neg x) ≡ x
+unfolding neg
+neg-neg nan = refl
+neg-neg (inf true) = refl
+neg-neg (inf false) = refl
+neg-neg (fin true m e) = refl
+neg-neg (fin false m e) = refl
+
+-- ---- the absolute value: the sign cleared
+abbrev pub zero⁺ : Float
+zero⁺ = fin false 0 (lib.IntN.pos 0)
+
+pub abs-num : (x : Float) → T (num? x) → T (num? (abs x))
+unfolding isNan abs
+abs-num nan h = absurd h
+abs-num (inf s) h = tt
+abs-num (fin s m e) h = tt
+
+-- ---- a comparison that came out true, as a test of the code leaves it
+pub of-true : (b : Bool) → b ≡ true → T b
+of-true b e = subst (λ (z : Bool). T z) (sym e) tt
 
 -- ---- what lies between two finite values is finite
 top-not-under : (hi : Float) → T (finite hi) → T (le (inf false) hi) → ⊥

@@ -1,14 +1,16 @@
--- `round` keeps the order of signed fractions, and the sign goes through it. A sum and a product are each a signed fraction, rounded. Assumes nothing.
+-- `round` keeps the order of signed fractions, the sign goes through it, and a value of the format stays as it is. A sum and a product are each a signed
+-- fraction, rounded. Assumes nothing.
 use mathlib.Core.Path.{_≡_, refl, sym, ap, _∙_, subst}
-use Prim.Native.Nat.{ℕ, zero, suc, _+_, _-_, _*_, _^_, _≤_, _<_, zero-le}
-use native.Mathlib.Nat.{le-of-mul-le-mul-right, mul-le-mul-right}
+use Prim.Native.Nat.{ℕ, zero, suc, _+_, _-_, _*_, _%_, _^_, _≤_, _<_, zero-le}
+use native.Mathlib.Nat.{le-of-mul-le-mul-right, mul-le-mul-right, mul-lt-mul-of-pos-right, mul-comm, mul-assoc, mul-one, lt-of-lt-of-le, le-of-eq, add-sub-of-le}
 use native.Mathlib.Nat as N
 use native.Mathlib.Omega.{arith}
-use mathlib.Core.Bool.{Bool, true, false, not, cond}
-use lib.Dec.{T, ltb, ltb→lt, nltb→le}
-use lib.Pow.{pow-pos}
-use lib.Ieee.{Float, nan, inf, fin, Format, prec, emax, low, up, down, odd, units, round, le, neg, sum, add, mul}
-use lib.Ieee.Fits.{round-is}
+use mathlib.Core.Bool.{Bool, true, false, not, _&&_, cond}
+use lib.IntN.{ℤ, pos, negsuc}
+use lib.Dec.{T, leb, ltb, eqb, leb→le, ltb→lt, nltb→le}
+use lib.Pow.{pow-add, pow-pos}
+use lib.Ieee.{Float, nan, inf, fin, Format, prec, emax, low, up, down, size, odd, units, round, le, neg, sum, add, mul, fits}
+use lib.Ieee.Fits.{down-pos, and-l, and-r, round-is}
 use lib.Ieee.Exact.{HasValue, round-exact}
 use lib.Ieee.Order.{drop, kept, round-mono}
 use lib.Ieee.Positive.{den}
@@ -106,7 +108,7 @@ round-keeps f true a c false b d C D h =
 round-keeps f true a c true b d C D h =
     subst (λ (z : Float). T (le z (round f true b d))) (sym (round-neg f a c)) (subst (λ (z : Float). T (le (neg (round f false a c)) z)) (sym (round-neg f b d)) (neg-anti (round f false b d) (round f false a c) (round-mono f b d a c D C (omega arith))))
 
--- ---- x is (p - u) / c, rounded
+-- ---- `Is f x p u c`: x is (p - u) / c, rounded
 pub record Rounded (f : Format) (x : Float) (p u c : ℕ) : Type 0 where
   pub sign : Bool
   pub size : ℕ
@@ -122,6 +124,66 @@ rounded-le f x y p u c q v d C D i j h =
     (subst (λ (z : Float). T (le (round f (i .sign) (i .size) c) z)) (sym (j .made))
     (round-keeps f (i .sign) (i .size) c (j .sign) (j .size) d C D
     (rounded-cross (P (i .sign) (i .size)) (M (i .sign) (i .size)) p u c (P (j .sign) (j .size)) (M (j .sign) (j .size)) q v d (i .value) (j .value) h)))
+
+-- ---- a value of the format, rounded, is itself
+pow-back : (i j : ℕ) → 2 ^ i ≤ 2 ^ j → i ≤ j
+pow-back i j h = go (leb i j) (leb→le i j) (lib.Dec.nleb→lt i j)
+  where
+    go : (b : Bool) → (T b → i ≤ j) → (T (not b) → j < i) → i ≤ j
+    go true a b = a tt
+    go false a b = absurd (N.not-le-of-lt (lib.Pow.pow-lt (b tt)) h)
+
+own-pos : (f : Format) (s : Bool) (m k : ℕ) → m < 2 ^ prec f → m * 2 ^ k < 2 ^ suc (emax f) * 1 → HasValue (round f s (m * 2 ^ k) 1) s (m * 2 ^ k) 1
+own-pos f s m k a b =
+    let l = low f in
+    let e : m * 2 ^ (k + l) ≡ m * 2 ^ k * 2 ^ l = ap (λ (z : ℕ). m * z) (pow-add 2 k l) ∙ sym (mul-assoc m (2 ^ k) (2 ^ l)) in
+    round-exact f s (m * 2 ^ k) 1 m (k + l) (pow-pos 0) a
+    (subst (λ (z : ℕ). z < 2 ^ (l + suc (emax f))) (sym e) (lt-of-lt-of-le (mul-lt-mul-of-pos-right b (pow-pos l)) (le-of-eq (ap (λ (z : ℕ). z * 2 ^ l) (mul-one (2 ^ suc (emax f))) ∙ mul-comm (2 ^ suc (emax f)) (2 ^ l) ∙ sym (pow-add 2 l (suc (emax f)))))))
+    (sym (mul-one (m * 2 ^ (k + l)) ∙ e))
+
+own-neg : (f : Format) (s : Bool) (m k : ℕ) → m < 2 ^ prec f → 2 ^ suc k ≤ 2 ^ low f → m * 1 < 2 ^ suc (emax f) * 2 ^ suc k → HasValue (round f s (m * 1) (2 ^ suc k)) s (m * 1) (2 ^ suc k)
+own-neg f s m k a g b =
+    let l = low f in
+    let j = l - suc k in
+    let e : 2 ^ suc k * 2 ^ j ≡ 2 ^ l = sym (pow-add 2 (suc k) j) ∙ ap (λ (z : ℕ). 2 ^ z) (add-sub-of-le (pow-back (suc k) l g)) in
+    round-exact f s (m * 1) (2 ^ suc k) m j (pow-pos (suc k)) a
+    (lt-of-lt-of-le (subst (λ (z : ℕ). z * 2 ^ j < 2 ^ suc (emax f) * 2 ^ suc k * 2 ^ j) (mul-one m) (mul-lt-mul-of-pos-right b (pow-pos j)))
+    (le-of-eq (mul-assoc (2 ^ suc (emax f)) (2 ^ suc k) (2 ^ j) ∙ ap (λ (z : ℕ). 2 ^ suc (emax f) * z) e ∙ mul-comm (2 ^ suc (emax f)) (2 ^ l) ∙ sym (pow-add 2 l (suc (emax f))))))
+    (ap (λ (z : ℕ). z * 2 ^ l) (mul-one m) ∙ ap (λ (z : ℕ). m * z) (sym e) ∙ ap (λ (z : ℕ). m * z) (mul-comm (2 ^ suc k) (2 ^ j)) ∙ sym (mul-assoc m (2 ^ j) (2 ^ suc k)))
+
+pub round-own : (f : Format) (s : Bool) (m : ℕ) (e : ℤ) → T (fits f (fin s m e)) → HasValue (round f s (m * up e) (down e)) s (m * up e) (down e)
+unfolding fits
+round-own f s zero e h = subst (λ (z : ℕ). HasValue (round f s z (down e)) s z (down e)) (sym (N.zero-mul (up e))) (round-zero f s (down e) (down-pos e))
+round-own f s (suc m) (pos k) h =
+    let a : Bool = eqb (suc m % 2) 1 in
+    let b : Bool = ltb (suc m) (2 ^ prec f) in
+    let c : Bool = leb 1 (2 ^ low f) in
+    let d : Bool = ltb (suc m * 2 ^ k) (2 ^ suc (emax f) * 1) in
+    own-pos f s (suc m) k (ltb→lt (suc m) (2 ^ prec f) (and-r a b (and-l (a && b) c (and-l (a && b && c) d h)))) (ltb→lt (suc m * 2 ^ k) (2 ^ suc (emax f) * 1) (and-r (a && b && c) d h))
+round-own f s (suc m) (negsuc k) h =
+    let a : Bool = eqb (suc m % 2) 1 in
+    let b : Bool = ltb (suc m) (2 ^ prec f) in
+    let c : Bool = leb (2 ^ suc k) (2 ^ low f) in
+    let d : Bool = ltb (suc m * 1) (2 ^ suc (emax f) * 2 ^ suc k) in
+    own-neg f s (suc m) k (ltb→lt (suc m) (2 ^ prec f) (and-r a b (and-l (a && b) c (and-l (a && b && c) d h)))) (leb→le (2 ^ suc k) (2 ^ low f) (and-r (a && b) c (and-l (a && b && c) d h))) (ltb→lt (suc m * 1) (2 ^ suc (emax f) * 2 ^ suc k) (and-r (a && b && c) d h))
+
+pub rounded-le-value : (f : Format) (x y : Float) (p u c : ℕ) → 0 < c → Rounded f x p u c → T (fits f y) → T (finite y) → p * den y + less y * c ≤ plus y * c + u * den y → T (le x y)
+rounded-le-value f x nan p u c C i h fy k = absurd fy
+rounded-le-value f x (inf t) p u c C i h fy k = absurd fy
+rounded-le-value f x (fin t n d) p u c C i h fy k =
+    let r = round f t (n * up d) (down d) in
+    le-trans x r (fin t n d)
+    (rounded-le f x r p u c (P t (n * up d)) (M t (n * up d)) (down d) C (down-pos d) i (record { sign = t; size = n * up d; made = refl; value = refl }) k)
+    (le-of-signed r (fin t n d) t (n * up d) (down d) t (n * up d) (down d) (down-pos d) (down-pos d) (round-own f t n d h) (refl, refl) (omega arith))
+
+pub value-le-rounded : (f : Format) (y x : Float) (p u c : ℕ) → 0 < c → Rounded f x p u c → T (fits f y) → T (finite y) → plus y * c + u * den y ≤ p * den y + less y * c → T (le y x)
+value-le-rounded f nan x p u c C i h fy k = absurd fy
+value-le-rounded f (inf t) x p u c C i h fy k = absurd fy
+value-le-rounded f (fin t n d) x p u c C i h fy k =
+    let r = round f t (n * up d) (down d) in
+    le-trans (fin t n d) r x
+    (le-of-signed (fin t n d) r t (n * up d) (down d) t (n * up d) (down d) (down-pos d) (down-pos d) (refl, refl) (round-own f t n d h) (omega arith))
+    (rounded-le f r x (P t (n * up d)) (M t (n * up d)) (down d) p u c (down-pos d) C (record { sign = t; size = n * up d; made = refl; value = refl }) i k)
 
 -- ---- a sum, and a product
 sum-rounded : (f : Format) (s : Bool) (a : ℕ) (t : Bool) (b c : ℕ) → Rounded f (sum f s a t b c) (P s a + P t b) (M s a + M t b) c

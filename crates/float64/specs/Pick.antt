@@ -37,3 +37,19 @@ pub both : {X : Type 0} (P : X → Type 0) (b : Bool) {x y : X} → P x → P y 
 unfolding pick
 both P true p q = p
 both P false p q = q
+
+-- and so where each case may use its own test
+pub cases : {X : Type 0} (P : X → Type 0) (b : Bool) {x y : X} → (b ≡ true → P x) → (b ≡ false → P y) → P (pick b x y)
+unfolding pick
+cases P true p q = p refl
+cases P false p q = q refl
+
+-- ---- the laws as equations of the pick itself
+pub pick-yes : {X : Type 0} (b : Bool) (x y : X) → b ≡ true → pick b x y ≡ x
+pick-yes b x y e = sym (yes y e refl)
+
+pub pick-no : {X : Type 0} (b : Bool) (x y : X) → b ≡ false → pick b x y ≡ y
+pick-no b x y e = sym (no x e refl)
+
+pub pick-same : {X : Type 0} (b : Bool) (x y : X) → y ≡ x → pick b x y ≡ x
+pick-same b x y e = sym (pass b (sym e))

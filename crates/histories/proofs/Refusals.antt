@@ -1,0 +1,240 @@
+-- What 13 and 14 say of the history: the whole grid was asked, and nothing more. Assumes nothing.
+use mathlib.Core.Path.{_≡_, refl, sym, ap, _∙_, subst}
+use mathlib.Core.Logic.{_⊎_, inl, inr}
+use mathlib.Core.Bool.{Bool, true, false, not, true≢false}
+use mathlib.Core.List.{List, [], _∷_}
+use Prim.Native.Nat.{ℕ, zero, suc, _+_, _≤_, _<_}
+use native.Mathlib.Omega.{arith}
+use lib.Dec.{T, T-not, ltb, eqb, lit<, lit≤}
+use lib.Ieee.{Float, ofBits, lt, le}
+use borrow.Author.Tests.{lt-ltb, le-ltb}
+use Rattle.float64.specs.Pick.{pick, both, pick-yes, pick-no}
+use Rattle.mode.specs.declared.population_focei.Settings.{Settings}
+use Rattle.mode.specs.declared.population_focei.Conditional.{Conditional}
+use Rattle.mode.specs.declared.population_focei.Stage.{Stage}
+use Rattle.mode.specs.declared.population_focei.Stage.the-variants.{Grid, Warm, Secant, Halving}
+use Rattle.mode.specs.declared.population_focei.Search.{Search}
+use Rattle.mode.specs.declared.population_focei.Request.{Request}
+use Rattle.mode.specs.declared.population_focei.Request.the-variants.{Point, Mode, Refused}
+use Rattle.mode.specs.Rules.{nought, nowhere, requestAt, request, advanceAt, advance, screened, fell, firstScore, firstStage, entered, chosen, tried, start, gridPoint, isAbove, isUnder}
+use Rattle.histories.specs.History.{FollowsFrom, Follows, afterFrom, after, etas, gridFrom}
+use Rattle.histories.specs.Claim.{firstOf, lastFrom, fallsFrom, AtBound, Several}
+use Rattle.histories.proofs.Screen.{next, grid-asked, keeps-first}
+
+-- ---- 13 or 14
+abbrev isScreen : Request → Bool
+isScreen (Point p) = false
+isScreen Mode = false
+isScreen (Refused n) = not (eqb n 15)
+
+-- once past the grid, neither is told
+abbrev pastGrid : Stage → Bool
+pastGrid Grid = false
+pastGrid Warm = true
+pastGrid Secant = true
+pastGrid Halving = true
+
+past-no-screen : (st : Stage) (s : Settings) (x : Search) → T (pastGrid st) → T (not (isScreen (requestAt st s x)))
+unfolding requestAt
+past-no-screen Grid s x p = absurd p
+past-no-screen Warm s x p = tt
+past-no-screen Secant s x p = both (λ (q : Request). T (not (isScreen q))) _ tt tt
+past-no-screen Halving s x p = both (λ (q : Request). T (not (isScreen q))) _ tt (both (λ (q : Request). T (not (isScreen q))) _ tt tt)
+
+past-stays : (st : Stage) (s : Settings) (x : Search) (c : Conditional) → st ≡ x .stage → T (pastGrid st) → T (pastGrid (advanceAt st s x c .stage))
+unfolding advanceAt tried
+past-stays Grid s x c e p = absurd p
+past-stays Warm s x c e p = tt
+past-stays Secant s x c e p = both (λ (y : Search). T (pastGrid (y .stage))) _ tt tt
+past-stays Halving s x c e p = both (λ (y : Search). T (pastGrid (y .stage))) _ tt (subst (λ (t : Stage). T (pastGrid t)) e tt)
+
+past : (s : Settings) (h : List Conditional) (x : Search) → T (pastGrid (x .stage)) → T (isScreen (request s (afterFrom s x h))) → ⊥
+unfolding afterFrom
+past s [] x p q = T-not (isScreen (request s x)) (past-no-screen (x .stage) s x p) q
+past s (c ∷ h) x p q = past s h (advance s x c) (past-stays (x .stage) s x c refl p) q
+
+entered-past : (s : Settings) (y : Search) → T (pastGrid (entered s y .stage))
+unfolding entered firstStage
+entered-past s y = both (λ (t : Stage). T (pastGrid t)) _ (both (λ (t : Stage). T (pastGrid t)) _ tt tt) tt
+
+-- ---- why a search with all 17 points stays on the grid
+Why : Search → Type 0
+Why y = (le nought (y .first) ≡ true) ⊎ (isUnder (y .latest) ≡ true) ⊎ (y .fall ≡ true)
+
+chosen-cases : (s : Settings) (y : Search) → ((chosen s y ≡ y) × (17 ≤ y .count → Why y)) ⊎ (chosen s y ≡ entered s y)
+unfolding chosen Why pick
+chosen-cases s y = go (ltb (y .count) 17) (le nought (y .first)) (isUnder (y .latest)) (y .fall) refl refl refl refl
+  where
+    full : (i : ℕ) → 17 ≤ i → ltb i 17 ≡ true → ⊥
+    full i h e = true≢false (sym e ∙ le-ltb i 17 h)
+
+    go : (a b c d : Bool) → ltb (y .count) 17 ≡ a → le nought (y .first) ≡ b → isUnder (y .latest) ≡ c → y .fall ≡ d →
+        ((pick a y (pick b y (pick c y (pick d y (entered s y)))) ≡ y) × (17 ≤ y .count → (le nought (y .first) ≡ true) ⊎ (isUnder (y .latest) ≡ true) ⊎ (y .fall ≡ true)))
+        ⊎ (pick a y (pick b y (pick c y (pick d y (entered s y)))) ≡ entered s y)
+    go true b c d p q r t = inl (refl, λ h. absurd (full (y .count) h p))
+    go false true c d p q r t = inl (refl, λ h. inl q)
+    go false false true d p q r t = inl (refl, λ h. inr (inl r))
+    go false false false true p q r t = inl (refl, λ h. inr (inr t))
+    go false false false false p q r t = inr refl
+
+-- ---- the rest of the grid, from a search x that has some points of it: n more points, to y
+record Run (s : Settings) (n : ℕ) (x : Search) (h : List Conditional) (y : Search) : Type 0 where
+  pub grid : etas h ≡ gridFrom (s .«eta_bound») n (x .count)
+  pub stage : y .stage ≡ Grid
+  pub full : 17 ≤ y .count
+  pub first : y .first ≡ x .first
+  pub latest : y .latest ≡ lastFrom (x .latest) h
+  pub fall : y .fall ≡ pick (fallsFrom (x .latest) h) true (x .fall)
+  pub why : Why y
+
+fall-step : (a u f g : Bool) → pick f true (pick a (pick u true g) g) ≡ pick (pick a (pick u true f) f) true g
+unfolding pick
+fall-step true true true g = refl
+fall-step true true false g = refl
+fall-step true false true g = refl
+fall-step true false false g = refl
+fall-step false u true g = refl
+fall-step false u false g = refl
+
+run-step : (s : Settings) (n : ℕ) (x : Search) (c : Conditional) (h : List Conditional) (y : Search) → 1 ≤ x .count → c .eta ≡ gridPoint (s .«eta_bound») (x .count) → Run s n (screened x c) h y → Run s (suc n) x (c ∷ h) y
+unfolding etas gridFrom lastFrom fallsFrom screened fell
+run-step s n x c h y k e r =
+    record {
+      grid = ap (λ (v : Float). v ∷ etas h) e ∙ ap (λ (l : List Float). gridPoint (s .«eta_bound») (x .count) ∷ l) (r .grid);
+      stage = r .stage;
+      full = r .full;
+      first = r .first ∙ keeps-first x c k;
+      latest = r .latest;
+      fall = r .fall ∙ fall-step (isAbove (x .latest)) (isUnder c) (fallsFrom c h) (x .fall);
+      why = r .why;
+    }
+
+grid-not-screen : (s : Settings) (x : Search) → x .stage ≡ Grid → x .count < 17 → T (isScreen (request s x)) → ⊥
+unfolding requestAt
+grid-not-screen s x e k q =
+    subst (λ (r : Request). T (isScreen r)) (ap (λ (t : Stage). requestAt t s x) e ∙ pick-yes (ltb (x .count) 17) _ _ (lt-ltb (x .count) 17 k)) q
+
+run : (s : Settings) (n : ℕ) (h : List Conditional) (x : Search) → x .stage ≡ Grid → 1 ≤ x .count → x .count + n ≡ 17 → (17 ≤ x .count → Why x) → FollowsFrom s x h → T (isScreen (request s (afterFrom s x h))) → Run s n x h (afterFrom s x h)
+unfolding FollowsFrom afterFrom etas gridFrom lastFrom fallsFrom pick
+run s zero [] x e k i w f q = record { grid = refl; stage = e; full = omega arith; first = refl; latest = refl; fall = refl; why = w (omega arith) }
+run s zero (c ∷ h) x e k i w f q = let j = grid-asked s x c e (f .0) .0 in absurd (omega arith)
+run s (suc n) [] x e k i w f q = absurd (grid-not-screen s x e (omega arith) q)
+run s (suc n) (c ∷ h) x e k i w f q =
+    let a = grid-asked s x c e (f .0) in
+    let y = screened x c in
+    elim (chosen-cases s y) [
+      | inl p ↦
+          let g : advance s x c ≡ y = next s x c e (a .0) ∙ p .0 in
+          let r : Run s n y h (afterFrom s y h) = run s n h y (on x c) (more x c) (count x c n i) (p .1) (subst (λ (v : Search). FollowsFrom s v h) g (f .1)) (subst (λ (v : Search). T (isScreen (request s (afterFrom s v h)))) g q) in
+          run-step s n x c h (afterFrom s (advance s x c) h) k (a .1) (subst (λ (v : Search). Run s n y h (afterFrom s v h)) (sym g) r)
+      | inr p ↦
+          let g : advance s x c ≡ entered s y = next s x c e (a .0) ∙ p in
+          absurd (past s h (advance s x c) (subst (λ (v : Search). T (pastGrid (v .stage))) (sym g) (entered-past s y)) q)
+    ]
+  where
+    on : (x : Search) (c : Conditional) → screened x c .stage ≡ Grid
+    on x c = unfold screened in refl
+
+    more : (x : Search) (c : Conditional) → 1 ≤ screened x c .count
+    more x c = unfold screened in omega arith
+
+    count : (x : Search) (c : Conditional) (n : ℕ) → x .count + suc n ≡ 17 → screened x c .count + n ≡ 17
+    count x c n i = unfold screened in omega arith
+
+-- ---- the whole grid
+record Whole (s : Settings) (h : List Conditional) (y : Search) : Type 0 where
+  pub grid : etas h ≡ gridFrom (s .«eta_bound») 17 0
+  pub stage : y .stage ≡ Grid
+  pub full : 17 ≤ y .count
+  pub first : y .first ≡ firstOf h
+  pub latest : y .latest ≡ lastFrom nowhere h
+  pub fall : y .fall ≡ fallsFrom nowhere h
+  pub why : Why y
+
+pick-true : (b : Bool) → pick b true false ≡ b
+unfolding pick
+pick-true true = refl
+pick-true false = refl
+
+whole-of : (s : Settings) (c : Conditional) (h : List Conditional) (y : Search) → c .eta ≡ gridPoint (s .«eta_bound») 0 → Run s 16 (screened start c) h y → Whole s (c ∷ h) y
+unfolding etas gridFrom firstOf lastFrom fallsFrom screened fell firstScore start isAbove pick ofBits lt
+whole-of s c h y e r =
+    record {
+      grid = ap (λ (v : Float). v ∷ etas h) e ∙ ap (λ (l : List Float). gridPoint (s .«eta_bound») 0 ∷ l) (r .grid);
+      stage = r .stage;
+      full = r .full;
+      first = r .first;
+      latest = r .latest;
+      fall = r .fall ∙ pick-true (fallsFrom c h);
+      why = r .why;
+    }
+
+whole : (s : Settings) (h : List Conditional) → Follows s h → T (isScreen (request s (after s h))) → Whole s h (after s h)
+unfolding FollowsFrom afterFrom
+whole s [] f q = absurd (grid-not-screen s start (unfold start in refl) (unfold start in lit< tt) q)
+whole s (c ∷ h) f q =
+    let e : start .stage ≡ Grid = unfold start in refl in
+    let a = grid-asked s start c e (f .0) in
+    let y = screened start c in
+    elim (chosen-cases s y) [
+      | inl p ↦
+          let g : advance s start c ≡ y = next s start c e (a .0) ∙ p .0 in
+          let r : Run s 16 y h (afterFrom s y h) = run s 16 h y (unfold screened in refl) (unfold screened start in lit≤ tt) (unfold screened start in refl) (p .1) (subst (λ (v : Search). FollowsFrom s v h) g (f .1)) (subst (λ (v : Search). T (isScreen (request s (afterFrom s v h)))) g q) in
+          whole-of s c h (afterFrom s (advance s start c) h) (a .1 ∙ (unfold start in refl)) (subst (λ (v : Search). Run s 16 y h (afterFrom s v h)) (sym g) r)
+      | inr p ↦
+          let g : advance s start c ≡ entered s y = next s start c e (a .0) ∙ p in
+          absurd (past s h (advance s start c) (subst (λ (v : Search). T (pastGrid (v .stage))) (sym g) (entered-past s y)) q)
+    ]
+
+-- ---- what is told at its end
+told : (s : Settings) (y : Search) (r : Request) → y .stage ≡ Grid → 17 ≤ y .count → request s y ≡ r → pick (le nought (y .first)) (Refused 13) (pick (isUnder (y .latest)) (Refused 13) (Refused 14)) ≡ r
+unfolding requestAt
+told s y r e k q = sym (ap (λ (t : Stage). requestAt t s y) e ∙ pick-no (ltb (y .count) 17) _ _ (le-ltb (y .count) 17 k)) ∙ q
+
+numberOf : Request → ℕ
+numberOf (Point p) = 0
+numberOf Mode = 0
+numberOf (Refused n) = n
+
+apart : {X : Type 0} → Refused 13 ≡ Refused 14 → X
+unfolding numberOf
+apart e = let n : _≡_ {A = ℕ} 13 14 = ap numberOf e in absurd (omega arith)
+
+by-13 : (a b : Bool) → pick a (Refused 13) (pick b (Refused 13) (Refused 14)) ≡ Refused 13 → T a ⊎ T b
+unfolding pick
+by-13 true b e = inl tt
+by-13 false true e = inr tt
+by-13 false false e = apart (sym e)
+
+by-14 : (a b : Bool) → pick a (Refused 13) (pick b (Refused 13) (Refused 14)) ≡ Refused 14 → T (not a) × T (not b)
+unfolding pick
+by-14 true b e = apart e
+by-14 false true e = apart e
+by-14 false false e = (tt, tt)
+
+screen : (q : Request) (n : ℕ) → T (not (eqb n 15)) → q ≡ Refused n → T (isScreen q)
+screen q n k e = subst (λ (r : Request). T (isScreen r)) (sym e) k
+
+pub at-bound : (s : Settings) (h : List Conditional) → Follows s h → request s (after s h) ≡ Refused 13 → AtBound s h
+at-bound s h f e =
+    let w = whole s h f (screen (request s (after s h)) 13 tt e) in
+    let t = by-13 _ _ (told s (after s h) (Refused 13) (w .stage) (w .full) e) in
+    record {
+      isGrid = w .grid;
+      ends = elim t [ inl p ↦ inl (subst (λ (v : Float). T (le nought v)) (w .first) p) | inr p ↦ inr (subst (λ (v : Conditional). T (isUnder v)) (w .latest) p) ];
+    }
+
+pub several : (s : Settings) (h : List Conditional) → Follows s h → request s (after s h) ≡ Refused 14 → Several s h
+unfolding Why
+several s h f e =
+    let w = whole s h f (screen (request s (after s h)) 14 tt e) in
+    let t = by-14 _ _ (told s (after s h) (Refused 14) (w .stage) (w .full) e) in
+    record {
+      isGrid = w .grid;
+      firstBelow = subst (λ (v : Float). T (not (le nought v))) (w .first) (t .0);
+      lastAbove = subst (λ (v : Conditional). T (not (isUnder v))) (w .latest) (t .1);
+      fall = elim (w .why) [
+        | inl p ↦ absurd (T-not (le nought (after s h .first)) (t .0) (subst T (sym p) tt))
+        | inr p ↦ elim p [ inl q ↦ absurd (T-not (isUnder (after s h .latest)) (t .1) (subst T (sym q) tt)) | inr q ↦ subst T (sym q ∙ w .fall) tt ]
+      ];
+    }
