@@ -5,8 +5,8 @@ use lib.Ieee.Scale.{finite}
 use Rattle.float64.specs.Pick.{pick}
 
 -- a NaN or an infinity
-abbrev pub wild : Float → Bool
-wild x = not (finite x)
+abbrev pub nonfinite : Float → Bool
+nonfinite x = not (finite x)
 
 -- the sign cleared
 unfoldable pub abs : Float → Float

@@ -3,7 +3,7 @@
 ghost use mathlib.Core.Path.{_≡_};
 ghost use lib.Ieee.{binary64, ofBits, toBits};
 ghost use lib.Ieee.Scale.{finite};
-ghost use Rattle.float64.specs.Float64.{abs, max, clamp, wild};
+ghost use Rattle.float64.specs.Float64.{abs, max, clamp, nonfinite};
 
 // The float that a word stands for. Every NaN pattern gives a NaN.
 pub fn from_word(word: u64) -> f64
@@ -38,8 +38,8 @@ pub fn is_finite(x: f64) -> bool
 }
 
 // A NaN or an infinity: the negated test that the sources write as `!x.is_finite()`.
-pub fn is_wild(x: f64) -> bool
-    ensures { λ r. ⌜ r ≡ wild x ⌝ }
+pub fn is_nonfinite(x: f64) -> bool
+    ensures { λ r. ⌜ r ≡ nonfinite x ⌝ }
 {
     if is_finite(x) {
         return false;

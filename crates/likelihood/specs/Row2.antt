@@ -3,7 +3,7 @@ use mathlib.Core.List.{List}
 use Prim.Native.Nat.{ℕ}
 use lib.Ieee.{Float, le}
 use Rattle.float64.specs.Arithmetic.{_+ᶠ_, word}
-use Rattle.float64.specs.Float64.{wild}
+use Rattle.float64.specs.Float64.{nonfinite}
 use Rattle.float64.specs.Pick.{pick}
 use Rattle.matrix.specs.Matrix.{pair, at, entry}
 use Rattle.likelihood.specs.Answer.{Answer, given, refused}
@@ -22,11 +22,11 @@ answer Invalid = refused 11
 unfoldable pub rowVariance : Observation → Float → List Float → Answer Float
 rowVariance observation prediction f-eta =
     let R = variance (observation .additive) (observation .proportional) prediction in
-    pick (wild R) (refused 11)
+    pick (nonfinite R) (refused 11)
     (pick (le R (word 0)) (refused 11)
-    (pick (wild prediction) (refused 11)
-    (pick (wild (at f-eta 0)) (refused 11)
-    (pick (wild (at f-eta 1)) (refused 11)
+    (pick (nonfinite prediction) (refused 11)
+    (pick (nonfinite (at f-eta 0)) (refused 11)
+    (pick (nonfinite (at f-eta 1)) (refused 11)
     (given R)))))
 
 unfoldable pub scaledRow : Observation → Float → List Float → Float → Row2

@@ -1,7 +1,7 @@
 -- row_terms of population_focei.rs.
 use lib.Ieee.{Float, le}
 use Rattle.float64.specs.Arithmetic.{word}
-use Rattle.float64.specs.Float64.{wild}
+use Rattle.float64.specs.Float64.{nonfinite}
 use Rattle.float64.specs.Pick.{pick}
 use Rattle.likelihood.specs.Answer.{Answer, given, refused}
 use Rattle.likelihood.specs.Terms.{residual, variance, scaledByEta, zSquared, nllTerm, scoreTerm, informationTerm}
@@ -31,16 +31,16 @@ termsAt R observation prediction f-eta =
 -- document 01's question 12
 unfoldable pub finiteTerms : RowTerms → Answer RowTerms
 finiteTerms t =
-    pick (wild (t .nll)) (refused 12)
-    (pick (wild (t .score)) (refused 12)
-    (pick (wild (t .information)) (refused 12)
+    pick (nonfinite (t .nll)) (refused 12)
+    (pick (nonfinite (t .score)) (refused 12)
+    (pick (nonfinite (t .information)) (refused 12)
     (given t)))
 
 -- its question 11, and then 12
 unfoldable pub rowTerms : Observation → Float → Float → Float → Answer RowTerms
 rowTerms observation prediction f-eta additive =
     let R = variance additive (observation .proportional) prediction in
-    pick (wild R) (refused 11)
+    pick (nonfinite R) (refused 11)
     (pick (le R (word 0)) (refused 11)
-    (pick (wild f-eta) (refused 11)
+    (pick (nonfinite f-eta) (refused 11)
     (finiteTerms (termsAt R observation prediction f-eta))))

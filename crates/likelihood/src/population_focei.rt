@@ -36,13 +36,13 @@ pub fn row_terms(observation: Observation, prediction: f64, f_eta: f64, additive
 {
     let prop = observation.proportional * prediction;
     let variance = additive * additive + prop * prop;
-    if float64::is_wild(variance) {
+    if float64::is_nonfinite(variance) {
         return Row::InvalidVariance;
     }
     if variance <= 0.0 {
         return Row::InvalidVariance;
     }
-    if float64::is_wild(f_eta) {
+    if float64::is_nonfinite(f_eta) {
         return Row::InvalidVariance;
     }
     let residual = observation.value - prediction;
@@ -54,13 +54,13 @@ pub fn row_terms(observation: Observation, prediction: f64, f_eta: f64, additive
         score: -residual * f_eta / variance + 0.5 * (1.0 - z2) * scaled_r_eta,
         information: f_eta * f_eta / variance + 0.5 * scaled_r_eta * scaled_r_eta,
     };
-    if float64::is_wild(terms.nll) {
+    if float64::is_nonfinite(terms.nll) {
         return Row::Overflow;
     }
-    if float64::is_wild(terms.score) {
+    if float64::is_nonfinite(terms.score) {
         return Row::Overflow;
     }
-    if float64::is_wild(terms.information) {
+    if float64::is_nonfinite(terms.information) {
         return Row::Overflow;
     }
     Row::Terms(terms)

@@ -27,19 +27,19 @@ pub fn row_variance(observation: Observation, prediction: f64, f_eta: [f64; 2]) 
     let prop = observation.proportional;
     let variance = observation.additive * observation.additive
         + (prop * prediction) * (prop * prediction);
-    if float64::is_wild(variance) {
+    if float64::is_nonfinite(variance) {
         return RowVariance::Invalid;
     }
     if variance <= 0.0 {
         return RowVariance::Invalid;
     }
-    if float64::is_wild(prediction) {
+    if float64::is_nonfinite(prediction) {
         return RowVariance::Invalid;
     }
-    if float64::is_wild(f_eta[0]) {
+    if float64::is_nonfinite(f_eta[0]) {
         return RowVariance::Invalid;
     }
-    if float64::is_wild(f_eta[1]) {
+    if float64::is_nonfinite(f_eta[1]) {
         return RowVariance::Invalid;
     }
     RowVariance::Valid(variance)

@@ -5,7 +5,7 @@ use lib.Ieee.{Float, nan, inf, fin, binary64, ofBits, toBits, ofInt, add, sub, m
 use Rattle.float64.specs.Pick.{pick}
 use Rattle.libm.specs.Log.{log, logOfWord, logAround, remainder}
 use Rattle.libm.specs.Exp.{exp, expWithin}
-use Rattle.matrix.specs.Matrix.{determinant, hasWildEntry, inverse, inversePositive}
+use Rattle.matrix.specs.Matrix.{determinant, hasNonfiniteEntry, inverse, inversePositive}
 use Rattle.likelihood.specs.Terms.{variance}
 use Rattle.likelihood.specs.Answer.{refused}
 use Rattle.likelihood.specs.RowTerms.{rowTerms, termsAt, finiteTerms}
@@ -28,7 +28,7 @@ unfolding rowTerms pick observationOf
 infinite-row value additive f-eta s = rw (infinite-variance additive s)
 
 pub marked : Marked
-unfolding rowTerms termsAt finiteTerms observationOf pick log logOfWord logAround remainder exp expWithin determinant hasWildEntry inverse inversePositive ofBits toBits ofInt add sub mul div neg lt le
+unfolding rowTerms termsAt finiteTerms observationOf pick log logOfWord logAround remainder exp expWithin determinant hasNonfiniteEntry inverse inversePositive ofBits toBits ofInt add sub mul div neg lt le
 marked =
     record {
       additive-row = refl;

@@ -6,7 +6,7 @@ use Prim.Native.Nat.{ℕ}
 use lib.ListN.{getD}
 use lib.Ieee.{Float, nan, neg, le}
 use Rattle.float64.specs.Arithmetic.{_+ᶠ_, _-ᶠ_, _*ᶠ_, _/ᶠ_, word}
-use Rattle.float64.specs.Float64.{wild}
+use Rattle.float64.specs.Float64.{nonfinite}
 use Rattle.float64.specs.Pick.{pick}
 use Rattle.matrix.specs.declared.InversePositive.{InversePositive}
 use Rattle.matrix.specs.declared.InversePositive.the-variants.{Exists, None}
@@ -49,12 +49,12 @@ unfoldable pub answer : List (List Float) → InversePositive → Inverse
 answer m (Exists det) = some (inverse m det) det
 answer m None = none
 
-unfoldable pub hasWildEntry : List (List Float) → Bool
-hasWildEntry m =
-    pick (wild (entry m 0 0)) true
-    (pick (wild (entry m 0 1)) true
-    (pick (wild (entry m 1 0)) true
-    (wild (entry m 1 1))))
+unfoldable pub hasNonfiniteEntry : List (List Float) → Bool
+hasNonfiniteEntry m =
+    pick (nonfinite (entry m 0 0)) true
+    (pick (nonfinite (entry m 0 1)) true
+    (pick (nonfinite (entry m 1 0)) true
+    (nonfinite (entry m 1 1))))
 
 -- 1e-12
 abbrev pub tiny : Float
@@ -63,9 +63,9 @@ tiny = word 0x3d71_9799_812d_ea11
 unfoldable pub inversePositive : List (List Float) → Inverse
 inversePositive m =
     let det = determinant m in
-    pick (hasWildEntry m) none
+    pick (hasNonfiniteEntry m) none
     (pick (le (entry m 0 0) (word 0)) none
     (pick (le (entry m 1 1) (word 0)) none
-    (pick (wild det) none
+    (pick (nonfinite det) none
     (pick (le det (tiny *ᶠ entry m 0 0 *ᶠ entry m 1 1)) none
     (some (inverse m det) det)))))

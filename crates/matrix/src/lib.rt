@@ -1,7 +1,7 @@
 // Pairs and two by two matrices of floats, by value, with the operations of population_focei_2d.rs in
 // its order. Each function is defined for all floats.
 ghost use mathlib.Core.Path.{_≡_};
-ghost use Rattle.matrix.specs.Matrix.{answer, determinant, hasWildEntry, inverse, inversePositive, product, dot};
+ghost use Rattle.matrix.specs.Matrix.{answer, determinant, hasNonfiniteEntry, inverse, inversePositive, product, dot};
 
 // The answer of inverse_positive: the determinant, or no inverse. An enum holds no array, so the
 // inverse itself, which the source answers too, is `inverse(matrix, det)`.
@@ -17,19 +17,19 @@ pub fn determinant(matrix: [[f64; 2]; 2]) -> f64
 }
 
 // Whether some entry is a NaN or an infinity.
-pub fn has_wild_entry(matrix: [[f64; 2]; 2]) -> bool
-    ensures { λ r. ⌜ r ≡ hasWildEntry matrix ⌝ }
+pub fn has_nonfinite_entry(matrix: [[f64; 2]; 2]) -> bool
+    ensures { λ r. ⌜ r ≡ hasNonfiniteEntry matrix ⌝ }
 {
-    if float64::is_wild(matrix[0][0]) {
+    if float64::is_nonfinite(matrix[0][0]) {
         return true;
     }
-    if float64::is_wild(matrix[0][1]) {
+    if float64::is_nonfinite(matrix[0][1]) {
         return true;
     }
-    if float64::is_wild(matrix[1][0]) {
+    if float64::is_nonfinite(matrix[1][0]) {
         return true;
     }
-    float64::is_wild(matrix[1][1])
+    float64::is_nonfinite(matrix[1][1])
 }
 
 // The determinant of a matrix that is positive on the diagonal and has an inverse. The last test turns
@@ -38,7 +38,7 @@ pub fn inverse_positive(matrix: [[f64; 2]; 2]) -> InversePositive
     ensures { λ r. ⌜ answer matrix r ≡ inversePositive matrix ⌝ }
 {
     let det = determinant(matrix);
-    if has_wild_entry(matrix) {
+    if has_nonfinite_entry(matrix) {
         return InversePositive::None;
     }
     if matrix[0][0] <= 0.0 {
@@ -47,7 +47,7 @@ pub fn inverse_positive(matrix: [[f64; 2]; 2]) -> InversePositive
     if matrix[1][1] <= 0.0 {
         return InversePositive::None;
     }
-    if float64::is_wild(det) {
+    if float64::is_nonfinite(det) {
         return InversePositive::None;
     }
     if det <= 1e-12 * matrix[0][0] * matrix[1][1] {

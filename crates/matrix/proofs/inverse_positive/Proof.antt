@@ -8,7 +8,7 @@ use Rattle.matrix.proofs.inverse_positive.Tie as tie
 
 returns : tie.Need-returns
 unfolding answer inversePositive
-returns c = yesOf _ (c .before .has-wild-entry .ensures) (c .if1 .taken) refl
+returns c = yesOf _ (c .before .has-nonfinite-entry .ensures) (c .if1 .taken) refl
 
 returns-2 : tie.Need-returns-2
 unfolding answer inversePositive
@@ -22,7 +22,7 @@ returns-4 : tie.Need-returns-4
 unfolding answer inversePositive
 returns-4 c =
     let a = c .before .before .before .before .before .before in
-    rw (← a .before .before .determinant .ensures) (pass _ (pass _ (pass _ (yesOf _ (c .before .is-wild .ensures) (c .if4 .taken) refl))))
+    rw (← a .before .before .determinant .ensures) (pass _ (pass _ (pass _ (yesOf _ (c .before .is-nonfinite .ensures) (c .if4 .taken) refl))))
 
 returns-5 : tie.Need-returns-5
 unfolding answer inversePositive
@@ -38,10 +38,10 @@ returns-6 c =
     let b = d .before .before in
     let a = b .before .before in
     rw (← a .before .before .determinant .ensures)
-    (noOf _ (a .before .has-wild-entry .ensures) (a .if1 .left)
+    (noOf _ (a .before .has-nonfinite-entry .ensures) (a .if1 .left)
     (no _ (b .if2 .left)
     (no _ (d .if3 .left)
-    (noOf _ (e .before .is-wild .ensures) (e .if4 .left)
+    (noOf _ (e .before .is-nonfinite .ensures) (e .if4 .left)
     (no _ (c .if5 .left) refl)))))
 
 pub inverse-positive-spec : {M : Type 1} → statement M

@@ -12,7 +12,7 @@ use Rattle.likelihood.proofs.population_focei.row_terms.Tie as tie
 -- ---- question 11
 returns : tie.Need-returns
 unfolding answer rowTerms
-returns c = yesOf _ (c .before .is-wild .ensures) (c .if1 .taken) refl
+returns c = yesOf _ (c .before .is-nonfinite .ensures) (c .if1 .taken) refl
 
 returns-2 : tie.Need-returns-2
 unfolding answer rowTerms
@@ -20,7 +20,7 @@ returns-2 c = pass _ (yes _ (c .if2 .taken) refl)
 
 returns-3 : tie.Need-returns-3
 unfolding answer rowTerms
-returns-3 c = pass _ (pass _ (yesOf _ (c .before .is-wild2 .ensures) (c .if3 .taken) refl))
+returns-3 c = pass _ (pass _ (yesOf _ (c .before .is-nonfinite2 .ensures) (c .if3 .taken) refl))
 
 -- past it
 valid :
@@ -32,28 +32,28 @@ valid :
 unfolding rowTerms
 valid c p =
     let b = c .before .before in
-    noOf _ (b .before .before .is-wild .ensures) (b .before .if1 .left)
+    noOf _ (b .before .before .is-nonfinite .ensures) (b .before .if1 .left)
     (no _ (b .if2 .left)
-    (noOf _ (c .before .is-wild2 .ensures) (c .if3 .left) p))
+    (noOf _ (c .before .is-nonfinite2 .ensures) (c .if3 .left) p))
 
 -- ---- question 12
 returns-4 : tie.Need-returns-4
 unfolding answer termsAt finiteTerms
 returns-4 c =
     let d = c .before .before in
-    valid (d .before .before .before) (rw (← d .log .ensures) (yesOf _ (c .before .is-wild3 .ensures) (c .if4 .taken) refl))
+    valid (d .before .before .before) (rw (← d .log .ensures) (yesOf _ (c .before .is-nonfinite3 .ensures) (c .if4 .taken) refl))
 
 returns-5 : tie.Need-returns-5
 unfolding answer termsAt finiteTerms
 returns-5 c =
     let d = c .before .before .before .before in
-    valid (d .before .before .before) (rw (← d .log .ensures) (pass _ (yesOf _ (c .before .is-wild4 .ensures) (c .if5 .taken) refl)))
+    valid (d .before .before .before) (rw (← d .log .ensures) (pass _ (yesOf _ (c .before .is-nonfinite4 .ensures) (c .if5 .taken) refl)))
 
 returns-6 : tie.Need-returns-6
 unfolding answer termsAt finiteTerms
 returns-6 c =
     let d = c .before .before .before .before .before .before in
-    valid (d .before .before .before) (rw (← d .log .ensures) (pass _ (pass _ (yesOf _ (c .before .is-wild5 .ensures) (c .if6 .taken) refl))))
+    valid (d .before .before .before) (rw (← d .log .ensures) (pass _ (pass _ (yesOf _ (c .before .is-nonfinite5 .ensures) (c .if6 .taken) refl))))
 
 returns-7 : tie.Need-returns-7
 unfolding answer termsAt finiteTerms
@@ -62,9 +62,9 @@ returns-7 c =
     let a = b .before .before in
     let d = a .before .before in
     valid (d .before .before .before) (rw (← d .log .ensures)
-    (noOf _ (a .before .is-wild3 .ensures) (a .if4 .left)
-    (noOf _ (b .before .is-wild4 .ensures) (b .if5 .left)
-    (noOf _ (c .before .is-wild5 .ensures) (c .if6 .left) refl))))
+    (noOf _ (a .before .is-nonfinite3 .ensures) (a .if4 .left)
+    (noOf _ (b .before .is-nonfinite4 .ensures) (b .if5 .left)
+    (noOf _ (c .before .is-nonfinite5 .ensures) (c .if6 .left) refl))))
 
 pub row-terms-spec : {M : Type 1} → statement M
 row-terms-spec =

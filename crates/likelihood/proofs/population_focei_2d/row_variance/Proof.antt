@@ -8,7 +8,7 @@ use Rattle.likelihood.proofs.population_focei_2d.row_variance.Tie as ti
 
 returns : tie.Need-returns
 unfolding answer rowVariance
-returns c = yesOf _ (c .before .is-wild .ensures) (c .if1 .taken) refl
+returns c = yesOf _ (c .before .is-nonfinite .ensures) (c .if1 .taken) refl
 
 returns-2 : tie.Need-returns-2
 unfolding answer rowVariance
@@ -16,15 +16,15 @@ returns-2 c = pass _ (yes _ (c .if2 .taken) refl)
 
 returns-3 : tie.Need-returns-3
 unfolding answer rowVariance
-returns-3 c = pass _ (pass _ (yesOf _ (c .before .is-wild2 .ensures) (c .if3 .taken) refl))
+returns-3 c = pass _ (pass _ (yesOf _ (c .before .is-nonfinite2 .ensures) (c .if3 .taken) refl))
 
 returns-4 : tie.Need-returns-4
 unfolding answer rowVariance
-returns-4 c = pass _ (pass _ (pass _ (yesOf _ (c .before .is-wild3 .ensures) (c .if4 .taken) refl)))
+returns-4 c = pass _ (pass _ (pass _ (yesOf _ (c .before .is-nonfinite3 .ensures) (c .if4 .taken) refl)))
 
 returns-5 : tie.Need-returns-5
 unfolding answer rowVariance
-returns-5 c = pass _ (pass _ (pass _ (pass _ (yesOf _ (c .before .is-wild4 .ensures) (c .if5 .taken) refl))))
+returns-5 c = pass _ (pass _ (pass _ (pass _ (yesOf _ (c .before .is-nonfinite4 .ensures) (c .if5 .taken) refl))))
 
 returns-6 : tie.Need-returns-6
 unfolding answer rowVariance
@@ -32,11 +32,11 @@ returns-6 c =
     let e = c .before .before in
     let d = e .before .before in
     let b = d .before .before in
-    noOf _ (b .before .before .is-wild .ensures) (b .before .if1 .left)
+    noOf _ (b .before .before .is-nonfinite .ensures) (b .before .if1 .left)
     (no _ (b .if2 .left)
-    (noOf _ (d .before .is-wild2 .ensures) (d .if3 .left)
-    (noOf _ (e .before .is-wild3 .ensures) (e .if4 .left)
-    (noOf _ (c .before .is-wild4 .ensures) (c .if5 .left) refl))))
+    (noOf _ (d .before .is-nonfinite2 .ensures) (d .if3 .left)
+    (noOf _ (e .before .is-nonfinite3 .ensures) (e .if4 .left)
+    (noOf _ (c .before .is-nonfinite4 .ensures) (c .if5 .left) refl))))
 
 pub row-variance-spec : {M : Type 1} → statement M
 row-variance-spec =
