@@ -6,7 +6,7 @@ use lib.Ieee.{Float}
 use Rattle.matrix.specs.Matrix.{Inverse, some, none}
 use Rattle.likelihood.specs.declared.population_focei.Observation.{Observation}
 use Rattle.likelihood.specs.declared.population_focei.RowTerms.{RowTerms}
-use Rattle.likelihood.specs.Answer.{Answer, given, refused}
+use Rattle.float64.specs.Answer.{Answer, given, refused}
 use Rattle.likelihood.specs.Row2.{rowVariance, scaledRow, addNll, addScore, addInformation}
 
 -- ---- inverse_positive

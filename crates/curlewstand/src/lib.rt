@@ -15,6 +15,8 @@ use likelihood::population_focei::Row;
 use likelihood::population_focei_2d::RowVariance;
 use matrix::InversePositive;
 
+pub mod mode_search;
+
 // The float of a word; every NaN pattern gives a NaN.
 #[no_mangle]
 pub extern "C" fn curlewstand_from_word(word: u64) -> f64

@@ -1,4 +1,4 @@
--- What the tests of src/lib.rt say of a word and of a float. Assumes nothing.
+-- What the tests of src/lib.rt say of a word and of a float; and `free`, for every crate's proofs. Assumes nothing.
 use mathlib.Core.Path.{_≡_, refl, sym, ap, subst, _∙_}
 use mathlib.Core.Bool.{Bool, true, false, not, _||_, Bool·beq}
 use Prim.Native.Nat.{ℕ, zero, suc, _+_, _*_, _%_, _^_, _<_, _≤_}
@@ -14,6 +14,10 @@ use lib.Ieee.Compare.{differs-from-itself}
 use lib.Ieee.Fits.{up-pos, and-l}
 use lib.Ieee.Scale.{finite}
 use Rattle.float64.specs.Float64.{abs}
+
+-- ---- at any place of the code, a call with no `requires` asks nothing
+pub free : {C K : Type 0} → C → K → Unit {0}
+free c κs = tt
 
 -- ---- a NaN: it alone differs from itself, and a word is one's above the infinity's pattern
 nan-of : (x : Float) → isNan x ≡ true → nan ≡ x

@@ -1,6 +1,5 @@
 -- What a reader must believe of this crate: Terms, to be held beside the paper, and RowTerms and Row2, to be held beside
 -- population_focei.rs and population_focei_2d.rs.
-pub mod Answer
 pub mod Terms
 pub mod RowTerms
 pub mod Row2

@@ -6,7 +6,7 @@ use Rattle.float64.specs.Arithmetic.{_+ᶠ_, word}
 use Rattle.float64.specs.Float64.{nonfinite}
 use Rattle.float64.specs.Pick.{pick}
 use Rattle.matrix.specs.Matrix.{pair, at, entry}
-use Rattle.likelihood.specs.Answer.{Answer, given, refused}
+use Rattle.float64.specs.Answer.{Answer, given, refused}
 use Rattle.likelihood.specs.Terms.{residual, variance, scaledByEta2, zSquared, nllTerm, scoreTerm, informationTerm}
 use Rattle.likelihood.specs.declared.population_focei.Observation.{Observation}
 use Rattle.likelihood.specs.declared.population_focei_2d.RowVariance.{RowVariance}

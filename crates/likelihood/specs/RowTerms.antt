@@ -3,7 +3,7 @@ use lib.Ieee.{Float, le}
 use Rattle.float64.specs.Arithmetic.{word}
 use Rattle.float64.specs.Float64.{nonfinite}
 use Rattle.float64.specs.Pick.{pick}
-use Rattle.likelihood.specs.Answer.{Answer, given, refused}
+use Rattle.float64.specs.Answer.{Answer, given, refused}
 use Rattle.likelihood.specs.Terms.{residual, variance, scaledByEta, zSquared, nllTerm, scoreTerm, informationTerm}
 use Rattle.likelihood.specs.declared.population_focei.Observation.{Observation}
 use Rattle.likelihood.specs.declared.population_focei.RowTerms.{RowTerms}

@@ -5,7 +5,7 @@ use Prim.Native.Nat.{ℕ}
 use lib.ListN.{getD}
 use lib.Ieee.{Float, nan, binary64, toBits}
 use Rattle.matrix.specs.Matrix.{Inverse, entry}
-use Rattle.likelihood.specs.Answer.{Answer}
+use Rattle.float64.specs.Answer.{Answer}
 use Rattle.likelihood.specs.declared.population_focei.RowTerms.{RowTerms}
 use Rattle.curlewstand.specs.Leaves.{termsOr, inverseOr}
 

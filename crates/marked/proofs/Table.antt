@@ -7,7 +7,7 @@ use Rattle.libm.specs.Log.{log, logOfWord, logAround, remainder}
 use Rattle.libm.specs.Exp.{exp, expWithin}
 use Rattle.matrix.specs.Matrix.{determinant, hasNonfiniteEntry, inverse, inversePositive}
 use Rattle.likelihood.specs.Terms.{variance}
-use Rattle.likelihood.specs.Answer.{refused}
+use Rattle.float64.specs.Answer.{refused}
 use Rattle.likelihood.specs.RowTerms.{rowTerms, termsAt, finiteTerms}
 use Rattle.curlewstand.specs.Leaves.{observationOf}
 use Rattle.marked.specs.Marked.{Marked, zero}

@@ -6,7 +6,7 @@ use Rattle.float64.specs.Arithmetic.{word, half, one, two}
 use Rattle.libm.specs.Log.{log}
 use Rattle.libm.specs.Exp.{exp}
 use Rattle.matrix.specs.Matrix.{pair, inversePositive, some, none}
-use Rattle.likelihood.specs.Answer.{given, refused}
+use Rattle.float64.specs.Answer.{given, refused}
 use Rattle.likelihood.specs.RowTerms.{rowTerms}
 use Rattle.curlewstand.specs.Leaves.{observationOf}
 

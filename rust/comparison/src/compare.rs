@@ -8,19 +8,19 @@ use std::time::Instant;
 
 /// An answer: a code (0, or the number of a refusal) and words.
 #[derive(Clone, Copy, Debug, PartialEq, Eq)]
-pub struct Answer {
+pub struct Answer<const WORDS: usize = 8> {
     pub code: u32,
-    pub words: [u64; 8],
+    pub words: [u64; WORDS],
 }
 
 /// Given by our side where a refused call wrote to what it was lent.
 pub const TOUCHED: u32 = 99;
 
-impl Answer {
+impl<const WORDS: usize> Answer<WORDS> {
     pub fn refused(code: u32) -> Self {
         Answer {
             code,
-            words: [0; 8],
+            words: [0; WORDS],
         }
     }
 
@@ -49,27 +49,27 @@ pub fn word_of(x: f64) -> u64 {
 }
 
 /// A leaf on both sides, over N words that stand for floats.
-pub struct Comparison<'a, const N: usize> {
+pub struct Comparison<'a, const N: usize, const WORDS: usize = 8> {
     name: &'a str,
-    ours: &'a dyn Fn([f64; N]) -> Answer,
-    theirs: &'a dyn Fn([f64; N]) -> Answer,
+    ours: &'a dyn Fn([f64; N]) -> Answer<WORDS>,
+    theirs: &'a dyn Fn([f64; N]) -> Answer<WORDS>,
     inputs: u64,
-    by_code: [u64; 16],
+    by_code: [u64; 20],
     begun: Instant,
 }
 
-impl<'a, const N: usize> Comparison<'a, N> {
+impl<'a, const N: usize, const WORDS: usize> Comparison<'a, N, WORDS> {
     pub fn new(
         name: &'a str,
-        ours: &'a dyn Fn([f64; N]) -> Answer,
-        theirs: &'a dyn Fn([f64; N]) -> Answer,
+        ours: &'a dyn Fn([f64; N]) -> Answer<WORDS>,
+        theirs: &'a dyn Fn([f64; N]) -> Answer<WORDS>,
     ) -> Self {
         Comparison {
             name,
             ours,
             theirs,
             inputs: 0,
-            by_code: [0; 16],
+            by_code: [0; 20],
             begun: Instant::now(),
         }
     }
@@ -164,9 +164,9 @@ impl<'a, const N: usize> Comparison<'a, N> {
     }
 
     fn report(&self, input: [f64; N]) -> String {
-        let mut text = format!("{} differs from the original\n", self.name);
-        for x in input {
-            writeln!(text, "  input  {:016x}  {x:e}", x.to_bits()).unwrap();
+        let mut text = format!("{} differs on the two sides\n", self.name);
+        for (argument, x) in input.iter().enumerate() {
+            writeln!(text, "  input {argument:2}  {:016x}  {x:e}", x.to_bits()).unwrap();
         }
         for (side, answer) in [
             ("ours", (self.ours)(input)),
@@ -188,7 +188,7 @@ impl<'a, const N: usize> Comparison<'a, N> {
 /// Floats simpler than the one given, the simplest first: those that stand
 /// before it in the list of simple ones, else all of them, then its own value
 /// with fewer digits, its size without its sign, and an exponent nearer to 0.
-fn simpler_than(x: f64) -> Vec<f64> {
+pub fn simpler_than(x: f64) -> Vec<f64> {
     let place = SIMPLE.iter().position(|one| one.to_bits() == x.to_bits());
     let mut simpler = SIMPLE[..place.unwrap_or(SIMPLE.len())].to_vec();
     if place.is_some() || !x.is_finite() {

@@ -1,9 +1,15 @@
 //! Every leaf as a function from floats to an answer, on both sides.
 
 use crate::compare::{word_of, Answer};
+use crate::rules::{Search, NO_SEARCH, WHOLE};
+use curlewstand::mode::{Conditional, Request, Settings};
+use curlewstand::Refusal;
 
 /// The answer's code where a matrix has no inverse.
 pub const NO_INVERSE: u32 = 1;
+
+/// The answer's code where a search has its mode.
+pub const MODE: u32 = 1;
 
 /// Rust leaves the sign of the larger of two zeros free, so that a zero of
 /// either sign will do there and only there.
@@ -37,6 +43,45 @@ fn inverted(found: Option<([[f64; 2]; 2], f64)>) -> Answer {
     match found {
         Some(([[a, b], [c, d]], det)) => Answer::floats(&[det, a, b, c, d]),
         None => Answer::refused(NO_INVERSE),
+    }
+}
+
+fn requested(request: Request) -> Answer {
+    match request {
+        Request::Point(eta) => Answer::floats(&[eta]),
+        Request::Mode => Answer::refused(MODE),
+        Request::Refused(Refusal(number)) => Answer::refused(number),
+    }
+}
+
+/// The settings and the words of a search, all as floats: eta_bound, omega,
+/// tolerance, warm start, then the twenty words, of which those that are whole
+/// numbers stand as such.
+fn search(input: &[f64]) -> (Settings, [u64; 20]) {
+    let settings = Settings {
+        eta_bound: input[0],
+        omega: input[1],
+        tolerance: input[2],
+        warm: input[3],
+    };
+    let words = std::array::from_fn(|at| {
+        let x = input[4 + at];
+        if WHOLE.contains(&at) {
+            x as u64
+        } else {
+            x.to_bits()
+        }
+    });
+    (settings, words)
+}
+
+/// An evaluated point after the settings and the words of a search.
+fn evaluated(input: &[f64]) -> Conditional {
+    Conditional {
+        eta: input[24],
+        nll: input[25],
+        score: input[26],
+        information: input[27],
     }
 }
 
@@ -153,6 +198,55 @@ pub mod ours {
         }
     }
 
+    pub fn eta_tolerance([gradient_tolerance]: [f64; 1]) -> Answer {
+        Answer::floats(&[curlewstand::mode::eta_tolerance(gradient_tolerance)])
+    }
+
+    pub fn mode_request(input: [f64; 24]) -> Answer {
+        let (s, words) = search(&input);
+        let mut point = FILLED;
+        let code = unsafe {
+            curlewstand_mode_request(
+                s.eta_bound,
+                s.omega,
+                s.tolerance,
+                s.warm,
+                &words,
+                &mut point,
+            )
+        };
+        match code {
+            0 => requested(Request::Point(point)),
+            _ if touched([&point]) => Answer::refused(TOUCHED),
+            code => Answer::refused(code),
+        }
+    }
+
+    pub fn mode_advance(input: [f64; 28]) -> Answer<20> {
+        let (s, mut words) = search(&input);
+        let before = words;
+        let at = evaluated(&input);
+        let code = unsafe {
+            curlewstand_mode_advance(
+                s.eta_bound,
+                s.omega,
+                s.tolerance,
+                s.warm,
+                &mut words,
+                at.eta,
+                at.nll,
+                at.score,
+                at.information,
+            )
+        };
+        match Search::of_words(&words) {
+            _ if code != 0 && words != before => Answer::refused(TOUCHED),
+            _ if code != 0 => Answer::refused(code),
+            Some(search) => Answer::words(&search.words()),
+            None => Answer::refused(NO_SEARCH),
+        }
+    }
+
     fn add([value, additive, proportional, prediction, f, g]: [f64; 6], lent: &mut Lent) -> u32 {
         let (information, score, nll) = lent;
         unsafe {
@@ -210,6 +304,33 @@ pub mod rust {
 
     pub fn exp([x]: [f64; 1]) -> Answer {
         Answer::floats(&[oracle::libm::exp(x)])
+    }
+
+    /// As the source has it in the midst of `mode`.
+    pub fn eta_tolerance([gradient_tolerance]: [f64; 1]) -> Answer {
+        Answer::floats(&[(gradient_tolerance * 1e-4).clamp(1e-12, 1e-8)])
+    }
+}
+
+/// The steps of a search by the rules in plain Rust.
+pub mod plain {
+    use super::*;
+
+    pub fn mode_request(input: [f64; 24]) -> Answer {
+        let (settings, words) = search(&input);
+        match Search::of_words(&words) {
+            Some(search) => requested(search.request(&settings)),
+            None => Answer::refused(NO_SEARCH),
+        }
+    }
+
+    pub fn mode_advance(input: [f64; 28]) -> Answer<20> {
+        let (settings, words) = search(&input);
+        let Some(mut search) = Search::of_words(&words) else {
+            return Answer::refused(NO_SEARCH);
+        };
+        search.advance(&settings, evaluated(&input));
+        Answer::words(&search.words())
     }
 }
 

@@ -202,3 +202,133 @@ pub fn clamp(random: &mut Random) -> [f64; 3] {
     };
     [x, low, high]
 }
+
+/// Gradient tolerances between and about the turns at 1e-8 and 1e-4, and of
+/// any size.
+pub fn gradient_tolerance(random: &mut Random) -> [f64; 1] {
+    [match random.below(5) {
+        0 => random.magnitude(-1022, 1023),
+        1 => {
+            let turn: f64 = random.pick(&[1e-8, 1e-4]);
+            f64::from_bits(turn.to_bits() - 64 + random.below(128))
+        }
+        2 => random.magnitude(-30, -10),
+        _ => random.uniform(0., 2e-4),
+    }]
+}
+
+/// Settings and a search in any state, as `leaves` reads them. Stages and
+/// counts are mostly those of a search, floats mostly of a fit's sizes.
+pub fn search(random: &mut Random) -> [f64; 24] {
+    let left = random.uniform(-16., 16.);
+    let right = match random.below(8) {
+        0 => left,
+        1 => random.uniform(-16., 16.),
+        _ => left + random.magnitude(-46, 1),
+    };
+    let warm = match random.below(4) {
+        0 => left,
+        1 => right,
+        _ => random.uniform(left, right),
+    };
+    let mut input = [0.; 24];
+    input[0] = random.magnitude(-10, 4);
+    input[1] = random.magnitude(-20, 20);
+    input[2] = random.magnitude(-42, -24);
+    input[3] = warm;
+    input[4] = stage(random);
+    input[5] = count(random);
+    input[6] = score(random);
+    input[7..11].copy_from_slice(&conditional(random));
+    input[11] = fall(random);
+    for (at, eta) in [(12, left), (16, right), (20, random.pick(&[left, right]))] {
+        input[at..at + 4].copy_from_slice(&conditional(random));
+        input[at] = eta;
+    }
+    with_strays(random, input)
+}
+
+/// A search and an evaluated point.
+pub fn search_step(random: &mut Random) -> [f64; 28] {
+    let mut input = [0.; 28];
+    input[..24].copy_from_slice(&search(random));
+    let at = conditional(random);
+    input[24..].copy_from_slice(&with_strays(random, at));
+    input
+}
+
+fn stage(random: &mut Random) -> f64 {
+    match random.below(40) {
+        0 => random.pick(&[4., 5., 256., 4294967296., 4294967298., 1e18]),
+        _ => random.below(4) as f64,
+    }
+}
+
+/// Up to a stage's last count and a little beyond, or of any size: no search
+/// has one that is wider than 32 bits.
+fn count(random: &mut Random) -> f64 {
+    match random.below(40) {
+        0 => 4294967296. + random.below(60) as f64,
+        1 => random.pick(&[65536., 4294967295., 4294967296., 1e18]),
+        2 => random.word() as f64,
+        _ => {
+            let bound = random.pick(&[2, 18, 50]);
+            let counts = [14, 15, 16, 17, 47, 48, random.below(bound)];
+            random.pick(&counts) as f64
+        }
+    }
+}
+
+fn fall(random: &mut Random) -> f64 {
+    match random.below(40) {
+        0 => random.pick(&[2., 3., 256., 4294967296., 4294967297., 1e18]),
+        _ => random.below(2) as f64,
+    }
+}
+
+/// A score of either sign and any size, often of the same size as another.
+fn score(random: &mut Random) -> f64 {
+    let size = match random.below(8) {
+        0 => 0.,
+        1 => 1.,
+        2 => random.magnitude(-1022, 1023),
+        3 => random.magnitude(-45, -20),
+        _ => random.magnitude(-10, 10),
+    };
+    random.signed(size)
+}
+
+fn conditional(random: &mut Random) -> [f64; 4] {
+    let information = match random.below(4) {
+        0 => 0.,
+        1 => random.magnitude(-60, 60),
+        _ => random.magnitude(-6, 6),
+    };
+    let eta = random.uniform(-16., 16.);
+    [eta, random.uniform(-9., 99.), score(random), information]
+}
+
+/// Now and then a float is replaced by one of any bits or of a special kind.
+fn with_strays<const N: usize>(random: &mut Random, mut input: [f64; N]) -> [f64; N] {
+    while random.below(3) == 0 {
+        let at = random.below(N as u64) as usize;
+        input[at] = match random.below(3) {
+            0 => f64::from_bits(random.word()),
+            1 => -input[at],
+            _ => random.pick(&STRAYS),
+        };
+    }
+    input
+}
+
+const STRAYS: [f64; 9] = [
+    f64::NAN,
+    f64::NAN,
+    f64::INFINITY,
+    f64::NEG_INFINITY,
+    f64::MAX,
+    f64::MIN,
+    0.,
+    -0.,
+    5e-324,
+];

@@ -47,4 +47,38 @@ extern "C" {
         score: *mut [f64; 2],
         information: *mut [[f64; 2]; 2],
     ) -> u32;
+    /// The tolerance of a search's modes, in eta.
+    pub fn curlewstand_eta_tolerance(gradient_tolerance: f64) -> f64;
+    /// Writes the search that has asked nothing. A search's words are its
+    /// stage (0 grid, 1 warm start, 2 secant steps, 3 halvings), the stage's
+    /// count, the first score, the latest grid point, the fall (0 or 1), the
+    /// left and the right end of the bracket and the best point; a point is
+    /// four words: eta, negative log likelihood, score, information. Floats
+    /// stand as their bits.
+    pub fn curlewstand_mode_start(search: *mut [u64; 20]);
+    /// 0 with the next point written; or, with nothing written, 1 for a mode,
+    /// which is the search's best point, 13, 14 or 15 for a refusal, 19 where
+    /// the words are no search.
+    pub fn curlewstand_mode_request(
+        eta_bound: f64,
+        omega: f64,
+        tolerance: f64,
+        warm: f64,
+        search: *const [u64; 20],
+        point: *mut f64,
+    ) -> u32;
+    /// 0 with the evaluated point taken into the search, or 19 with nothing
+    /// written where the words are no search. The score has the prior's
+    /// eta / omega added to it.
+    pub fn curlewstand_mode_advance(
+        eta_bound: f64,
+        omega: f64,
+        tolerance: f64,
+        warm: f64,
+        search: *mut [u64; 20],
+        eta: f64,
+        nll: f64,
+        score: f64,
+        information: f64,
+    ) -> u32;
 }

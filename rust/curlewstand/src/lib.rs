@@ -1,6 +1,7 @@
 //! Curlewstand for Rust: safe functions over the static library.
 
 pub mod ffi;
+pub mod mode;
 
 use ffi::*;
 
@@ -21,7 +22,7 @@ pub struct Sums {
     pub information: [[f64; 2]; 2],
 }
 
-/// Why a row was refused, by its number.
+/// Why a row or a search was refused, by its number.
 #[derive(Clone, Copy, Debug, PartialEq, Eq)]
 pub struct Refusal(pub u32);
 

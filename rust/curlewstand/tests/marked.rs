@@ -1,5 +1,7 @@
-//! Document 01's marked facts about the leaves, through the safe functions.
+//! Document 01's marked facts about the leaves and the rules of the search,
+//! through the safe functions.
 
+use curlewstand::mode::{eta_tolerance, Conditional, Request, Search, Settings};
 use curlewstand::*;
 
 #[test]
@@ -47,4 +49,62 @@ fn rows() {
     let refused = add_row(1., 0., 1., 0., [1., 1.], &mut sums);
     assert_eq!(refused, Err(Refusal(11)));
     assert_eq!(sums, before);
+}
+
+#[test]
+fn searches() {
+    assert_eq!(eta_tolerance(1e-3), 1e-8);
+    assert_eq!(eta_tolerance(1e-9), 1e-12);
+
+    let settings = Settings {
+        eta_bound: 4.,
+        omega: 1.,
+        tolerance: eta_tolerance(1e-4),
+        warm: 0.,
+    };
+    // the example with nothing but the prior: the grid, and its middle
+    let mut search = Search::start();
+    let mut points = Vec::new();
+    while let Request::Point(eta) = search.request(&settings) {
+        points.push(eta);
+        let at = Conditional {
+            eta,
+            nll: 0.5,
+            score: eta,
+            information: 0.,
+        };
+        search.advance(&settings, &at);
+    }
+    assert_eq!(points.len(), 17);
+    assert_eq!([points[0], points[8], points[16]], [-4., 0., 4.]);
+    assert_eq!(search.request(&settings), Request::Mode);
+    assert_eq!(search.best().eta, 0.);
+    assert_eq!(search.best().nll, 0.5);
+}
+
+#[test]
+fn refused_searches() {
+    let settings = Settings {
+        eta_bound: 4.,
+        omega: 1.,
+        tolerance: 1e-8,
+        warm: 0.,
+    };
+    let refused = |score: fn(f64) -> f64| {
+        let mut search = Search::start();
+        while let Request::Point(eta) = search.request(&settings) {
+            let at = Conditional {
+                eta,
+                nll: 0.,
+                score: score(eta),
+                information: 0.,
+            };
+            search.advance(&settings, &at);
+        }
+        search.request(&settings)
+    };
+    assert_eq!(refused(|_| 1.), Request::Refused(Refusal(13)));
+    assert_eq!(refused(|_| -1.), Request::Refused(Refusal(13)));
+    let falling = |eta: f64| if eta.abs() < 1. { -eta } else { eta };
+    assert_eq!(refused(falling), Request::Refused(Refusal(14)));
 }

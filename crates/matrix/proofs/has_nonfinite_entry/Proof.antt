@@ -2,7 +2,8 @@
 use mathlib.Core.Path.{refl}
 use Rattle.float64.specs.Pick.{pass, yesOf, noOf}
 use Rattle.matrix.specs.Matrix.{hasNonfiniteEntry}
-use Rattle.matrix.proofs.Laws.{at-0, at-1, free}
+use Rattle.float64.proofs.Laws.{free}
+use Rattle.matrix.proofs.Laws.{at-0, at-1}
 use Rattle.matrix.proofs.has_nonfinite_entry.Statement.{statement}
 use Rattle.matrix.proofs.has_nonfinite_entry.Tie as tie
 

@@ -2,7 +2,8 @@
 use mathlib.Core.Path.{refl}
 use Rattle.float64.specs.Pick.{pass, yes, no, yesOf, noOf}
 use Rattle.matrix.specs.Matrix.{answer, inversePositive}
-use Rattle.matrix.proofs.Laws.{at-0, at-1, free}
+use Rattle.float64.proofs.Laws.{free}
+use Rattle.matrix.proofs.Laws.{at-0, at-1}
 use Rattle.matrix.proofs.inverse_positive.Statement.{statement}
 use Rattle.matrix.proofs.inverse_positive.Tie as tie
 

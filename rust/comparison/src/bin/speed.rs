@@ -5,8 +5,21 @@
 //! loop. The row of two effects stands inside the original's `subject`: it is
 //! timed there over a thousand observations of one subject, with a reply of a
 //! single row, so that next to nothing but the rows is left.
+//!
+//! The rules of the one-effect search stand inside the original's `mode`, with
+//! the evaluations. There it is timed on a search whose points are all kept,
+//! so that an evaluation is a look into the cache; ours is the whole search
+//! over the same points, one request and one advance for each. Both are given
+//! for one point.
 
 use comparison::random::Random;
+#[cfg(source_at_hand)]
+use curlewstand::mode::{eta_tolerance, Conditional, Request, Search, Settings};
+#[cfg(source_at_hand)]
+use oracle::{
+    session::{Observed, Question, SensitivitySample},
+    OneEffect,
+};
 use std::hint::black_box;
 use std::time::Instant;
 
@@ -72,6 +85,7 @@ fn originals(random: &mut Random) {
         }),
     );
     two_effects(random);
+    search();
 }
 
 #[cfg(source_at_hand)]
@@ -109,6 +123,87 @@ fn two_effects(random: &mut Random) {
     beside("add_row", theirs, ours);
 }
 
+#[cfg(source_at_hand)]
+fn search() {
+    const SEARCHES: usize = 20;
+    let settings = Settings {
+        eta_bound: 4.,
+        omega: 0.5,
+        tolerance: eta_tolerance(1e-4),
+        warm: 0.,
+    };
+    let mut original = straight_line(settings.eta_bound);
+    let mode = original.mode(0, 1., settings.omega, None).unwrap();
+    let (points, best) = searched(&mut original, &settings);
+    // every point was kept, and ours asks for no other
+    assert_eq!(original.calls(), points.len());
+    assert_eq!(best.eta, mode.best.eta[0]);
+    let theirs = best_of(SEARCHES * points.len(), || {
+        for _ in 0..SEARCHES {
+            black_box(original.mode(0, 1., black_box(settings.omega), None)).unwrap();
+        }
+    });
+    let ours = best_of(SEARCHES * points.len(), || {
+        for _ in 0..SEARCHES {
+            let mut search = Search::start();
+            let mut next = black_box(&points).iter();
+            while let Request::Point(_) = search.request(black_box(&settings)) {
+                search.advance(&settings, next.next().unwrap());
+            }
+            black_box(search.best());
+        }
+    });
+    beside("point of a search", theirs, ours);
+}
+
+/// The original with one observation of the individual value itself, and room
+/// to keep every point of a search.
+#[cfg(source_at_hand)]
+fn straight_line(eta_bound: f64) -> OneEffect {
+    let observed = Observed {
+        output: 0,
+        row: 0,
+        value: 2.,
+        additive: 0.5,
+        proportional: 0.1,
+    };
+    let settings = oracle::session::Settings {
+        eta_bound,
+        gradient_tolerance: 1e-4,
+        max_evaluations: 10_000,
+        kept_rows: 64,
+        width: 1,
+        output_budget: 10_000,
+    };
+    let simulator = |question: &Question| {
+        Some(vec![SensitivitySample {
+            time: 0.,
+            side: "pre",
+            values: vec![question.individual[0]],
+            derivatives: vec![vec![1.]],
+        }])
+    };
+    OneEffect::new(settings, vec![vec![observed]], Box::new(simulator))
+}
+
+/// The points of our search, evaluated by the original, and the mode.
+#[cfg(source_at_hand)]
+fn searched(original: &mut OneEffect, settings: &Settings) -> (Vec<Conditional>, Conditional) {
+    let mut points = Vec::new();
+    let mut search = Search::start();
+    while let Request::Point(eta) = search.request(settings) {
+        let at = original.subject(0, 1., eta, None).unwrap();
+        points.push(Conditional {
+            eta,
+            nll: at.nll,
+            score: at.score[0] + eta / settings.omega,
+            information: at.information[0][0],
+        });
+        search.advance(settings, points.last().unwrap());
+    }
+    (points, search.best())
+}
+
 fn drawn<const N: usize>(
     random: &mut Random,
     mut draw: impl FnMut(&mut Random) -> [f64; N],
@@ -125,15 +220,20 @@ fn each<const N: usize, T>(inputs: &[[f64; N]], leaf: impl Fn([f64; N]) -> T) ->
     })
 }
 
-/// The shortest of many rounds, divided by the inputs of a round.
-fn best(mut round: impl FnMut()) -> f64 {
+/// The shortest of many rounds over the inputs, for one of them.
+fn best(round: impl FnMut()) -> f64 {
+    best_of(INPUTS, round)
+}
+
+/// The shortest of many rounds, divided by what is in a round.
+fn best_of(in_a_round: usize, mut round: impl FnMut()) -> f64 {
     let mut shortest = f64::INFINITY;
     for _ in 0..2_000 {
         let begun = Instant::now();
         round();
         shortest = shortest.min(begun.elapsed().as_secs_f64());
     }
-    shortest * 1e9 / INPUTS as f64
+    shortest * 1e9 / in_a_round as f64
 }
 
 fn beside(leaf: &str, original: f64, ours: f64) {

@@ -1,8 +1,8 @@
 -- `likelihood::population_focei::row_terms` meets its contract. Assumes nothing.
 use mathlib.Core.Path.{_≡_, refl}
 use Rattle.float64.specs.Pick.{pass, yes, no, yesOf, noOf}
-use Rattle.matrix.proofs.Laws.{free}
-use Rattle.likelihood.specs.Answer.{Answer}
+use Rattle.float64.proofs.Laws.{free}
+use Rattle.float64.specs.Answer.{Answer}
 use Rattle.likelihood.specs.Terms.{variance}
 use Rattle.likelihood.specs.declared.population_focei.RowTerms.{RowTerms}
 use Rattle.likelihood.specs.RowTerms.{answer, termsAt, finiteTerms, rowTerms}

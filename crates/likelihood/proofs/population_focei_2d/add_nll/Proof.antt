@@ -1,5 +1,5 @@
 -- `likelihood::population_focei_2d::add_nll` meets its contract. Assumes nothing.
-use Rattle.matrix.proofs.Laws.{free}
+use Rattle.float64.proofs.Laws.{free}
 use Rattle.likelihood.specs.Row2.{addNll}
 use Rattle.likelihood.proofs.population_focei_2d.add_nll.Statement.{statement}
 use Rattle.likelihood.proofs.population_focei_2d.add_nll.Tie as tie
