@@ -9,6 +9,8 @@ use Rattle.matrix.specs.Matrix.{determinant, hasNonfiniteEntry, inverse, invers
 use Rattle.likelihood.specs.Terms.{variance}
 use Rattle.float64.specs.Answer.{refused}
 use Rattle.likelihood.specs.RowTerms.{rowTerms, termsAt, finiteTerms}
+use Rattle.float64.specs.Float64.{clamp}
+use Rattle.mode.specs.Rules.{gridPoint, etaTolerance}
 use Rattle.curlewstand.specs.Leaves.{observationOf}
 use Rattle.marked.specs.Marked.{Marked, zero}
 
@@ -28,7 +30,7 @@ unfolding rowTerms pick observationOf
 infinite-row value additive f-eta s = rw (infinite-variance additive s)
 
 pub marked : Marked
-unfolding rowTerms termsAt finiteTerms observationOf pick log logOfWord logAround remainder exp expWithin determinant hasNonfiniteEntry inverse inversePositive ofBits toBits ofInt add sub mul div neg lt le
+unfolding rowTerms termsAt finiteTerms observationOf pick log logOfWord logAround remainder gridPoint etaTolerance clamp exp expWithin determinant hasNonfiniteEntry inverse inversePositive ofBits toBits ofInt add sub mul div neg lt le
 marked =
     record {
       additive-row = refl;
@@ -39,4 +41,9 @@ marked =
       singular = refl;
       exp-zero = refl;
       log-one = refl;
+      grid-first = refl;
+      grid-middle = refl;
+      grid-last = refl;
+      tolerance-loose = refl;
+      tolerance-tight = refl;
     }

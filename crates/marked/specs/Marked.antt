@@ -1,4 +1,4 @@
--- Document 01's marked facts of the leaves, as one table. The proof is proofs/Table.antt, and src/main.rt holds the code to it.
+-- Document 01's marked facts of the layers so far, as one table. The proof is proofs/Table.antt, and src/main.rt holds the code to it.
 use mathlib.Core.Path.{_≡_}
 use mathlib.Core.Bool.{Bool}
 use lib.Ieee.{Float, inf}
@@ -8,6 +8,7 @@ use Rattle.libm.specs.Exp.{exp}
 use Rattle.matrix.specs.Matrix.{pair, inversePositive, some, none}
 use Rattle.float64.specs.Answer.{given, refused}
 use Rattle.likelihood.specs.RowTerms.{rowTerms}
+use Rattle.mode.specs.Rules.{gridPoint, etaTolerance}
 use Rattle.curlewstand.specs.Leaves.{observationOf}
 
 abbrev pub zero : Float
@@ -40,3 +41,10 @@ pub record Marked : Type 0 where
   pub singular : inversePositive (pair (pair one one) (pair one one)) ≡ none
   pub exp-zero : exp zero ≡ one
   pub log-one : log one ≡ zero
+  -- the grid for 4 at 0, 8, 16: -4, 0, 4
+  pub grid-first : gridPoint four 0 ≡ word 0xc010_0000_0000_0000
+  pub grid-middle : gridPoint four 8 ≡ zero
+  pub grid-last : gridPoint four 16 ≡ four
+  -- the tolerance from 1e-3: 1e-8; from 1e-9: 1e-12
+  pub tolerance-loose : etaTolerance (word 0x3f50_624d_d2f1_a9fc) ≡ word 0x3e45_798e_e230_8c3a
+  pub tolerance-tight : etaTolerance (word 0x3e11_2e0b_e826_d695) ≡ word 0x3d71_9799_812d_ea11

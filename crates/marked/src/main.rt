@@ -1,5 +1,9 @@
 // Holds the library that C and Rust call to document 01's marked facts. Each check is proved before
 // it is run: from the contract of the function that it calls, and from the table in specs/Marked.antt.
+ghost use mathlib.Core.Path.{_≡_};
+ghost use Prim.Native.Nat.{_<_};
+ghost use Rattle.mode.specs.Rules.{gridPoint};
+ghost use Rattle.marked.specs.Marked.{four};
 
 // value 3, f 1, f_eta 2, a 1, p 0: score -4, information 4.
 fn additive_row() {
@@ -76,6 +80,57 @@ fn exp_and_log() {
     check::expect(float64::to_word(curlewstand::curlewstand_log(1.0)) == 0);
 }
 
+// What a search for eta_bound 4 asks for, with so many points of the grid evaluated.
+fn asked_at(count: u64) -> f64
+    requires { ⌜ count < 17 ⌝ }
+    ensures { λ r. ⌜ r ≡ gridPoint four count ⌝ }
+{
+    let search = [
+        0,
+        count,
+        0,
+        0,
+        0,
+        0,
+        0,
+        0,
+        0,
+        0,
+        0,
+        0,
+        0,
+        0,
+        0,
+        0,
+        0,
+        0,
+        0,
+        0,
+    ];
+    let mut point = 0.0;
+    curlewstand::mode_search::curlewstand_mode_request(4.0, 1.0, 1e-8, 0.0, &search, &mut point);
+    point
+}
+
+// The grid for 4 at 0, 8, 16: -4, 0, 4.
+fn grid() {
+    check::expect(float64::to_word(asked_at(0)) == 0xc010_0000_0000_0000);
+    check::expect(float64::to_word(asked_at(8)) == 0);
+    check::expect(float64::to_word(asked_at(16)) == 0x4010_0000_0000_0000);
+}
+
+// The tolerance from 1e-3: 1e-8; from 1e-9: 1e-12.
+fn tolerance() {
+    check::expect(
+        float64::to_word(curlewstand::mode_search::curlewstand_eta_tolerance(1e-3))
+            == 0x3e45_798e_e230_8c3a,
+    );
+    check::expect(
+        float64::to_word(curlewstand::mode_search::curlewstand_eta_tolerance(1e-9))
+            == 0x3d71_9799_812d_ea11,
+    );
+}
+
 fn main() {
     additive_row();
     proportional_row();
@@ -84,4 +139,6 @@ fn main() {
     inverse();
     singular();
     exp_and_log();
+    grid();
+    tolerance();
 }
