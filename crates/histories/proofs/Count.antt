@@ -16,7 +16,7 @@ use Rattle.mode.specs.declared.population_focei.Stage.the-variants.{Grid, Warm,
 use Rattle.mode.specs.declared.population_focei.Search.{Search}
 use Rattle.mode.specs.declared.population_focei.Request.{Request}
 use Rattle.mode.specs.declared.population_focei.Request.the-variants.{Point, Mode, Refused}
-use Rattle.mode.specs.Rules.{nought, requestAt, request, advanceAt, advance, tried, screened, chosen, entered, firstStage, start, midpoint, gridPoint, settled, isUnder}
+use Rattle.mode.specs.Rules.{nought, requestAt, request, advanceAt, advance, tried, screened, chosen, entered, firstStage, start, midpoint, gridPoint, settled, isAbove, isUnder}
 use Rattle.histories.specs.History.{FollowsFrom, Follows, afterFrom, after, asks}
 use Rattle.histories.proofs.Trials.{isPoint, point-true}
 
@@ -87,7 +87,8 @@ room-step Grid s x c n r h =
     (λ e. cases P (le nought (y .first)) (λ _. ry)
     (λ _. cases P (isUnder (y .latest)) (λ _. ry)
     (λ _. cases P (y .fall) (λ _. ry)
-    (λ _. entered-room _ _ (n - 1) (last (x .count) n (r .0) k (ltb-false (x .count + 1) 17 e)))))))
+    (λ _. cases P (isAbove (y .right)) (λ _. entered-room _ _ (n - 1) (last (x .count) n (r .0) k (ltb-false (x .count + 1) 17 e)))
+    (λ _. ry))))))
     (λ e. absurd (past (x .count) 17 k (ltb-false (x .count) 17 e)))
   where
     last : (i n : ℕ) → 82 ≤ i + n → i < 17 → 17 ≤ i + 1 → 65 ≤ n - 1

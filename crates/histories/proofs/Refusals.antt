@@ -19,7 +19,8 @@ use Rattle.mode.specs.declared.population_focei.Request.the-variants.{Point, Mo
 use Rattle.mode.specs.Rules.{nought, nowhere, requestAt, request, advanceAt, advance, screened, fell, firstScore, firstStage, entered, chosen, tried, start, gridPoint, isAbove, isUnder}
 use Rattle.histories.specs.History.{FollowsFrom, Follows, afterFrom, after, etas, gridFrom}
 use Rattle.histories.specs.Claim.{firstOf, lastFrom, fallsFrom, AtBound, Several}
-use Rattle.histories.proofs.Screen.{next, grid-asked, keeps-first}
+use Rattle.float64.proofs.Order.{num?, lt→le, of-true}
+use Rattle.histories.proofs.Screen.{next, grid-asked, keeps-first, side, or-not, true-of}
 
 -- ---- 13 or 14
 abbrev isScreen : Request → Bool
@@ -59,23 +60,48 @@ entered-past s y = both (λ (t : Stage). T (pastGrid t)) _ (both (λ (t : Stage)
 
 -- ---- why a search with all 17 points stays on the grid
 Why : Search → Type 0
-Why y = (le nought (y .first) ≡ true) ⊎ (isUnder (y .latest) ≡ true) ⊎ (y .fall ≡ true)
+Why y = (le nought (y .first) ≡ true) ⊎ (isUnder (y .latest) ≡ true) ⊎ (y .fall ≡ true) ⊎ (isAbove (y .right) ≡ false)
 
 chosen-cases : (s : Settings) (y : Search) → ((chosen s y ≡ y) × (17 ≤ y .count → Why y)) ⊎ (chosen s y ≡ entered s y)
 unfolding chosen Why pick
-chosen-cases s y = go (ltb (y .count) 17) (le nought (y .first)) (isUnder (y .latest)) (y .fall) refl refl refl refl
+chosen-cases s y = go (ltb (y .count) 17) (le nought (y .first)) (isUnder (y .latest)) (y .fall) (isAbove (y .right)) refl refl refl refl refl
   where
     full : (i : ℕ) → 17 ≤ i → ltb i 17 ≡ true → ⊥
     full i h e = true≢false (sym e ∙ le-ltb i 17 h)
 
-    go : (a b c d : Bool) → ltb (y .count) 17 ≡ a → le nought (y .first) ≡ b → isUnder (y .latest) ≡ c → y .fall ≡ d →
-        ((pick a y (pick b y (pick c y (pick d y (entered s y)))) ≡ y) × (17 ≤ y .count → (le nought (y .first) ≡ true) ⊎ (isUnder (y .latest) ≡ true) ⊎ (y .fall ≡ true)))
-        ⊎ (pick a y (pick b y (pick c y (pick d y (entered s y)))) ≡ entered s y)
-    go true b c d p q r t = inl (refl, λ h. absurd (full (y .count) h p))
-    go false true c d p q r t = inl (refl, λ h. inl q)
-    go false false true d p q r t = inl (refl, λ h. inr (inl r))
-    go false false false true p q r t = inl (refl, λ h. inr (inr t))
-    go false false false false p q r t = inr refl
+    go : (a b c d r : Bool) → ltb (y .count) 17 ≡ a → le nought (y .first) ≡ b → isUnder (y .latest) ≡ c → y .fall ≡ d → isAbove (y .right) ≡ r →
+        ((pick a y (pick b y (pick c y (pick d y (pick r (entered s y) y)))) ≡ y)
+        × (17 ≤ y .count → (le nought (y .first) ≡ true) ⊎ (isUnder (y .latest) ≡ true) ⊎ (y .fall ≡ true) ⊎ (isAbove (y .right) ≡ false)))
+        ⊎ (pick a y (pick b y (pick c y (pick d y (pick r (entered s y) y)))) ≡ entered s y)
+    go true b c d r p q u t v = inl (refl, λ h. absurd (full (y .count) h p))
+    go false true c d r p q u t v = inl (refl, λ h. inl q)
+    go false false true d r p q u t v = inl (refl, λ h. inr (inl u))
+    go false false false true r p q u t v = inl (refl, λ h. inr (inr (inl t)))
+    go false false false false false p q u t v = inl (refl, λ h. inr (inr (inr v)))
+    go false false false false true p q u t v = inr refl
+
+-- where the scores are numbers, a latest point above 0 has a cell before it, or the first point was above 0 too
+Rose : Search → Type 0
+Rose x = (isUnder (x .latest) ≡ true) ⊎ (isAbove (x .right) ≡ true) ⊎ (le nought (x .first) ≡ true)
+
+rose-step : (x : Search) (c : Conditional) → 1 ≤ x .count → T (num? (c .score)) → Rose x → Rose (screened x c)
+unfolding Rose screened
+rose-step x c k n r =
+    elim (side c n) [
+      | inr p ↦ inl (p .1)
+      | inl p ↦ elim (or-not (isUnder (x .latest))) [
+        | inl u ↦ inr (inl (ap isAbove (pick-yes (isUnder (x .latest)) _ (x .right) u ∙ pick-yes (isAbove c) c (x .right) (p .0)) ∙ p .0))
+        | inr u ↦
+            let same = pick-no (isUnder (x .latest)) (pick (isAbove c) c (x .right)) (x .right) u in
+            elim r [
+              | inl q ↦ absurd (true≢false (sym q ∙ u))
+              | inr q ↦ elim q [
+                | inl v ↦ inr (inl (ap isAbove same ∙ v))
+                | inr v ↦ inr (inr (ap (λ (z : Float). le nought z) (keeps-first x c k) ∙ v))
+              ]
+            ]
+      ]
+    ]
 
 -- ---- the rest of the grid, from a search x that has some points of it: n more points, to y
 record Run (s : Settings) (n : ℕ) (x : Search) (h : List Conditional) (y : Search) : Type 0 where
@@ -86,6 +112,7 @@ record Run (s : Settings) (n : ℕ) (x : Search) (h : List Conditional) (y : Sea
   pub latest : y .latest ≡ lastFrom (x .latest) h
   pub fall : y .fall ≡ pick (fallsFrom (x .latest) h) true (x .fall)
   pub why : Why y
+  pub rose : Rose y
 
 fall-step : (a u f g : Bool) → pick f true (pick a (pick u true g) g) ≡ pick (pick a (pick u true f) f) true g
 unfolding pick
@@ -107,6 +134,7 @@ run-step s n x c h y k e r =
       latest = r .latest;
       fall = r .fall ∙ fall-step (isAbove (x .latest)) (isUnder c) (fallsFrom c h) (x .fall);
       why = r .why;
+      rose = r .rose;
     }
 
 grid-not-screen : (s : Settings) (x : Search) → x .stage ≡ Grid → x .count < 17 → T (isScreen (request s x)) → ⊥
@@ -114,18 +142,18 @@ unfolding requestAt
 grid-not-screen s x e k q =
     subst (λ (r : Request). T (isScreen r)) (ap (λ (t : Stage). requestAt t s x) e ∙ pick-yes (ltb (x .count) 17) _ _ (lt-ltb (x .count) 17 k)) q
 
-run : (s : Settings) (n : ℕ) (h : List Conditional) (x : Search) → x .stage ≡ Grid → 1 ≤ x .count → x .count + n ≡ 17 → (17 ≤ x .count → Why x) → FollowsFrom s x h → T (isScreen (request s (afterFrom s x h))) → Run s n x h (afterFrom s x h)
+run : (s : Settings) (n : ℕ) (h : List Conditional) (x : Search) → x .stage ≡ Grid → 1 ≤ x .count → x .count + n ≡ 17 → (17 ≤ x .count → Why x) → Rose x → FollowsFrom s x h → T (isScreen (request s (afterFrom s x h))) → Run s n x h (afterFrom s x h)
 unfolding FollowsFrom afterFrom etas gridFrom lastFrom fallsFrom pick
-run s zero [] x e k i w f q = record { grid = refl; stage = e; full = omega arith; first = refl; latest = refl; fall = refl; why = w (omega arith) }
-run s zero (c ∷ h) x e k i w f q = let j = grid-asked s x c e (f .0) .0 in absurd (omega arith)
-run s (suc n) [] x e k i w f q = absurd (grid-not-screen s x e (omega arith) q)
-run s (suc n) (c ∷ h) x e k i w f q =
+run s zero [] x e k i w o f q = record { rose = o; grid = refl; stage = e; full = omega arith; first = refl; latest = refl; fall = refl; why = w (omega arith) }
+run s zero (c ∷ h) x e k i w o f q = let j = grid-asked s x c e (f .0) .0 in absurd (omega arith)
+run s (suc n) [] x e k i w o f q = absurd (grid-not-screen s x e (omega arith) q)
+run s (suc n) (c ∷ h) x e k i w o f q =
     let a = grid-asked s x c e (f .0) in
     let y = screened x c in
     elim (chosen-cases s y) [
       | inl p ↦
           let g : advance s x c ≡ y = next s x c e (a .0) ∙ p .0 in
-          let r : Run s n y h (afterFrom s y h) = run s n h y (on x c) (more x c) (count x c n i) (p .1) (subst (λ (v : Search). FollowsFrom s v h) g (f .1)) (subst (λ (v : Search). T (isScreen (request s (afterFrom s v h)))) g q) in
+          let r : Run s n y h (afterFrom s y h) = run s n h y (on x c) (more x c) (count x c n i) (p .1) (rose-step x c k (f .0 .scoreNumber) o) (subst (λ (v : Search). FollowsFrom s v h) g (f .1)) (subst (λ (v : Search). T (isScreen (request s (afterFrom s v h)))) g q) in
           run-step s n x c h (afterFrom s (advance s x c) h) k (a .1) (subst (λ (v : Search). Run s n y h (afterFrom s v h)) (sym g) r)
       | inr p ↦
           let g : advance s x c ≡ entered s y = next s x c e (a .0) ∙ p in
@@ -150,6 +178,7 @@ record Whole (s : Settings) (h : List Conditional) (y : Search) : Type 0 where
   pub latest : y .latest ≡ lastFrom nowhere h
   pub fall : y .fall ≡ fallsFrom nowhere h
   pub why : Why y
+  pub rose : Rose y
 
 pick-true : (b : Bool) → pick b true false ≡ b
 unfolding pick
@@ -167,7 +196,19 @@ whole-of s c h y e r =
       latest = r .latest;
       fall = r .fall ∙ pick-true (fallsFrom c h);
       why = r .why;
+      rose = r .rose;
     }
+
+rose-first : (c : Conditional) → T (num? (c .score)) → Rose (screened start c)
+unfolding Rose screened firstScore start pick
+rose-first c n =
+    elim (side c n) [
+      | inr p ↦ inl (p .1)
+      | inl p ↦ inr (inr (true-of (le nought (c .score)) (above-le c (of-true (isAbove c) (p .0)))))
+    ]
+  where
+    above-le : (c : Conditional) → T (isAbove c) → T (le nought (c .score))
+    above-le c h = lt→le nought (c .score) (unfold isAbove in h)
 
 whole : (s : Settings) (h : List Conditional) → Follows s h → T (isScreen (request s (after s h))) → Whole s h (after s h)
 unfolding FollowsFrom afterFrom
@@ -179,7 +220,7 @@ whole s (c ∷ h) f q =
     elim (chosen-cases s y) [
       | inl p ↦
           let g : advance s start c ≡ y = next s start c e (a .0) ∙ p .0 in
-          let r : Run s 16 y h (afterFrom s y h) = run s 16 h y (unfold screened in refl) (unfold screened start in lit≤ tt) (unfold screened start in refl) (p .1) (subst (λ (v : Search). FollowsFrom s v h) g (f .1)) (subst (λ (v : Search). T (isScreen (request s (afterFrom s v h)))) g q) in
+          let r : Run s 16 y h (afterFrom s y h) = run s 16 h y (unfold screened in refl) (unfold screened start in lit≤ tt) (unfold screened start in refl) (p .1) (rose-first c (f .0 .scoreNumber)) (subst (λ (v : Search). FollowsFrom s v h) g (f .1)) (subst (λ (v : Search). T (isScreen (request s (afterFrom s v h)))) g q) in
           whole-of s c h (afterFrom s (advance s start c) h) (a .1 ∙ (unfold start in refl)) (subst (λ (v : Search). Run s 16 y h (afterFrom s v h)) (sym g) r)
       | inr p ↦
           let g : advance s start c ≡ entered s y = next s start c e (a .0) ∙ p in
@@ -224,6 +265,13 @@ at-bound s h f e =
       ends = elim t [ inl p ↦ inl (subst (λ (v : Float). T (le nought v)) (w .first) p) | inr p ↦ inr (subst (λ (v : Conditional). T (isUnder v)) (w .latest) p) ];
     }
 
+-- a grid with good ends has a cell
+no-rise : (y : Search) → isAbove (y .right) ≡ false → Rose y → T (not (le nought (y .first))) → T (not (isUnder (y .latest))) → ⊥
+unfolding Rose
+no-rise y v (inl p) a b = T-not (isUnder (y .latest)) b (subst T (sym p) tt)
+no-rise y v (inr (inl p)) a b = true≢false (sym p ∙ v)
+no-rise y v (inr (inr p)) a b = T-not (le nought (y .first)) a (subst T (sym p) tt)
+
 pub several : (s : Settings) (h : List Conditional) → Follows s h → request s (after s h) ≡ Refused 14 → Several s h
 unfolding Why
 several s h f e =
@@ -235,6 +283,9 @@ several s h f e =
       lastAbove = subst (λ (v : Conditional). T (not (isUnder v))) (w .latest) (t .1);
       fall = elim (w .why) [
         | inl p ↦ absurd (T-not (le nought (after s h .first)) (t .0) (subst T (sym p) tt))
-        | inr p ↦ elim p [ inl q ↦ absurd (T-not (isUnder (after s h .latest)) (t .1) (subst T (sym q) tt)) | inr q ↦ subst T (sym q ∙ w .fall) tt ]
+        | inr p ↦ elim p [
+          | inl q ↦ absurd (T-not (isUnder (after s h .latest)) (t .1) (subst T (sym q) tt))
+          | inr q ↦ elim q [ inl v ↦ subst T (sym v ∙ w .fall) tt | inr v ↦ absurd (no-rise (after s h) v (w .rose) (t .0) (t .1)) ]
+        ]
       ];
     }

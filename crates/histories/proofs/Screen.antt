@@ -73,6 +73,11 @@ nearer k = pick (isCloser (k .left) (k .right)) (k .left) (k .right)
 unfoldable pub GoodCell : Cell → Type 0
 GoodCell k = Good (k .left .eta) (k .right .eta) (k .left) (k .right) (nearer k)
 
+-- its right end is above 0
+rises : (k : Cell) → GoodCell k → isAbove (k .right) ≡ true
+unfolding GoodCell
+rises k g = true-of (isAbove (k .right)) (g .signR)
+
 pub warm-stage : (t u : Bool) → t ≡ true → u ≡ true → pick t (pick u Warm Secant) Secant ≡ Warm
 unfolding pick
 warm-stage true true e f = refl
@@ -149,10 +154,14 @@ unfolding chosen Bad
 stays-bad s y (inl h) = pick-same (ltb (y .count) 17) y _ (pick-yes (le nought (y .first)) y _ h)
 stays-bad s y (inr h) = pick-same (ltb (y .count) 17) y _ (pick-same (le nought (y .first)) y _ (pick-same (isUnder (y .latest)) y _ (pick-yes (y .fall) y _ h)))
 
-pub enters : (s : Settings) (y : Search) → 17 ≤ y .count → le nought (y .first) ≡ false → isUnder (y .latest) ≡ false → y .fall ≡ false → chosen s y ≡ entered s y
+pub enters : (s : Settings) (y : Search) → 17 ≤ y .count → le nought (y .first) ≡ false → isUnder (y .latest) ≡ false → y .fall ≡ false → isAbove (y .right) ≡ true → chosen s y ≡ entered s y
 unfolding chosen
-enters s y a b c e =
-    pick-no (ltb (y .count) 17) y _ (le-ltb (y .count) 17 a) ∙ pick-no (le nought (y .first)) y _ b ∙ pick-no (isUnder (y .latest)) y _ c ∙ pick-no (y .fall) y _ e
+enters s y a b c e f =
+    pick-no (ltb (y .count) 17) y _ (le-ltb (y .count) 17 a)
+    ∙ pick-no (le nought (y .first)) y _ b
+    ∙ pick-no (isUnder (y .latest)) y _ c
+    ∙ pick-no (y .fall) y _ e
+    ∙ pick-yes (isAbove (y .right)) (entered s y) y f
 
 pub keeps-first : (x : Search) (c : Conditional) → 1 ≤ x .count → screened x c .first ≡ x .first
 unfolding screened firstScore
@@ -370,7 +379,7 @@ onward : (s : Settings) (d : Domain s) (n : ℕ) (h : List Conditional) (y z : S
 unfolding FollowsFrom afterFrom screened
 onward s d zero h y z a e f m =
     let k = a .number in
-    let q : z ≡ entered s y = e ∙ enters s y (omega arith) (a .firstBelow) (a .notUnder) (a .noFall) in
+    let q : z ≡ entered s y = e ∙ enters s y (omega arith) (a .firstBelow) (a .notUnder) (a .noFall) (rises (cellIn y) (a .good)) in
     record { grid = unfold etas gridFrom in refl; rising = unfold upwardFrom in refl; ends = finish s d h y z q (a .good) f m }
 onward s d (suc n) [] y z a e f m =
     let k = a .number in

@@ -124,14 +124,14 @@ entered s x =
       best = pick (isCloser (x .left) (x .right)) (x .left) (x .right);
     }
 
--- 13 and 14 leave the search on the grid
+-- 13 and 14 leave the search on the grid. So does a grid without a cell, which only a NaN score makes: the start's right end is not above 0.
 unfoldable pub chosen : Settings → Search → Search
 chosen s x =
     pick (ltb (x .count) 17) x
     (pick (le nought (x .first)) x
     (pick (isUnder (x .latest)) x
     (pick (x .fall) x
-    (entered s x))))
+    (pick (isAbove (x .right)) (entered s x) x))))
 
 -- a point of the bracket: it replaces one end, and the best where it is closer
 unfoldable pub tried : Stage → ℕ → Search → Conditional → Search

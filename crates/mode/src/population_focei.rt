@@ -209,7 +209,11 @@ fn chosen(s: Settings, x: Search) -> Search
     if x.fall {
         return x;
     }
-    entered(s, x)
+    // a score that is NaN may have hidden every cell; the start's right end is not above 0
+    if is_above(x.right) {
+        return entered(s, x);
+    }
+    x
 }
 
 // The search with one more point of the bracket: it replaces one end, and the best where it is closer.

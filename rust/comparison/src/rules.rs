@@ -120,7 +120,9 @@ impl Search {
         }
         self.latest = at;
         self.count += 1;
-        if self.count == 17 && !self.reaches_its_bound() && !self.fall {
+        // A NaN score may hide every cell: then the right end is still the start's, not above 0.
+        let has_cell = self.right.score > 0.;
+        if self.count == 17 && !self.reaches_its_bound() && !self.fall && has_cell {
             self.enter(settings);
         }
     }
