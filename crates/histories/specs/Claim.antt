@@ -1,4 +1,4 @@
--- What is claimed of one search with one effect, over every history of the rules: demand 3's part of it.
+-- What is claimed of one search with one effect, over every history of its rules.
 use mathlib.Core.Path.{_≡_}
 use mathlib.Core.Logic.{_⊎_}
 use mathlib.Core.List.{List, [], _∷_, List·Memᴰ}
@@ -68,6 +68,7 @@ unfoldable pub fallsFrom : Conditional → List Conditional → Bool
 fallsFrom a [] = false
 fallsFrom a (b ∷ t) = pick (isAbove a) (pick (isUnder b) true (fallsFrom b t)) (fallsFrom b t)
 
+-- nothing falls at the first point: the score nowhere is 0
 abbrev pub falls : List Conditional → Bool
 falls h = fallsFrom nowhere h
 
