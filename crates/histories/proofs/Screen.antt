@@ -38,7 +38,7 @@ pub or-not : (b : Bool) → (b ≡ true) ⊎ (b ≡ false)
 or-not true = inl refl
 or-not false = inr refl
 
--- a score that is a number is isAbove 0, or 0 or below
+-- a score that is a number is above 0, or 0 or below
 pub side : (c : Conditional) → T (num? (c .score)) → ((isAbove c ≡ true) × (isUnder c ≡ false)) ⊎ ((isAbove c ≡ false) × (isUnder c ≡ true))
 unfolding isAbove isUnder
 side c n =
@@ -202,13 +202,13 @@ unfolding FollowsFrom afterFrom
 stuck s [] x e n f m = grid-no-mode s x e m
 stuck s (c ∷ h) x e n f m = let k = grid-asked s x c e (f .0) .0 in omega arith
 
--- ---- what is left of the grid: n points from the i-th on, after the point a, with the upwardFrom k; then the trials from the cell
+-- ---- what is left of the grid: n points from the i-th on, after the point a, with the upward cells k; then the trials from the cell
 pub record Rest (s : Settings) (n i : ℕ) (a : Conditional) (ks : List Cell) (k : Cell) (h : List Conditional) (m : Conditional) : Type 0 where
   pub grid : etas (take n h) ≡ gridFrom (s .«eta_bound») n i
   pub rising : upwardFrom a (take n h) ≡ ks
   pub ends : Ends s (k .left .eta) (k .right .eta) k (nearer k) (drop n h) m
 
--- the latest point lies isAbove 0, and the cell is met
+-- the latest point lies above 0, and the cell is met
 pub record Above (n : ℕ) (x : Search) : Type 0 where
   pub onGrid : x .stage ≡ Grid
   pub number : x .count + n ≡ 17
@@ -232,16 +232,17 @@ pub record Below (s : Settings) (n : ℕ) (x : Search) : Type 0 where
   pub at : x .latest .eta ≡ gridPoint (s .«eta_bound») j
   pub scoreNumber : T (num? (x .latest .score))
 
--- ---- one more point isAbove 0
+-- two cells with equal ends
+cell-eq : (l r l' r' : Conditional) → l ≡ l' → r ≡ r' → _≡_ {A = Cell} (record { left = l; right = r }) (record { left = l'; right = r' })
+cell-eq l r l' r' p q = ap (λ (v : Conditional). record { left = v; right = r }) p ∙ ap (λ (v : Conditional). record { left = l'; right = v }) q
+
+-- ---- one more point above 0
 pub above-cell : (x : Search) (c : Conditional) → isUnder (x .latest) ≡ false → cellIn (screened x c) ≡ cellIn x
 unfolding screened
 above-cell x c e =
     let p : pick (isUnder (x .latest)) (pick (isAbove c) (x .latest) (x .left)) (x .left) ≡ x .left = pick-no (isUnder (x .latest)) _ (x .left) e in
     let q : pick (isUnder (x .latest)) (pick (isAbove c) c (x .right)) (x .right) ≡ x .right = pick-no (isUnder (x .latest)) _ (x .right) e in
     cell-eq _ _ _ _ p q
-  where
-    cell-eq : (l r l' r' : Conditional) → l ≡ l' → r ≡ r' → _≡_ {A = Cell} (record { left = l; right = r }) (record { left = l'; right = r' })
-    cell-eq l r l' r' p q = ap (λ (v : Conditional). record { left = v; right = r }) p ∙ ap (λ (v : Conditional). record { left = l'; right = v }) q
 
 pub met-cell : (x : Search) (c : Conditional) → isUnder (x .latest) ≡ true → isAbove c ≡ true → cellIn (screened x c) ≡ record { left = x .latest; right = c }
 unfolding screened
@@ -249,11 +250,8 @@ met-cell x c e a =
     let p : pick (isUnder (x .latest)) (pick (isAbove c) (x .latest) (x .left)) (x .left) ≡ x .latest = pick-yes (isUnder (x .latest)) _ (x .left) e ∙ pick-yes (isAbove c) (x .latest) (x .left) a in
     let q : pick (isUnder (x .latest)) (pick (isAbove c) c (x .right)) (x .right) ≡ c = pick-yes (isUnder (x .latest)) _ (x .right) e ∙ pick-yes (isAbove c) c (x .right) a in
     cell-eq _ _ _ _ p q
-  where
-    cell-eq : (l r l' r' : Conditional) → l ≡ l' → r ≡ r' → _≡_ {A = Cell} (record { left = l; right = r }) (record { left = l'; right = r' })
-    cell-eq l r l' r' p q = ap (λ (v : Conditional). record { left = v; right = r }) p ∙ ap (λ (v : Conditional). record { left = l'; right = v }) q
 
--- no fall where c lies isAbove 0, or the latest point does not
+-- no fall where c lies above 0, or the latest point does not
 no-fall-c : (x : Search) (c : Conditional) → x .fall ≡ false → isUnder c ≡ false → screened x c .fall ≡ false
 unfolding screened fell
 no-fall-c x c e u =
@@ -300,7 +298,7 @@ finish s d h y z e g =
     subst (λ (v : Search). FollowsFrom s v h → T (isMode (request s (afterFrom s v h))) → Ends s (y .left .eta) (y .right .eta) (cellIn y) (nearer (cellIn y)) h (afterFrom s v h .best)) (sym e)
     (λ (f : FollowsFrom s (entered s y) h) (m : T (isMode (request s (afterFrom s (entered s y) h)))). entry s d h y g f m)
 
--- ---- one more point keeps what holds isAbove 0
+-- ---- one more point keeps what holds above 0
 pub above-next : (n : ℕ) (x : Search) (c : Conditional) → Above (suc n) x → isAbove c ≡ true → isUnder c ≡ false → Above n (screened x c)
 above-next n x c a p u = record {
   onGrid = unfold screened in refl;
@@ -313,7 +311,7 @@ above-next n x c a p u = record {
   good = subst GoodCell (sym (above-cell x c (a .notUnder))) (a .good);
 }
 
--- the first point isAbove 0 makes the cell
+-- the first point above 0 makes the cell
 new-cell : (s : Settings) (d : Domain s) (j i : ℕ) (l r : Conditional) → j ≤ i → i ≤ 16 → l .eta ≡ gridPoint (s .«eta_bound») j → r .eta ≡ gridPoint (s .«eta_bound») i → T (num? (l .score)) → T (num? (r .score)) → T (isUnder l) → T (isAbove r) → GoodCell (record { left = l; right = r })
 unfolding GoodCell
 new-cell s d j i l r h k p q nl nr ul ar =
