@@ -1,5 +1,6 @@
 // Curlewstand for C and Rust: the leaves of the calculation over numbers and lent arrays. Each
-// function is defined for every input, and its contract gives all that it answers and writes.
+// function is defined for every input, and its contract gives all that it answers and writes. What
+// is lent to be written must overlap nothing else that is lent to the same call.
 ghost use mathlib.Core.Path.{_≡_};
 ghost use lib.Ieee.{binary64, ofBits, toBits};
 ghost use lib.Ieee.Scale.{finite};

@@ -43,6 +43,14 @@ impl Observation {
 }
 
 impl Subject {
+    pub(super) fn all(settings: &Settings, cohort: &[Vec<Observed>]) -> Vec<Self> {
+        cohort
+            .iter()
+            .enumerate()
+            .map(|(index, observed)| Subject::of(index, settings, observed))
+            .collect()
+    }
+
     pub(super) fn of(index: usize, settings: &Settings, observed: &[Observed]) -> Self {
         Subject {
             simulation: SensitivityRequest::new(index, settings),
@@ -109,11 +117,7 @@ impl OneEffect {
         OneEffect {
             model: CompiledSensitivityDocument::new(&[PARAMETER], settings.width, simulator),
             request: PopulationFitRequest::new(&settings),
-            subjects: cohort
-                .iter()
-                .enumerate()
-                .map(|(index, observed)| Subject::of(index, &settings, observed))
-                .collect(),
+            subjects: Subject::all(&settings, &cohort),
             simulation_groups: (0..cohort.len()).collect(),
             calls: 0,
             warm_etas: vec![0.; cohort.len()],

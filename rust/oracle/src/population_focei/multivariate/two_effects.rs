@@ -71,11 +71,7 @@ impl TwoEffects {
                 precision,
                 det_omega,
             },
-            subjects: cohort
-                .iter()
-                .enumerate()
-                .map(|(index, observed)| Subject::of(index, &settings, observed))
-                .collect(),
+            subjects: Subject::all(&settings, &cohort),
             calls: 0,
             warm_etas: vec![[0.; 2]; cohort.len()],
             cache: HashMap::new(),
