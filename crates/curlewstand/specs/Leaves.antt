@@ -1,7 +1,6 @@
 -- What a leaf's answer is to C: a number or a bool, and what is written. Where there is nothing to write, what was there stays.
 use mathlib.Core.Bool.{Bool, true, false}
 use mathlib.Core.List.{List, [], _∷_}
-use Prim.Native.Nat.{ℕ}
 use lib.Ieee.{Float}
 use Rattle.matrix.specs.Matrix.{Inverse, some, none}
 use Rattle.likelihood.specs.declared.population_focei.Observation.{Observation}
@@ -26,11 +25,6 @@ detOr old none = old
 -- the leaves look at neither its output nor its place
 unfoldable pub observationOf : Float → Float → Float → Observation
 observationOf value additive proportional = record { output = 0; row = 0; value = value; additive = additive; proportional = proportional }
-
--- document 01's number for a no, and 0 for an answer
-unfoldable pub numberOf : {X : Type 0} → Answer X → ℕ
-numberOf (given x) = 0
-numberOf (refused number) = number
 
 unfoldable pub termsOr : List Float → Answer RowTerms → List Float
 termsOr old (given t) = t .nll ∷ t .score ∷ t .information ∷ []

@@ -1,3 +1,2 @@
 -- What crosses to C, by the cases of each leaf's answer.
 pub mod Leaves
-pub mod Mode

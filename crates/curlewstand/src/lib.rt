@@ -4,19 +4,18 @@
 ghost use mathlib.Core.Path.{_≡_};
 ghost use lib.Ieee.{binary64, ofBits, toBits};
 ghost use lib.Ieee.Scale.{finite};
+ghost use Rattle.float64.specs.Answer.{numberOf};
 ghost use Rattle.float64.specs.Float64.{abs, max, clamp};
 ghost use Rattle.libm.specs.Log.{log};
 ghost use Rattle.libm.specs.Exp.{exp};
 ghost use Rattle.matrix.specs.Matrix.{determinant, inversePositive, product, dot};
 ghost use Rattle.likelihood.specs.RowTerms.{rowTerms};
 ghost use Rattle.likelihood.specs.Row2.{rowVariance};
-ghost use Rattle.curlewstand.specs.Leaves.{exists, inverseOr, detOr, observationOf, numberOf, termsOr, sums, addRow};
+ghost use Rattle.curlewstand.specs.Leaves.{exists, inverseOr, detOr, observationOf, termsOr, sums, addRow};
 use likelihood::population_focei::Observation;
 use likelihood::population_focei::Row;
 use likelihood::population_focei_2d::RowVariance;
 use matrix::InversePositive;
-
-pub mod mode_search;
 
 // The float of a word; every NaN pattern gives a NaN.
 #[no_mangle]

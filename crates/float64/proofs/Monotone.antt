@@ -4,13 +4,14 @@ use mathlib.Core.Path.{_≡_, refl, sym, ap, subst}
 use Prim.Native.Nat.{ℕ, zero, suc, _+_, _*_, _≤_, _<_}
 use native.Mathlib.Nat.{mul-le-mul-right, mul-pos}
 use native.Mathlib.Omega.{arith}
+use mathlib.Core.Logic.{_⊎_, inl, inr}
 use mathlib.Core.Bool.{Bool, true, false, cond}
 use lib.IntN.{ℤ}
 use lib.Dec.{T, ltb}
-use lib.Ieee.{Float, nan, inf, fin, Format, up, down, le, neg, add, sub, mul, isNan, fits}
+use lib.Ieee.{Float, nan, inf, fin, Format, up, down, lt, le, neg, add, sub, mul, isNan, fits}
 use lib.Ieee.Positive.{den, den-pos, positive}
 use lib.Ieee.Scale.{finite}
-use Rattle.float64.proofs.Order.{plus, less, Cross, le→cross, num?, LeBy, bottom, top, both, le→by, bottom-le, le-top, le-num-l, le-trans, le-refl-num, neg-anti, zero⁺}
+use Rattle.float64.proofs.Order.{plus, less, Cross, le→cross, num?, LeBy, bottom, top, both, le→by, bottom-le, le-top, le-num-l, le-num-r, le-trans, le-refl-num, lt→le, neg-anti, zero⁺}
 use Rattle.float64.proofs.Rounding.{Rounded, rounded-le, rounded-le-value, value-le-rounded, add-rounded, mul-rounded}
 
 pub rounded-num : (f : Format) (x : Float) (p u c : ℕ) → 0 < c → Rounded f x p u c → T (num? x)
@@ -154,4 +155,25 @@ mul-nonneg f (fin false n d) x p h =
     (value-le-rounded f zero⁺ (mul f k zero⁺) (plus k * plus zero⁺ + less k * less zero⁺) (plus k * less zero⁺ + less k * plus zero⁺) (den k * den zero⁺) (mul-pos (den-pos k) (den-pos zero⁺)) (mul-rounded f k zero⁺ tt tt) (unfold fits in tt) tt (omega arith))
     (mul-mono f k zero⁺ x p h)
 
--- ---- the accepted step of a descent: t ≤ c - k * d, with d above 0 or a NaN
+-- ---- what is at most c - k * d is at most c, where d is above 0 or a NaN
+nan-mul : (f : Format) (k d : Float) → T (positive k) → T (isNan d) → T (isNan (mul f k d))
+unfolding isNan mul
+nan-mul f nan d p h = absurd p
+nan-mul f (inf s) d p h = absurd p
+nan-mul f (fin s n e) nan p h = tt
+nan-mul f (fin s n e) (inf t) p h = absurd h
+nan-mul f (fin s n e) (fin t o c) p h = absurd h
+
+nan-sub : (f : Format) (x d : Float) → T (num? (sub f x d)) → T (isNan d) → ⊥
+unfolding isNan sub add
+nan-sub f nan d p h = p
+nan-sub f (inf s) nan p h = p
+nan-sub f (inf s) (inf t) p h = h
+nan-sub f (inf s) (fin t o c) p h = h
+nan-sub f (fin s n e) nan p h = p
+nan-sub f (fin s n e) (inf t) p h = h
+nan-sub f (fin s n e) (fin t o c) p h = h
+
+pub descent : (f : Format) (k t c d : Float) → T (positive k) → T (fits f c) → T (lt zero⁺ d) ⊎ T (isNan d) → T (le t (sub f c (mul f k d))) → T (le t c)
+descent f k t c d p q (inl u) h = le-trans t (sub f c (mul f k d)) c h (sub-le f c (mul f k d) q (mul-nonneg f k d p (lt→le zero⁺ d u)) (le-num-r t (sub f c (mul f k d)) h))
+descent f k t c d p q (inr u) h = absurd (nan-sub f c (mul f k d) (le-num-r t (sub f c (mul f k d)) h) (nan-mul f k d p u))

@@ -108,7 +108,7 @@ round-keeps f true a c false b d C D h =
 round-keeps f true a c true b d C D h =
     subst (λ (z : Float). T (le z (round f true b d))) (sym (round-neg f a c)) (subst (λ (z : Float). T (le (neg (round f false a c)) z)) (sym (round-neg f b d)) (neg-anti (round f false b d) (round f false a c) (round-mono f b d a c D C (omega arith))))
 
--- ---- `Is f x p u c`: x is (p - u) / c, rounded
+-- ---- `Rounded f x p u c`: x is (p - u) / c, rounded
 pub record Rounded (f : Format) (x : Float) (p u c : ℕ) : Type 0 where
   pub sign : Bool
   pub size : ℕ

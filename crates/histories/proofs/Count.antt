@@ -1,7 +1,7 @@
 -- A search asks for at most 82 points. Assumes nothing.
 use mathlib.Core.Path.{_≡_, refl}
 use mathlib.Core.Bool.{Bool, true, false, not}
-use mathlib.Core.List.{List, [], _∷_}
+use mathlib.Core.List.{List}
 use Prim.Native.Nat.{ℕ, _+_, _-_, _≤_, _<_}
 use native.Mathlib.Omega.{arith}
 use lib.ListN.{length}
@@ -17,7 +17,8 @@ use Rattle.mode.specs.declared.population_focei.Search.{Search}
 use Rattle.mode.specs.declared.population_focei.Request.{Request}
 use Rattle.mode.specs.declared.population_focei.Request.the-variants.{Point, Mode, Refused}
 use Rattle.mode.specs.Rules.{nought, requestAt, request, advanceAt, advance, tried, screened, chosen, entered, firstStage, start, midpoint, gridPoint, settled, isAbove, isUnder}
-use Rattle.histories.specs.History.{FollowsFrom, Follows, afterFrom, after, asks}
+use Rattle.histories.specs.History.{Answers, Follows, after, asks}
+use Rattle.histories.proofs.Ceiling.{Fewer, at-most}
 use Rattle.histories.proofs.Trials.{isPoint, point-true}
 
 -- at this stage and count at most n more are asked
@@ -108,15 +109,12 @@ asks-none (Point p) n h = h tt
 asks-none Mode n h = omega arith
 asks-none (Refused k) n h = omega arith
 
-pub asked-from : (s : Settings) (h : List Conditional) (x : Search) (n : ℕ) → Room (x .stage) (x .count) n → FollowsFrom s x h → length h + asks (request s (afterFrom s x h)) ≤ n
-unfolding FollowsFrom afterFrom
-asked-from s [] x n r f = let k = asks-none (request s x) n (room-pos (x .stage) s x n r) in omega arith
-asked-from s (c ∷ h) x n r f =
-    let q = point-true (request s x) (c .eta) (f .0 .asked) in
-    let p = room-pos (x .stage) s x n r q in
-    let k = asked-from s h (advance s x c) (n - 1) (room-step (x .stage) s x c n r q) (f .1) in
-    omega arith
+room-next : (s : Settings) (n : ℕ) (x : Search) (c : Conditional) → RoomOf n x → Answers (request s x) c → Fewer RoomOf n (advance s x c)
+room-next s n x c r a =
+    let p = point-true (request s x) (c .eta) (a .asked) in
+    (room-pos (x .stage) s x n r p, room-step (x .stage) s x c n r p)
 
 -- no more than 82 are asked, the one that is awaited counted
 pub at-most-82 : (s : Settings) (h : List Conditional) → Follows s h → length h + asks (request s (after s h)) ≤ 82
-at-most-82 s h f = asked-from s h start 82 (unfold start in (lit≤ tt, lit≤ tt)) f
+unfolding start
+at-most-82 s h f = at-most Answers (request s) (advance s) asks RoomOf (λ n x r. asks-none (request s x) n (room-pos (x .stage) s x n r)) (room-next s) h start 82 (lit≤ tt, lit≤ tt) f

@@ -14,7 +14,8 @@ use Rattle.mode.specs.declared.population_focei.Conditional.{Conditional}
 use Rattle.mode.specs.declared.population_focei.Stage.the-variants.{Grid}
 use Rattle.mode.specs.declared.population_focei.Search.{Search}
 use Rattle.mode.specs.Rules.{nought, request, advance, screened, firstScore, fell, start, gridPoint, isAbove, isUnder, isCloser}
-use Rattle.histories.specs.History.{Domain, Answers, FollowsFrom, Follows, afterFrom, after, Cell, gridFrom, etas, upwardFrom, upward}
+use Rattle.histories.specs.Histories.{ledFrom, Answered}
+use Rattle.histories.specs.History.{Domain, Answers, Follows, afterFrom, after, Cell, gridFrom, etas, upwardFrom, upward}
 use Rattle.histories.specs.Claim.{Found, OneSearch}
 use Rattle.histories.proofs.Trials.{isMode, mode-true}
 use Rattle.histories.proofs.Count.{at-most-82}
@@ -94,7 +95,7 @@ first-bad c e = inl e
 
 -- ---- the claim
 found : (s : Settings) (d : Domain s) (h : List Conditional) → Follows s h → T (isMode (request s (after s h))) → Found s h (after s h .best)
-unfolding FollowsFrom afterFrom etas gridFrom upward screened start
+unfolding Answered ledFrom etas gridFrom upward screened start
 found s d [] f m = absurd (grid-no-mode s start refl m)
 found s d (c ∷ h) f m =
     let y = advance s start c in

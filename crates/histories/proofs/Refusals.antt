@@ -17,6 +17,7 @@ use Rattle.mode.specs.declared.population_focei.Search.{Search}
 use Rattle.mode.specs.declared.population_focei.Request.{Request}
 use Rattle.mode.specs.declared.population_focei.Request.the-variants.{Point, Mode, Refused}
 use Rattle.mode.specs.Rules.{nought, nowhere, requestAt, request, advanceAt, advance, screened, fell, firstScore, firstStage, entered, chosen, tried, start, gridPoint, isAbove, isUnder}
+use Rattle.histories.specs.Histories.{ledFrom, Answered}
 use Rattle.histories.specs.History.{FollowsFrom, Follows, afterFrom, after, etas, gridFrom}
 use Rattle.histories.specs.Claim.{firstOf, lastFrom, fallsFrom, AtBound, Several}
 use Rattle.float64.proofs.Order.{num?, lt→le, of-true}
@@ -50,7 +51,7 @@ past-stays Secant s x c e p = both (λ (y : Search). T (pastGrid (y .stage))) _ 
 past-stays Halving s x c e p = both (λ (y : Search). T (pastGrid (y .stage))) _ tt (subst (λ (t : Stage). T (pastGrid t)) e tt)
 
 past : (s : Settings) (h : List Conditional) (x : Search) → T (pastGrid (x .stage)) → T (isScreen (request s (afterFrom s x h))) → ⊥
-unfolding afterFrom
+unfolding ledFrom
 past s [] x p q = T-not (isScreen (request s x)) (past-no-screen (x .stage) s x p) q
 past s (c ∷ h) x p q = past s h (advance s x c) (past-stays (x .stage) s x c refl p) q
 
@@ -143,7 +144,7 @@ grid-not-screen s x e k q =
     subst (λ (r : Request). T (isScreen r)) (ap (λ (t : Stage). requestAt t s x) e ∙ pick-yes (ltb (x .count) 17) _ _ (lt-ltb (x .count) 17 k)) q
 
 run : (s : Settings) (n : ℕ) (h : List Conditional) (x : Search) → x .stage ≡ Grid → 1 ≤ x .count → x .count + n ≡ 17 → (17 ≤ x .count → Why x) → Rose x → FollowsFrom s x h → T (isScreen (request s (afterFrom s x h))) → Run s n x h (afterFrom s x h)
-unfolding FollowsFrom afterFrom etas gridFrom lastFrom fallsFrom pick
+unfolding Answered ledFrom etas gridFrom lastFrom fallsFrom pick
 run s zero [] x e k i w o f q = record { rose = o; grid = refl; stage = e; full = omega arith; first = refl; latest = refl; fall = refl; why = w (omega arith) }
 run s zero (c ∷ h) x e k i w o f q = let j = grid-asked s x c e (f .0) .0 in absurd (omega arith)
 run s (suc n) [] x e k i w o f q = absurd (grid-not-screen s x e (omega arith) q)
@@ -211,7 +212,7 @@ rose-first c n =
     above-le c h = lt→le nought (c .score) (unfold isAbove in h)
 
 whole : (s : Settings) (h : List Conditional) → Follows s h → T (isScreen (request s (after s h))) → Whole s h (after s h)
-unfolding FollowsFrom afterFrom
+unfolding Answered ledFrom
 whole s [] f q = absurd (grid-not-screen s start (unfold start in refl) (unfold start in lit< tt) q)
 whole s (c ∷ h) f q =
     let e : start .stage ≡ Grid = unfold start in refl in

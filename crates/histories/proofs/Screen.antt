@@ -20,6 +20,7 @@ use Rattle.mode.specs.declared.population_focei.Search.{Search}
 use Rattle.mode.specs.declared.population_focei.Request.{Request}
 use Rattle.mode.specs.declared.population_focei.Request.the-variants.{Point, Refused}
 use Rattle.mode.specs.Rules.{nought, requestAt, request, advanceAt, advance, tried, screened, chosen, entered, firstScore, fell, firstStage, gridPoint, isAbove, isUnder, isCloser}
+use Rattle.histories.specs.Histories.{ledFrom, Answered}
 use Rattle.histories.specs.History.{Domain, Answers, FollowsFrom, afterFrom, Cell, gridFrom, etas, upwardFrom, narrowed}
 use Rattle.histories.proofs.Trials.{nought-num, isMode, pointOf, point-true, Good, Inside, better-l, better-r, keep, later, Ends, cellIn, ends-step, trials}
 use Rattle.histories.proofs.Count.{on-grid}
@@ -50,7 +51,7 @@ side c n =
 -- ---- the warm start and the trials
 warm-trials : (s : Settings) (d : Domain s) (a z : Float) (h : List Conditional) (x : Search) → x .stage ≡ Warm → T (lt (x .left .eta) (s .warm)) → T (lt (s .warm) (x .right .eta)) → Good a z (x .left) (x .right) (x .best) → FollowsFrom s x h
     → T (isMode (request s (afterFrom s x h))) → Ends s a z (cellIn x) (x .best) h (afterFrom s x h .best)
-unfolding FollowsFrom afterFrom requestAt advanceAt tried narrowed
+unfolding Answered ledFrom requestAt advanceAt tried narrowed
 warm-trials s d a z [] x e p q g f m = absurd (subst (λ (t : Stage). T (isMode (requestAt t s x))) e m)
 warm-trials s d a z (c ∷ h) x e p q g f m =
     let y = advance s x c in
@@ -183,7 +184,7 @@ keeps-bad x c h (inr e) = inr (fell (isAbove (x .latest)) (isUnder c) (x .fall) 
 
 -- ---- a search that is bound for 13 or 14 never tells a mode
 pub doomed : (s : Settings) (h : List Conditional) (x : Search) → x .stage ≡ Grid → 1 ≤ x .count → Bad x → FollowsFrom s x h → T (isMode (request s (afterFrom s x h))) → ⊥
-unfolding FollowsFrom afterFrom
+unfolding Answered ledFrom
 doomed s [] x e n b f m = grid-no-mode s x e m
 doomed s (c ∷ h) x e n b f m =
     let b' : Bad (screened x c) = keeps-bad x c n b in
@@ -198,7 +199,7 @@ doomed s (c ∷ h) x e n b f m =
 
 -- and so one that is on the grid with all points evaluated
 stuck : (s : Settings) (h : List Conditional) (x : Search) → x .stage ≡ Grid → 17 ≤ x .count → FollowsFrom s x h → T (isMode (request s (afterFrom s x h))) → ⊥
-unfolding FollowsFrom afterFrom
+unfolding Answered ledFrom
 stuck s [] x e n f m = grid-no-mode s x e m
 stuck s (c ∷ h) x e n f m = let k = grid-asked s x c e (f .0) .0 in omega arith
 
@@ -374,7 +375,7 @@ below-next s n x c b e q p u =
 -- ---- to the end: once the cell is met, no other is
 onward : (s : Settings) (d : Domain s) (n : ℕ) (h : List Conditional) (y z : Search) → Above n y → z ≡ chosen s y → FollowsFrom s z h → T (isMode (request s (afterFrom s z h)))
     → Rest s n (y .count) (y .latest) [] (cellIn y) h (afterFrom s z h .best)
-unfolding FollowsFrom afterFrom screened
+unfolding Answered ledFrom screened
 onward s d zero h y z a e f m =
     let k = a .number in
     let q : z ≡ entered s y = e ∙ enters s y (omega arith) (a .firstBelow) (a .notUnder) (a .noFall) (rises (cellIn y) (a .good)) in
@@ -403,7 +404,7 @@ onward s d (suc n) (c ∷ h) y z a e f m =
 -- until the cell is met
 pub climbing : (s : Settings) (d : Domain s) (n : ℕ) (h : List Conditional) (x : Search) → Below s n x → FollowsFrom s x h → T (isMode (request s (afterFrom s x h)))
     → (k : Cell) × Rest s n (x .count) (x .latest) (k ∷ []) k h (afterFrom s x h .best)
-unfolding FollowsFrom afterFrom screened
+unfolding Answered ledFrom screened
 climbing s d zero h x b f m = let k = b .number in absurd (stuck s h x (b .onGrid) (omega arith) f m)
 climbing s d (suc n) [] x b f m = absurd (grid-no-mode s x (b .onGrid) m)
 climbing s d (suc n) (c ∷ h) x b f m =

@@ -24,6 +24,7 @@ use Rattle.mode.specs.declared.population_focei.Search.{Search}
 use Rattle.mode.specs.declared.population_focei.Request.{Request}
 use Rattle.mode.specs.declared.population_focei.Request.the-variants.{Point, Mode, Refused}
 use Rattle.mode.specs.Rules.{nought, requestAt, request, advanceAt, advance, tried, secantPoint, midpoint, settled, isAbove, isUnder, isCloser}
+use Rattle.histories.specs.Histories.{ledFrom, Answered}
 use Rattle.histories.specs.History.{Domain, Answers, FollowsFrom, afterFrom, Cell, narrowed, bracketFrom}
 use Rattle.histories.specs.Claim.{InBracket}
 
@@ -324,7 +325,7 @@ ends-step s a z k b c h m i w = record { inBracket = (i .aboveL, i .belowR, w .i
 
 pub trials : (s : Settings) (d : Domain s) (a z : Float) (h : List Conditional) (x : Search) → T (later (x .stage)) → Good a z (x .left) (x .right) (x .best) → FollowsFrom s x h → T (isMode (request s (afterFrom s x h)))
     → Ends s a z (cellIn x) (x .best) h (afterFrom s x h .best)
-unfolding FollowsFrom afterFrom bracketFrom tried narrowed InBracket
+unfolding Answered ledFrom bracketFrom tried narrowed InBracket
 trials s d a z [] x p g f m = record { inBracket = tt; inLeft = g .inL; inRight = g .inR; isSettled = mode-settled (x .stage) p s x m; bestLeft = g .bestL; bestRight = g .bestR; bracketLow = g .cellL; bracketOrder = g .order; bracketHigh = g .cellR; leftUnder = g .signL; rightAbove = g .signR; source = inl refl }
 trials s d a z (c ∷ h) x p g f m =
     let y = advance s x c in

@@ -1,4 +1,4 @@
--- Histories of the one-effect search. A history is the list of the evaluated points that a search was given, in their order.
+-- Histories of the one-effect search, and what is read from one.
 use mathlib.Core.Path.{_≡_}
 use mathlib.Core.List.{List, [], _∷_}
 use Prim.Native.Nat.{ℕ, zero, suc, _+_}
@@ -13,6 +13,7 @@ use Rattle.mode.specs.declared.population_focei.Search.{Search}
 use Rattle.mode.specs.declared.population_focei.Request.{Request}
 use Rattle.mode.specs.declared.population_focei.Request.the-variants.{Point, Mode, Refused}
 use Rattle.mode.specs.Rules.{request, advance, start, gridPoint, tightest, loosest, isAbove, isUnder}
+use Rattle.histories.specs.Histories.{ledFrom, Answered}
 
 -- ---- document 01's domain: eta_bound 2^-10 to 16, omega 2^-20 to 2^20, the tolerance as `etaTolerance` gives it, any warm start.
 -- Each is a float of the format, as every value of the code is.
@@ -27,23 +28,21 @@ pub record Domain (s : Settings) : Type 0 where
   pub fitsWarm : T (fits binary64 (s .warm))
 
 -- ---- a history of the rules
-unfoldable pub afterFrom : Settings → Search → List Conditional → Search
-afterFrom s x [] = x
-afterFrom s x (c ∷ h) = afterFrom s (advance s x c) h
-
--- the search that the history leads to
-abbrev pub after : Settings → List Conditional → Search
-after s h = afterFrom s start h
-
 -- c is an evaluation of the point that was asked for. A point that is NaN gets 7 and is never evaluated, and no score of a session is NaN.
 pub record Answers (q : Request) (c : Conditional) : Type 0 where
   pub asked : q ≡ Point (c .eta)
   pub etaNumber : T (not (isNan (c .eta)))
   pub scoreNumber : T (not (isNan (c .score)))
 
-unfoldable pub FollowsFrom : Settings → Search → List Conditional → Type 0
-FollowsFrom s x [] = Unit
-FollowsFrom s x (c ∷ h) = Answers (request s x) c × FollowsFrom s (advance s x c) h
+abbrev pub afterFrom : Settings → Search → List Conditional → Search
+afterFrom s x h = ledFrom (advance s) x h
+
+abbrev pub FollowsFrom : Settings → Search → List Conditional → Type 0
+FollowsFrom s x h = Answered Answers (request s) (advance s) x h
+
+-- the search that the history leads to
+abbrev pub after : Settings → List Conditional → Search
+after s h = afterFrom s start h
 
 -- the history follows the rules: each point is the one that was asked for
 abbrev pub Follows : Settings → List Conditional → Type 0

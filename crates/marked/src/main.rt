@@ -108,7 +108,7 @@ fn asked_at(count: u64) -> f64
         0,
     ];
     let mut point = 0.0;
-    curlewstand::mode_search::curlewstand_mode_request(4.0, 1.0, 1e-8, 0.0, &search, &mut point);
+    searches::mode_search::curlewstand_mode_request(4.0, 1.0, 1e-8, 0.0, &search, &mut point);
     point
 }
 
@@ -122,11 +122,11 @@ fn grid() {
 // The tolerance from 1e-3: 1e-8; from 1e-9: 1e-12.
 fn tolerance() {
     check::expect(
-        float64::to_word(curlewstand::mode_search::curlewstand_eta_tolerance(1e-3))
+        float64::to_word(searches::mode_search::curlewstand_eta_tolerance(1e-3))
             == 0x3e45_798e_e230_8c3a,
     );
     check::expect(
-        float64::to_word(curlewstand::mode_search::curlewstand_eta_tolerance(1e-9))
+        float64::to_word(searches::mode_search::curlewstand_eta_tolerance(1e-9))
             == 0x3d71_9799_812d_ea11,
     );
 }

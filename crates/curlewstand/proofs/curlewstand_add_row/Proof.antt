@@ -2,7 +2,8 @@
 use borrow.Author.Needs.{needs}
 use mathlib.Core.Path.{sym, ap, _∙_}
 use Rattle.likelihood.specs.Row2.{answer}
-use Rattle.curlewstand.specs.Leaves.{observationOf, numberOf, added, addRow}
+use Rattle.float64.specs.Answer.{numberOf}
+use Rattle.curlewstand.specs.Leaves.{observationOf, added, addRow}
 use Rattle.curlewstand.proofs.curlewstand_add_row.Statement.{statement}
 use Rattle.curlewstand.proofs.curlewstand_add_row.Tie as tie
 

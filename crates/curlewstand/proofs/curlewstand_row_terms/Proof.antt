@@ -2,7 +2,8 @@
 use borrow.Author.Needs.{needs}
 use mathlib.Core.Path.{sym, ap, _∙_}
 use Rattle.likelihood.specs.RowTerms.{answer}
-use Rattle.curlewstand.specs.Leaves.{observationOf, numberOf, termsOr}
+use Rattle.float64.specs.Answer.{numberOf}
+use Rattle.curlewstand.specs.Leaves.{observationOf, termsOr}
 use Rattle.curlewstand.proofs.curlewstand_row_terms.Statement.{statement}
 use Rattle.curlewstand.proofs.curlewstand_row_terms.Tie as tie
 

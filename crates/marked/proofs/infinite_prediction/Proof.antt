@@ -1,8 +1,8 @@
 -- `marked::infinite_prediction` is proved: its check is a fact of the table. Assumes nothing.
 use borrow.Author.Tests.{eq-eqb}
 use mathlib.Core.Path.{ap, _∙_}
+use Rattle.float64.specs.Answer.{numberOf}
 use Rattle.marked.proofs.Table.{marked}
-use Rattle.curlewstand.specs.Leaves.{numberOf}
 use lib.Ieee.{nanBits, ofBits}
 use mathlib.Core.Bool.{false}
 use borrow.Author.Needs.{needs}

@@ -3,7 +3,8 @@ use borrow.Author.Tests.{eq-eqb}
 use mathlib.Core.Path.{ap, _∙_}
 use Rattle.marked.proofs.Table.{marked}
 use Rattle.marked.proofs.Laws.{term-word}
-use Rattle.curlewstand.specs.Leaves.{numberOf, termsOr}
+use Rattle.float64.specs.Answer.{numberOf}
+use Rattle.curlewstand.specs.Leaves.{termsOr}
 use lib.Ieee.{ofBits, toBits}
 use borrow.Author.Needs.{needs}
 use Rattle.marked.proofs.proportional_row.Statement.{statement}

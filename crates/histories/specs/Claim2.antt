@@ -1,0 +1,90 @@
+-- What is claimed of one search with two effects, over every history of its rules.
+use mathlib.Core.Path.{_≡_}
+use mathlib.Core.Logic.{_⊎_}
+use mathlib.Core.Bool.{true, false}
+use mathlib.Core.List.{List, [], _∷_, List·Memᴰ}
+use Prim.Native.Nat.{ℕ, _+_, _≤_}
+use lib.ListN.{length}
+use lib.Dec.{T}
+use lib.Ieee.{Float, le}
+use Rattle.float64.specs.Arithmetic.{word}
+use Rattle.matrix.specs.Matrix.{none, inversePositive}
+use Rattle.mode_2d.specs.declared.population_focei_2d.Settings2.{Settings2}
+use Rattle.mode_2d.specs.declared.population_focei_2d.Conditional2.{Conditional2}
+use Rattle.mode_2d.specs.declared.population_focei_2d.Request2.the-variants.{Mode, Refused}
+use Rattle.mode_2d.specs.Rules.{request, joint, curvature, isUnresolved, isFar, better, nowhere}
+use Rattle.histories.specs.History2.{Within, Accepted, Follows, after, asks, etas, startPointsFrom, starts, candidates}
+
+-- joint at a is at most that at b
+abbrev pub NoHigher : Settings2 → Conditional2 → Conditional2 → Type 0
+NoHigher s a b = T (le (joint s a) (joint s b))
+
+-- each candidate's joint is at most that at its own start
+unfoldable pub EachNoHigher : Settings2 → List Conditional2 → List Conditional2 → Type 0
+EachNoHigher s [] [] = Unit
+EachNoHigher s [] (t ∷ l) = ⊥
+EachNoHigher s (c ∷ q) [] = ⊥
+EachNoHigher s (c ∷ q) (t ∷ l) = NoHigher s c t × EachNoHigher s q l
+
+-- each candidate, the k-th first, passes 13, and 14 against the best so far, b; and the best of all is m, the earlier at ties
+unfoldable pub Pass : Settings2 → ℕ → Conditional2 → List Conditional2 → Conditional2 → Type 0
+Pass s k b [] m = m ≡ b
+Pass s k b (c ∷ q) m = (isUnresolved s c ≡ false) × ((isFar k c b ≡ false) × Pass s (k + 1) (better s k c b) q m)
+
+-- the mode m of a history h
+pub record Found2 (s : Settings2) (h : List Conditional2) (m : Conditional2) : Type 0 where
+  -- all six starts were tried
+  pub isStarts : etas (starts s h) ≡ startPointsFrom s 6 0
+  -- and came to six candidates, which passed 13 and 14 in their order; the mode is the best of them
+  pub six : length (candidates s h) ≡ 6
+  pub pass : Pass s 0 nowhere (candidates s h) m
+  -- the mode is one of the points tried
+  pub member : List·Memᴰ m h
+  -- its joint is at most that at each of the six starts
+  pub lowest : (t : Conditional2) → List·Memᴰ t (starts s h) → NoHigher s m t
+  -- and each candidate's is at most that at its own start
+  pub each : EachNoHigher s (candidates s h) (starts s h)
+
+-- ---- refused
+-- 13: a candidate is unresolved
+pub record Unresolved (s : Settings2) (h : List Conditional2) : Type 0 where
+  pub candidate : Conditional2
+  pub member : List·Memᴰ candidate h
+  pub isSo : isUnresolved s candidate ≡ true
+
+-- 14: a candidate that is not the first is far from the best so far
+pub record Several (h : List Conditional2) : Type 0 where
+  pub candidate : Conditional2
+  pub best : Conditional2
+  pub members : List·Memᴰ candidate h × List·Memᴰ best h
+  pub isSo : isFar 1 candidate best ≡ true
+
+-- 16: at a point of a round the curvature has no inverse
+pub record NoInverse (s : Settings2) (h : List Conditional2) : Type 0 where
+  pub point : Conditional2
+  pub member : List·Memᴰ point h
+  pub isSo : inversePositive (curvature s point) ≡ none
+
+-- what holds of every history h that follows the rules
+pub record Searched2 (s : Settings2) (h : List Conditional2) : Type 0 where
+  -- at most 6,343 points are asked, the one that is awaited counted
+  pub atMost : length h + asks (request s (after s h)) ≤ 6343
+  pub found : request s (after s h) ≡ Mode → Found2 s h (after s h .best)
+  pub unresolved : request s (after s h) ≡ Refused 13 → Unresolved s h
+  pub several : request s (after s h) ≡ Refused 14 → Several h
+  pub noInverse : request s (after s h) ≡ Refused 16 → NoInverse s h
+  -- there is no other number
+  pub numbers : (n : ℕ) → request s (after s h) ≡ Refused n → (n ≡ 13) ⊎ ((n ≡ 14) ⊎ (n ≡ 16))
+
+abbrev pub TwoSearch : Type 0
+TwoSearch = (omega : List (List Float)) (s : Settings2) → Accepted omega s → (h : List Conditional2) → Follows s h → Searched2 s h
+
+-- the bound on the precision: entries from -2^101 to 2^101
+pub record Bounded (s : Settings2) : Type 0 where
+  pub within00 : Within (word 0x4640_0000_0000_0000) (s .p00)
+  pub within01 : Within (word 0x4640_0000_0000_0000) (s .p01)
+  pub within10 : Within (word 0x4640_0000_0000_0000) (s .p10)
+  pub within11 : Within (word 0x4640_0000_0000_0000) (s .p11)
+
+abbrev pub PrecisionBound : Type 0
+PrecisionBound = (omega : List (List Float)) (s : Settings2) → Accepted omega s → Bounded s

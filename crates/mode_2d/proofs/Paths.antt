@@ -1,0 +1,119 @@
+-- The ways through the loop of `next_reduction`, through `descend`, `Search2::request` and `Search2::advance`: one law for each, over plain variables. Assumes nothing.
+use mathlib.Core.Path.{_≡_, refl, sym, ap, _∙_}
+use mathlib.Core.Bool.{Bool, true, false}
+use mathlib.Core.List.{List}
+use Prim.Native.Nat.{ℕ, suc, _+_, _-_, _<_, _≤_}
+use native.Mathlib.Omega.{arith}
+use lib.Ieee.{Float}
+use Rattle.float64.specs.Pick.{pick, yesOf, noOf}
+use Rattle.matrix.specs.Matrix.{Inverse, inverse, answer, inversePositive}
+use Rattle.matrix.specs.declared.InversePositive.{InversePositive}
+use Rattle.matrix.specs.declared.InversePositive.the-variants.{Exists, None}
+use Rattle.mode_2d.specs.declared.population_focei_2d.Pair.{Pair}
+use Rattle.mode_2d.specs.declared.population_focei_2d.Settings2.{Settings2}
+use Rattle.mode_2d.specs.declared.population_focei_2d.Conditional2.{Conditional2}
+use Rattle.mode_2d.specs.declared.population_focei_2d.NewtonStep.{NewtonStep}
+use Rattle.mode_2d.specs.declared.population_focei_2d.Stage2.{Stage2}
+use Rattle.mode_2d.specs.declared.population_focei_2d.Stage2.the-variants.{Zero, Start, Trial, Found, Halted}
+use Rattle.mode_2d.specs.declared.population_focei_2d.Search2.{Search2}
+use Rattle.mode_2d.specs.declared.population_focei_2d.Request2.{Request2}
+use Rattle.mode_2d.specs.declared.population_focei_2d.Request2.the-variants.{Point, Mode, Refused}
+use Rattle.mode_2d.specs.Rules.{nought, of, curvature, stepBy, isPassedOver, nextReduction, isTaken, startPoint, between, tryFrom, descendBy, descend, beginRound, take, leave, requestAt, request, advanceAt, advance}
+
+-- ---- the loop's turn at a reduction; b is what `is_passed_over` answered, a the loop's answer
+pub fewer-left : (reduction : ℕ) → reduction < 22 → 22 - (reduction + 1) < 22 - reduction
+fewer-left reduction h = omega arith
+
+one-more : (reduction : ℕ) → reduction < 22 → suc (22 - (reduction + 1)) ≡ 22 - reduction
+one-more reduction h = omega arith
+
+no-more : (reduction : ℕ) → 22 ≤ reduction → 0 ≡ 22 - reduction
+no-more reduction h = omega arith
+
+-- what the loop answers from a reduction on
+abbrev pub nextFrom : Float → NewtonStep → ℕ → ℕ
+nextFrom eta-bound step reduction = nextReduction eta-bound step (22 - reduction) reduction
+
+module _ (eta-bound : Float) (step : NewtonStep) (reduction : ℕ) where
+  turn : reduction < 22 → pick (isPassedOver eta-bound step reduction) (nextFrom eta-bound step (reduction + 1)) reduction ≡ nextFrom eta-bound step reduction
+  unfolding nextReduction
+  turn h = ap (λ (n : ℕ). nextReduction eta-bound step n reduction) (one-more reduction h)
+
+  pub passed-over : {b : Bool} {a : ℕ} → reduction < 22 → b ≡ isPassedOver eta-bound step reduction → b ≡ true → nextFrom eta-bound step reduction ≡ a → nextFrom eta-bound step (reduction + 1) ≡ a
+  passed-over h e t q = yesOf _ e t refl ∙ turn h ∙ q
+
+  pub stops-here : {b : Bool} {a : ℕ} → reduction < 22 → b ≡ isPassedOver eta-bound step reduction → b ≡ false → nextFrom eta-bound step reduction ≡ a → reduction ≡ a
+  stops-here h e t q = noOf _ e t refl ∙ turn h ∙ q
+
+  pub all-passed : {a : ℕ} → 22 ≤ reduction → nextFrom eta-bound step reduction ≡ a → reduction ≡ a
+  unfolding nextReduction
+  all-passed h q = ap (λ (n : ℕ). nextReduction eta-bound step n reduction) (no-more reduction h) ∙ q
+
+-- ---- a round; m is the curvature, r what `inverse_positive` answered, z the search afterwards
+module _ (s : Settings2) (seed round from : ℕ) (c best : Conditional2) where
+  descended : {m : List (List Float)} {r variant : InversePositive} {z : Search2} → m ≡ curvature s c → answer m r ≡ inversePositive m → r ≡ variant → z ≡ descendBy (answer m variant) s seed round from c best → z ≡ descend s seed round from c best
+  unfolding descend
+  descended {m} k e v q =
+      q ∙ ap (λ (i : Inverse). descendBy i s seed round from c best) (sym (ap (answer m) v) ∙ e ∙ ap inversePositive k)
+
+  pub goes-down : {m i : List (List Float)} {r : InversePositive} {det : Float} {step : NewtonStep} {z : Search2} → m ≡ curvature s c → answer m r ≡ inversePositive m → r ≡ Exists det → i ≡ inverse m det → step ≡ stepBy s c i → z ≡ tryFrom s seed round from c best step → z ≡ descend s seed round from c best
+  unfolding descendBy answer
+  goes-down k e v f g q = descended k e v (q ∙ ap (tryFrom s seed round from c best) (g ∙ ap (stepBy s c) f))
+
+  pub no-inverse : {m : List (List Float)} {r : InversePositive} {z : Search2} → m ≡ curvature s c → answer m r ≡ inversePositive m → r ≡ None → z ≡ between (Halted 16) seed c best → z ≡ descend s seed round from c best
+  unfolding descendBy answer
+  no-inverse k e v q = descended k e v q
+
+module _ (s : Settings2) (x : Search2) where
+  -- ---- what is asked; p is the point
+  asked : {stage : Stage2} {z : Request2} → x .stage ≡ stage → z ≡ requestAt stage s x → z ≡ request s x
+  asked e q = q ∙ sym (ap (λ (stage : Stage2). requestAt stage s x) e)
+
+  pub zero-asks : x .stage ≡ Zero → Point (of nought nought) ≡ request s x
+  unfolding requestAt
+  zero-asks e = asked e refl
+
+  pub start-asks : {p : Pair} → x .stage ≡ Start → p ≡ startPoint s (x .seed) → Point p ≡ request s x
+  unfolding requestAt
+  start-asks e q = asked e (ap Point q)
+
+  pub trial-asks : x .stage ≡ Trial → Point (x .trial) ≡ request s x
+  unfolding requestAt
+  trial-asks e = asked e refl
+
+  pub found-mode : x .stage ≡ Found → Mode ≡ request s x
+  unfolding requestAt
+  found-mode e = asked e refl
+
+  pub halted-refuses : {number : ℕ} → x .stage ≡ Halted number → Refused number ≡ request s x
+  unfolding requestAt
+  halted-refuses e = asked e refl
+
+  -- ---- what an evaluated point makes of the search; z is the search afterwards
+  module _ (c : Conditional2) where
+    advanced : {stage : Stage2} {z : Search2} → x .stage ≡ stage → z ≡ advanceAt stage s x c → z ≡ advance s x c
+    advanced e q = q ∙ sym (ap (λ (stage : Stage2). advanceAt stage s x c) e)
+
+    pub on-zero : {z : Search2} → x .stage ≡ Zero → z ≡ between Start 0 c c → z ≡ advance s x c
+    unfolding advanceAt
+    on-zero e q = advanced e q
+
+    pub on-start : {z : Search2} → x .stage ≡ Start → z ≡ beginRound s (x .seed) 0 c (x .best) → z ≡ advance s x c
+    unfolding advanceAt
+    on-start e q = advanced e q
+
+    pub on-taken : {b : Bool} {z : Search2} → x .stage ≡ Trial → b ≡ isTaken s x c → b ≡ true → z ≡ take s x c → z ≡ advance s x c
+    unfolding advanceAt
+    on-taken e h t q = advanced e (yesOf _ h t q)
+
+    pub on-left : {b : Bool} {z : Search2} → x .stage ≡ Trial → b ≡ isTaken s x c → b ≡ false → z ≡ leave s x → z ≡ advance s x c
+    unfolding advanceAt
+    on-left e h t q = advanced e (noOf _ h t q)
+
+    pub on-found : x .stage ≡ Found → x ≡ advance s x c
+    unfolding advanceAt
+    on-found e = advanced e refl
+
+    pub on-halted : {number : ℕ} → x .stage ≡ Halted number → x ≡ advance s x c
+    unfolding advanceAt
+    on-halted e = advanced e refl

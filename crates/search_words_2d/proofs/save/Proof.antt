@@ -1,0 +1,80 @@
+-- `save` meets its contract. Assumes nothing.
+use borrow.Author.Needs.{needs}
+use mathlib.Core.Path.{_≡_}
+use mathlib.Core.List.{List, [], _∷_}
+use Prim.Native.Nat.{ℕ, _<_}
+use lib.Dec.{T, ltb, lit<}
+use lib.ListN.{getD}
+use Rattle.float64.proofs.Laws.{free}
+use Rattle.mode_2d.specs.declared.population_focei_2d.Search2.{Search2}
+use Rattle.search_words_2d.specs.SearchWords2.{bits, wordsOf, stageWord, saved}
+use Rattle.search_words_2d.proofs.save.Statement.{statement}
+use Rattle.search_words_2d.proofs.save.Tie as tie
+
+-- at any place of the code, an index below 9
+at : {C : Type 0} (i : ℕ) → T (ltb i 9) → C → i < 9
+at i h c = lit< h
+
+-- the words, by what the calls answered
+abbrev nine : List ℕ → List ℕ → List ℕ
+nine l rest =
+    getD l 0 0 ∷ getD l 1 0 ∷ getD l 2 0 ∷ getD l 3 0 ∷ getD l 4 0 ∷ getD l 5 0 ∷ getD l 6 0 ∷ getD l 7 0 ∷ getD l 8 0 ∷ rest
+
+laid :
+    (x : Search2) {stage first second decrease : ℕ} {current best : List ℕ} →
+    stage ≡ stageWord (x .stage) → current ≡ wordsOf (x .current) → first ≡ bits (x .trial .first) → second ≡ bits (x .trial .second) →
+    decrease ≡ bits (x .decrease) → best ≡ wordsOf (x .best) →
+    stage ∷ x .seed ∷ x .round ∷ x .reduction ∷ nine current (first ∷ second ∷ decrease ∷ nine best []) ≡ saved x
+unfolding saved wordsOf
+laid x s c f g d b = rw (s, c, f, g, d, b)
+
+cast-seed : tie.Need-cast-seed
+cast-seed c = search needs
+
+cast-round : tie.Need-cast-round
+cast-round c = search needs
+
+cast-reduction : tie.Need-cast-reduction
+cast-reduction c = search needs
+
+returns : tie.Need-returns
+returns c =
+    let decrease = c .before in
+    let second = decrease .before in
+    let first = second .before in
+    let current = first .before in
+    laid _ (current .before .before .before .before .stage-word .ensures) (current .words-of .ensures) (first .to-word .ensures) (second .to-word2 .ensures) (decrease .to-word3 .ensures)
+    (c .words-of2 .ensures)
+
+pub save-spec : {M : Type 1} → statement M
+save-spec =
+    tie.close
+    (tie.spec
+    free
+    cast-seed
+    cast-round
+    cast-reduction
+    free
+    free
+    free
+    free
+    free
+    (at 0 tt)
+    (at 1 tt)
+    (at 2 tt)
+    (at 3 tt)
+    (at 4 tt)
+    (at 5 tt)
+    (at 6 tt)
+    (at 7 tt)
+    (at 8 tt)
+    (at 0 tt)
+    (at 1 tt)
+    (at 2 tt)
+    (at 3 tt)
+    (at 4 tt)
+    (at 5 tt)
+    (at 6 tt)
+    (at 7 tt)
+    (at 8 tt)
+    returns)

@@ -1,0 +1,2 @@
+-- The ways through the exported functions of the two-effect search.
+pub mod Paths
