@@ -1,8 +1,11 @@
-//! Links the static library from the repository's `target/staticlib`, or from
-//! the directory named by `CURLEWSTAND_LIB_DIR`.
+//! Links the two static libraries, of the leaves and of the searches, from the
+//! repository's `target/staticlib`, or from the directory named by
+//! `CURLEWSTAND_LIB_DIR`.
 
 use std::env;
 use std::path::{Path, PathBuf};
+
+const LIBRARIES: [&str; 2] = ["curlewstand", "searches"];
 
 fn main() {
     println!("cargo::rerun-if-changed=build.rs");
@@ -11,15 +14,16 @@ fn main() {
         Some(directory) => PathBuf::from(directory),
         None => Path::new(&env::var("CARGO_MANIFEST_DIR").unwrap()).join("../../target/staticlib"),
     };
-    let archive = directory.join("libcurlewstand.a");
-    println!("cargo::rerun-if-changed={}", archive.display());
-    if !archive.exists() {
-        println!(
-            "cargo::error={} is missing: build the static library first, or name its directory in CURLEWSTAND_LIB_DIR",
-            archive.display()
-        );
-        return;
-    }
     println!("cargo::rustc-link-search=native={}", directory.display());
-    println!("cargo::rustc-link-lib=static=curlewstand");
+    for library in LIBRARIES {
+        let archive = directory.join(format!("lib{library}.a"));
+        println!("cargo::rerun-if-changed={}", archive.display());
+        if !archive.exists() {
+            println!(
+                "cargo::error={} is missing: build the static libraries first, or name their directory in CURLEWSTAND_LIB_DIR",
+                archive.display()
+            );
+        }
+        println!("cargo::rustc-link-lib=static={library}");
+    }
 }

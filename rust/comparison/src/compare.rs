@@ -13,6 +13,10 @@ pub struct Answer<const WORDS: usize = 8> {
     pub words: [u64; WORDS],
 }
 
+/// Where the codes are counted that no leaf has a meaning for: words that stand
+/// for a refused search may have any number.
+pub const OTHER: usize = 20;
+
 /// Given by our side where a refused call wrote to what it was lent.
 pub const TOUCHED: u32 = 99;
 
@@ -54,7 +58,7 @@ pub struct Comparison<'a, const N: usize, const WORDS: usize = 8> {
     ours: &'a dyn Fn([f64; N]) -> Answer<WORDS>,
     theirs: &'a dyn Fn([f64; N]) -> Answer<WORDS>,
     inputs: u64,
-    by_code: [u64; 20],
+    by_code: [u64; OTHER + 1],
     begun: Instant,
 }
 
@@ -69,7 +73,7 @@ impl<'a, const N: usize, const WORDS: usize> Comparison<'a, N, WORDS> {
             ours,
             theirs,
             inputs: 0,
-            by_code: [0; 20],
+            by_code: [0; OTHER + 1],
             begun: Instant::now(),
         }
     }
@@ -80,7 +84,7 @@ impl<'a, const N: usize, const WORDS: usize> Comparison<'a, N, WORDS> {
             panic!("{}", self.report(self.shrunk(input)));
         }
         self.inputs += 1;
-        self.by_code[theirs.code as usize] += 1;
+        self.by_code[(theirs.code as usize).min(OTHER)] += 1;
     }
 
     /// Every combination of the floats given for each argument.

@@ -190,3 +190,17 @@ pub fn largest_subnormal() -> f64 {
 pub fn power(exponent: i32) -> f64 {
     f64::from_bits(((exponent + 1023) as u64) << 52)
 }
+
+/// Rust's clamp, but where `low <= high` fails, which makes Rust's panic, both
+/// tests are still made.
+pub fn clamped(x: f64, low: f64, high: f64) -> f64 {
+    if low <= high {
+        x.clamp(low, high)
+    } else if x < low {
+        low
+    } else if high < x {
+        high
+    } else {
+        x
+    }
+}

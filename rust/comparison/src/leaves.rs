@@ -1,8 +1,11 @@
 //! Every leaf as a function from floats to an answer, on both sides.
 
 use crate::compare::{word_of, Answer};
-use crate::rules::{Search, NO_SEARCH, WHOLE};
+use crate::floats::clamped;
+use crate::rules::{self, Search, NO_SEARCH};
+use crate::rules_2d::{self, Search2};
 use curlewstand::mode::{Conditional, Request, Settings};
+use curlewstand::mode_2d::{Conditional2, Request2, Settings2};
 use curlewstand::Refusal;
 
 /// The answer's code where a matrix has no inverse.
@@ -54,9 +57,28 @@ fn requested(request: Request) -> Answer {
     }
 }
 
+fn requested_2d(request: Request2) -> Answer {
+    match request {
+        Request2::Point(eta) => Answer::floats(&eta),
+        Request2::Mode => Answer::refused(MODE),
+        Request2::Refused(Refusal(number)) => Answer::refused(number),
+    }
+}
+
+/// The words of a search out of floats, where those that are whole numbers
+/// stand as such.
+fn words<const N: usize>(input: &[f64], whole: &[usize]) -> [u64; N] {
+    std::array::from_fn(|at| {
+        if whole.contains(&at) {
+            input[at] as u64
+        } else {
+            input[at].to_bits()
+        }
+    })
+}
+
 /// The settings and the words of a search, all as floats: eta_bound, omega,
-/// tolerance, warm start, then the twenty words, of which those that are whole
-/// numbers stand as such.
+/// tolerance, warm start, then the twenty words.
 fn search(input: &[f64]) -> (Settings, [u64; 20]) {
     let settings = Settings {
         eta_bound: input[0],
@@ -64,15 +86,7 @@ fn search(input: &[f64]) -> (Settings, [u64; 20]) {
         tolerance: input[2],
         warm: input[3],
     };
-    let words = std::array::from_fn(|at| {
-        let x = input[4 + at];
-        if WHOLE.contains(&at) {
-            x as u64
-        } else {
-            x.to_bits()
-        }
-    });
-    (settings, words)
+    (settings, words(&input[4..], &rules::WHOLE))
 }
 
 /// An evaluated point after the settings and the words of a search.
@@ -82,6 +96,28 @@ fn evaluated(input: &[f64]) -> Conditional {
         nll: input[25],
         score: input[26],
         information: input[27],
+    }
+}
+
+/// The same for two effects: eta_bound, the precision by rows, the warm start,
+/// then the twenty-five words.
+fn search_2d(input: &[f64]) -> (Settings2, [u64; 25]) {
+    let settings = Settings2 {
+        eta_bound: input[0],
+        precision: [[input[1], input[2]], [input[3], input[4]]],
+        warm: [input[5], input[6]],
+    };
+    (settings, words(&input[7..], &rules_2d::WHOLE))
+}
+
+/// An evaluated point after the settings and the words of a search.
+fn evaluated_2d(input: &[f64]) -> Conditional2 {
+    let at = &input[32..];
+    Conditional2 {
+        eta: [at[0], at[1]],
+        nll: at[2],
+        score: [at[3], at[4]],
+        information: [[at[5], at[6]], [at[7], at[8]]],
     }
 }
 
@@ -247,6 +283,45 @@ pub mod ours {
         }
     }
 
+    /// No refusal has the number 0, but words may: that of a point, which then
+    /// must not be written.
+    pub fn mode_2d_request(input: [f64; 32]) -> Answer {
+        let (s, words) = search_2d(&input);
+        let mut point = [FILLED; 2];
+        let code = unsafe {
+            curlewstand_mode_2d_request(s.eta_bound, &s.precision, &s.warm, &words, &mut point)
+        };
+        match code {
+            _ if !touched(&point) => Answer::refused(code),
+            0 => requested_2d(Request2::Point(point)),
+            _ => Answer::refused(TOUCHED),
+        }
+    }
+
+    pub fn mode_2d_advance(input: [f64; 41]) -> Answer<25> {
+        let (s, mut words) = search_2d(&input);
+        let before = words;
+        let at = evaluated_2d(&input);
+        let code = unsafe {
+            curlewstand_mode_2d_advance(
+                s.eta_bound,
+                &s.precision,
+                &s.warm,
+                &mut words,
+                &at.eta,
+                at.nll,
+                &at.score,
+                &at.information,
+            )
+        };
+        match Search2::of_words(&words) {
+            _ if code != 0 && words != before => Answer::refused(TOUCHED),
+            _ if code != 0 => Answer::refused(code),
+            Some(search) => Answer::words(&search.words()),
+            None => Answer::refused(NO_SEARCH),
+        }
+    }
+
     fn add([value, additive, proportional, prediction, f, g]: [f64; 6], lent: &mut Lent) -> u32 {
         let (information, score, nll) = lent;
         unsafe {
@@ -284,18 +359,8 @@ pub mod rust {
         larger(a, b, a.max(b))
     }
 
-    /// Rust's clamp panics unless `low <= high`; there the rule is written out.
     pub fn clamp([x, low, high]: [f64; 3]) -> Answer {
-        let clamped = if low <= high {
-            x.clamp(low, high)
-        } else if x < low {
-            low
-        } else if high < x {
-            high
-        } else {
-            x
-        };
-        Answer::floats(&[clamped])
+        Answer::floats(&[clamped(x, low, high)])
     }
 
     pub fn log([x]: [f64; 1]) -> Answer {
@@ -330,6 +395,23 @@ pub mod plain {
             return Answer::refused(NO_SEARCH);
         };
         search.advance(&settings, evaluated(&input));
+        Answer::words(&search.words())
+    }
+
+    pub fn mode_2d_request(input: [f64; 32]) -> Answer {
+        let (settings, words) = search_2d(&input);
+        match Search2::of_words(&words) {
+            Some(search) => requested_2d(search.request(&settings)),
+            None => Answer::refused(NO_SEARCH),
+        }
+    }
+
+    pub fn mode_2d_advance(input: [f64; 41]) -> Answer<25> {
+        let (settings, words) = search_2d(&input);
+        let Some(mut search) = Search2::of_words(&words) else {
+            return Answer::refused(NO_SEARCH);
+        };
+        search.advance(&settings, evaluated_2d(&input));
         Answer::words(&search.words())
     }
 }

@@ -1,5 +1,7 @@
 //! What the comparisons of Curlewstand with the original share.
 
+#[cfg(source_at_hand)]
+pub mod beside;
 pub mod compare;
 pub mod double_double;
 pub mod floats;
@@ -7,11 +9,17 @@ pub mod leaves;
 pub mod plausible;
 pub mod random;
 pub mod rules;
+pub mod rules_2d;
 #[cfg(source_at_hand)]
 pub mod searches;
+#[cfg(source_at_hand)]
+pub mod searches_2d;
 pub mod simulators;
+pub mod simulators_2d;
 #[cfg(source_at_hand)]
 pub mod trials;
+#[cfg(source_at_hand)]
+pub mod trials_2d;
 
 /// Prints a line even from a passing test, past the capture of its output.
 pub fn say(line: &str) {

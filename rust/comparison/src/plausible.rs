@@ -308,17 +308,149 @@ fn conditional(random: &mut Random) -> [f64; 4] {
     [eta, random.uniform(-9., 99.), score(random), information]
 }
 
+/// Settings and a two-effect search in any state, as `leaves` reads them.
+/// Numbers are mostly those of a search, floats mostly such that each of the
+/// tests has both answers.
+pub fn search_2d(random: &mut Random) -> [f64; 32] {
+    let eta_bound = match random.below(4) {
+        0 => power(-10),
+        _ => random.magnitude(-10, 4),
+    };
+    let precision = precision(random);
+    let current = conditional_2d(random, eta_bound, precision);
+    let mut input = [0.; 32];
+    input[0] = eta_bound;
+    input[1..5].copy_from_slice(&precision);
+    for at in [5, 6, 20, 21] {
+        input[at] = random.uniform(-eta_bound, eta_bound);
+    }
+    input[7] = stage_2d(random);
+    input[8] = number(random, 6);
+    input[9] = number(random, 48);
+    input[10] = number(random, 22);
+    input[11..20].copy_from_slice(&current);
+    input[22] = score(random);
+    input[23..].copy_from_slice(&near(random, current));
+    with_strays(random, input)
+}
+
+/// A two-effect search and an evaluated point.
+pub fn search_2d_step(random: &mut Random) -> [f64; 41] {
+    let mut input = [0.; 41];
+    input[..32].copy_from_slice(&search_2d(random));
+    let current = std::array::from_fn(|at| input[11 + at]);
+    let at = match random.below(4) {
+        0 => near(random, current),
+        _ => conditional_2d(random, input[0], std::array::from_fn(|at| input[1 + at])),
+    };
+    input[32..].copy_from_slice(&with_strays(random, at));
+    if random.below(16) == 0 {
+        // any floats at all about the four numbers
+        for at in (0..7).chain(11..41) {
+            input[at] = stray(random, input[at]);
+        }
+    }
+    input
+}
+
+/// Mostly a trial; now and then a refused search, also one with a number that
+/// no refusal has, or a stage beyond all numbers of 32 bits.
+fn stage_2d(random: &mut Random) -> f64 {
+    let largest = 4294967299.;
+    match random.below(40) {
+        0 => random.pick(&[largest, largest + 1., 1e18, f64::MAX]),
+        1 => 4. + random.pick(&[0., 1., 2., 12., 15., 19., 4294967294.]),
+        2..4 => 4. + random.pick(&[13., 14., 16.]),
+        4 => 3.,
+        5..7 => 0.,
+        7..16 => 1.,
+        _ => 2.,
+    }
+}
+
+/// A number below the count of its kind, at its end or beyond, or of any size:
+/// no search has one that is wider than 32 bits.
+fn number(random: &mut Random, count: u64) -> f64 {
+    match random.below(100) {
+        0 => 4294967296. + random.below(60) as f64,
+        1 => random.pick(&[65536., 4294967294., 4294967295., 4294967296., 1e18]),
+        2 => random.word() as f64,
+        3..25 => (count - 2 + random.below(4)) as f64,
+        25..45 => random.below(2) as f64,
+        _ => random.below(count) as f64,
+    }
+}
+
+fn precision(random: &mut Random) -> [f64; 4] {
+    match random.below(8) {
+        0 => matrix(random),
+        _ => {
+            let [a, d] = [random.magnitude(-20, 8), random.magnitude(-20, 8)];
+            let b = random.pick(&[0., 0.3, -0.9]) * (a * d).sqrt();
+            [a, b, b, d]
+        }
+    }
+}
+
+/// A point whose norm, with the prior, is often about 1e-5 or 1e-3, and whose
+/// etas are now and then at the bound.
+fn conditional_2d(random: &mut Random, eta_bound: f64, precision: [f64; 4]) -> [f64; 9] {
+    let eta = [0; 2].map(|_| match random.below(8) {
+        0 => 0.,
+        1 => random.pick(&[-1., 1.]) * (eta_bound - 1e-6 * random.pick(&[0., 1., 1., 2.])),
+        _ => random.uniform(-eta_bound, eta_bound),
+    });
+    let size = match random.below(4) {
+        0 => 1e-5 * random.pick(&[0.5, 1., 1.1]),
+        1 | 2 => 1e-3 * random.pick(&[0.1, 0.9, 1., 1.1]),
+        _ => random.magnitude(-20, 20),
+    };
+    let prior = [
+        precision[0] * eta[0] + precision[1] * eta[1],
+        precision[2] * eta[0] + precision[3] * eta[1],
+    ];
+    let [s, t] = prior.map(|prior| random.pick(&[-1., 0., 0.5, 1.]) * size - prior);
+    let [a, b, c, d] = match random.below(8) {
+        0 => [0.; 4],
+        1 => matrix(random),
+        _ => {
+            let [f, g] = [random.magnitude(-12, 6), random.magnitude(-12, 6)];
+            [f * f, f * g, g * f, g * g]
+        }
+    };
+    let nll = random.pick(&[0., 1., 2., 50.]) + random.pick(&[0., 0., 1e-9, 1e-4]);
+    [eta[0], eta[1], nll, s, t, a, b, c, d]
+}
+
+/// A point that is the one given but for some of its parts, or about 1e-3 off.
+fn near(random: &mut Random, mut point: [f64; 9]) -> [f64; 9] {
+    let way = random.pick(&[0., 0., 1e-9, 5e-4, 1e-3, 2e-3]);
+    for eta in &mut point[..2] {
+        *eta += random.pick(&[-1., 0., 1.]) * way;
+    }
+    point[2] += random.pick(&[-1., 0., 0., 1.]) * random.pick(&[1e-9, 1e-4, 1.]);
+    if random.below(4) == 0 {
+        let at = random.below(9) as usize;
+        point[at] = random.uniform(-4., 4.);
+    }
+    point
+}
+
 /// Now and then a float is replaced by one of any bits or of a special kind.
 fn with_strays<const N: usize>(random: &mut Random, mut input: [f64; N]) -> [f64; N] {
     while random.below(3) == 0 {
         let at = random.below(N as u64) as usize;
-        input[at] = match random.below(3) {
-            0 => f64::from_bits(random.word()),
-            1 => -input[at],
-            _ => random.pick(&STRAYS),
-        };
+        input[at] = stray(random, input[at]);
     }
     input
+}
+
+fn stray(random: &mut Random, x: f64) -> f64 {
+    match random.below(3) {
+        0 => f64::from_bits(random.word()),
+        1 => -x,
+        _ => random.pick(&STRAYS),
+    }
 }
 
 const STRAYS: [f64; 9] = [

@@ -10,6 +10,7 @@
 //! such ends and no fall always have.
 
 use crate::compare::word_of;
+use crate::floats::clamped;
 use curlewstand::mode::{Conditional, Request, Settings};
 use curlewstand::Refusal;
 
@@ -167,19 +168,11 @@ impl Search {
         self.best.score.abs() / curvature <= settings.tolerance
     }
 
-    /// Rust's clamp panics unless `low <= high`; here either test may answer.
     fn secant_point(&self) -> f64 {
         let (left, right) = (self.left, self.right);
         let width = right.eta - left.eta;
         let eta = left.eta - left.score * width / (right.score - left.score);
-        let [low, high] = [left.eta + 0.1 * width, right.eta - 0.1 * width];
-        if eta < low {
-            low
-        } else if eta > high {
-            high
-        } else {
-            eta
-        }
+        clamped(eta, left.eta + 0.1 * width, right.eta - 0.1 * width)
     }
 }
 

@@ -62,8 +62,8 @@ impl Kind {
 }
 
 #[derive(Clone, Copy, Debug, PartialEq)]
-pub struct Model {
-    pub kind: Kind,
+pub struct Model<K = Kind> {
+    pub kind: K,
     pub parameters: [f64; 3],
     pub seed: u64,
 }
@@ -88,7 +88,7 @@ impl Model {
                 [a * sine, a * b * cosine / individual]
             }
             Kind::Nonsense => {
-                let mut random = self.by_point(eta, row);
+                let mut random = by_point(self.seed, eta, row);
                 [0; 2].map(|_| any_size(&mut random, a))
             }
             _ => [a, 0.],
@@ -98,7 +98,7 @@ impl Model {
     /// The score to be met at a point, with the prior's share.
     fn score(&self, eta: f64, eta_bound: f64) -> f64 {
         let [a, b, c] = self.parameters;
-        let mut random = self.by_point(eta, 0);
+        let mut random = by_point(self.seed, eta, 0);
         match self.kind {
             Kind::Step if eta < c => -a,
             Kind::Step => b,
@@ -129,15 +129,16 @@ impl Model {
             1.
         }
     }
+}
 
-    fn by_point(&self, eta: f64, row: usize) -> Random {
-        let word = eta.to_bits().wrapping_mul(0x9e3779b97f4a7c15 | 1);
-        Random::new(self.seed ^ word.rotate_left(row as u32))
-    }
+/// The same numbers whenever it is the same point and row.
+pub fn by_point(seed: u64, eta: f64, row: usize) -> Random {
+    let word = eta.to_bits().wrapping_mul(0x9e3779b97f4a7c15 | 1);
+    Random::new(seed ^ word.rotate_left(row as u32))
 }
 
 /// A float of either sign with an exponent from -span to span.
-fn any_size(random: &mut Random, span: f64) -> f64 {
+pub fn any_size(random: &mut Random, span: f64) -> f64 {
     let span = span.clamp(0., 1000.) as i32;
     let size = random.magnitude(-span, span);
     random.signed(size)
@@ -161,12 +162,7 @@ impl Model {
         let [eta, individual] = [question.eta[0], question.individual[0]];
         let mut rows = surroundings.values.len();
         if self.kind == Kind::Broken {
-            match self.by_point(eta, 0).below(200) {
-                0 => return None,
-                1 => rows -= 1,
-                2 => rows = 1_000,
-                _ => {}
-            }
+            rows = broken(&mut by_point(self.seed, eta, 0), rows)?;
         }
         if self.kind.lays_down_the_score() {
             return Some(self.laid_down(eta, individual, surroundings));
@@ -175,7 +171,7 @@ impl Model {
             (0..rows)
                 .map(|row| {
                     let [prediction, derivative] = self.row(row, eta, individual);
-                    sample(prediction, derivative)
+                    sample(prediction, &[derivative])
                 })
                 .collect(),
         )
@@ -189,7 +185,7 @@ impl Model {
         let (sharing, _) = around.values.split_at(around.values.len() - 2);
         let score = self.score(eta, around.eta_bound) - eta / around.omega;
         let share = score / sharing.len() as f64;
-        let mut random = self.by_point(eta, 1);
+        let mut random = by_point(self.seed, eta, 1);
         let information = match random.below(3) {
             0 => 0.,
             1 => random.uniform(0., 3.),
@@ -197,16 +193,26 @@ impl Model {
         };
         let mut rows: Vec<SensitivitySample> = sharing
             .iter()
-            .map(|value| sample(0., divided(-share / value, individual)))
+            .map(|value| sample(0., &[divided(-share / value, individual)]))
             .collect();
-        rows.push(sample(0., information / individual));
-        rows.push(sample(random.uniform(-9., 9.), 0.));
+        rows.push(sample(0., &[information / individual]));
+        rows.push(sample(random.uniform(-9., 9.), &[0.]));
         rows
     }
 }
 
+/// How many rows a broken reply has, if there is one.
+pub fn broken(random: &mut Random, rows: usize) -> Option<usize> {
+    match random.below(200) {
+        0 => None,
+        1 => Some(rows - 1),
+        2 => Some(1_000),
+        _ => Some(rows),
+    }
+}
+
 /// The quotient, or a neighbour of it that gives the product back exactly.
-fn divided(product: f64, by: f64) -> f64 {
+pub fn divided(product: f64, by: f64) -> f64 {
     let quotient = product / by;
     [quotient, quotient.next_up(), quotient.next_down()]
         .into_iter()
@@ -214,11 +220,12 @@ fn divided(product: f64, by: f64) -> f64 {
         .unwrap_or(quotient)
 }
 
-fn sample(prediction: f64, derivative: f64) -> SensitivitySample {
+/// A row with one output and its derivative by each effect.
+pub fn sample(prediction: f64, derivatives: &[f64]) -> SensitivitySample {
     SensitivitySample {
         time: 0.,
         side: "pre",
         values: vec![prediction],
-        derivatives: vec![vec![derivative]],
+        derivatives: derivatives.iter().map(|one| vec![*one]).collect(),
     }
 }

@@ -36,7 +36,7 @@ pub fn draw(random: &mut Random, kind: Kind) -> Trial {
     trial
 }
 
-fn eta_bound(random: &mut Random) -> f64 {
+pub fn eta_bound(random: &mut Random) -> f64 {
     let edges = [power(-10), power(-10).next_up(), 16f64.next_down(), 16.];
     match random.below(4) {
         0 => random.pick(&edges),
@@ -46,7 +46,8 @@ fn eta_bound(random: &mut Random) -> f64 {
     }
 }
 
-fn omega(random: &mut Random, eta_bound: f64) -> f64 {
+/// A variance.
+pub fn omega(random: &mut Random, eta_bound: f64) -> f64 {
     let omega = match random.below(4) {
         0 => random.pick(&[power(-20), power(20), 0.25, 0.5, 1., 2.]),
         1 => random.magnitude(-20, 19),
@@ -64,7 +65,7 @@ fn gradient_tolerance(random: &mut Random) -> f64 {
     }
 }
 
-fn theta(random: &mut Random) -> f64 {
+pub fn theta(random: &mut Random) -> f64 {
     match random.below(64) {
         0 => random.pick(&[0., -1., f64::NAN, f64::INFINITY, f64::MAX, 5e-324, 1e-300]),
         1..16 => random.magnitude(-4, 4),
@@ -147,8 +148,23 @@ fn warm(random: &mut Random, trial: &Trial) -> f64 {
 fn observe(random: &mut Random, trial: &mut Trial) {
     let eta = random.uniform(-1.2, 1.2) * trial.eta_bound;
     let count = random.pick(&[1, 1, 1, 2, 3]);
+    trial.observations = observations(random, count, |row| {
+        trial.model.row(row, eta, trial.theta * eta.exp())[0]
+    });
+    if random.below(8) == 0 {
+        trial.additive_sd = Some(random.pick(&[0., 0.1, 1., 3.]));
+    }
+}
+
+/// So many observations of what is predicted for each row, with some noise.
+pub fn observations(
+    random: &mut Random,
+    count: usize,
+    predicted: impl Fn(usize) -> f64,
+) -> Vec<Observed> {
+    let mut observations = Vec::new();
     for row in 0..count {
-        let [prediction, _] = trial.model.row(row, eta, trial.theta * eta.exp());
+        let prediction = predicted(row);
         let additive = match random.below(4) {
             0 => 0.,
             1 => random.magnitude(-10, 2),
@@ -163,7 +179,7 @@ fn observe(random: &mut Random, trial: &mut Trial) {
             0 => random.uniform(-1000., 1000.),
             _ => prediction + noise,
         };
-        trial.observations.push(Observed {
+        observations.push(Observed {
             output: 0,
             row,
             value: if value.is_finite() { value } else { 1. },
@@ -171,9 +187,7 @@ fn observe(random: &mut Random, trial: &mut Trial) {
             proportional,
         });
     }
-    if random.below(8) == 0 {
-        trial.additive_sd = Some(random.pick(&[0., 0.1, 1., 3.]));
-    }
+    observations
 }
 
 /// The larger the value, the less information comes with the score; the
@@ -191,12 +205,17 @@ fn observe_a_score(random: &mut Random, trial: &mut Trial) {
 /// The observations that a laid-down score wants: those of the values given
 /// share it, then one for the information and one for the likelihood.
 pub fn score_observations(values: &[f64]) -> Vec<Observed> {
-    let values = values.iter().chain(&[0.; 2]).enumerate();
+    unit_observations(values.iter().copied().chain([0.; 2]))
+}
+
+/// Observations of these values, each with a variance of 1 throughout.
+pub fn unit_observations(values: impl IntoIterator<Item = f64>) -> Vec<Observed> {
+    let values = values.into_iter().enumerate();
     values
         .map(|(row, value)| Observed {
             output: 0,
             row,
-            value: *value,
+            value,
             additive: 1.,
             proportional: 0.,
         })

@@ -41,12 +41,11 @@ fn start_writes_every_word() {
 
 #[cfg(source_at_hand)]
 mod beside_the_original {
+    use comparison::beside::{difference, over_kinds, End, Tally, Trial as _};
     use comparison::floats::power;
-    use comparison::random::Random;
-    use comparison::searches::{difference, original, ours, End, Tally, Trial};
+    use comparison::searches::{OneEffectMet, Trial};
     use comparison::simulators::{Kind, Model};
     use comparison::trials;
-    use std::time::Instant;
 
     /// The most points that a search within the domain asks for, short of the
     /// 82 that its loops allow: 17 on the grid, the warm start, 16 secant steps
@@ -57,45 +56,39 @@ mod beside_the_original {
 
     /// Where there is a mode, the search is done again with warm starts about
     /// its cell.
-    fn searches(kinds: &[Kind]) -> Tally {
-        let mut sum = Tally::default();
-        for kind in kinds {
-            let begun = Instant::now();
-            let mut random = Random::new(90 + *kind as u64);
-            let mut tally = Tally::default();
-            while tally.searches < 19_000 {
-                let trial = trials::draw(&mut random, *kind);
-                if let Some(mode) = tally.compare(&trial) {
-                    for _ in 0..2 {
-                        tally.compare(&trials::warmed(&mut random, &trial, mode));
-                    }
+    fn searches(lays_down_the_score: bool, first_seed: u64) -> Tally<OneEffectMet> {
+        let kinds = Kind::ALL.into_iter();
+        let kinds = kinds.filter(|kind| kind.lays_down_the_score() == lays_down_the_score);
+        let kinds: Vec<(Kind, u64)> = kinds.map(|kind| (kind, 19_000)).collect();
+        over_kinds(&kinds, first_seed, |tally, random, kind| {
+            let trial = trials::draw(random, kind);
+            if let Some(words) = tally.compare(&trial) {
+                let mode = f64::from_bits(words[0]);
+                for _ in 0..2 {
+                    tally.compare(&trials::warmed(random, &trial, mode));
                 }
             }
-            let line = tally.line(&format!("{kind:?}"));
-            comparison::say(&format!("{line}, {:.1?}", begun.elapsed()));
-            sum.add(&tally);
-        }
-        sum
+        })
     }
 
-    fn hold_all_ends(tally: &Tally) {
-        assert!(tally.modes_by_score > 1_000, "{tally:?}");
-        assert!(tally.modes_by_width > 100, "{tally:?}");
-        assert!(tally.modes_outside > 100, "{tally:?}");
+    fn hold_all_ends(tally: &Tally<OneEffectMet>) {
+        let met = &tally.met;
+        assert!(met.modes_by_score > 1_000, "{tally:?}");
+        assert!(met.modes_by_width > 100, "{tally:?}");
+        assert!(met.modes_outside > 100, "{tally:?}");
         for number in [6, 7, 11, 13, 14] {
-            assert!(tally.refused[number] > 20, "{tally:?}");
+            assert!(tally.refused.0[number] > 20, "{tally:?}");
         }
-        assert!(tally.warm_trials > 1_000, "{tally:?}");
-        assert!(tally.warm_though_settled > 100, "{tally:?}");
-        assert!(tally.halving > 1_000, "{tally:?}");
-        assert_eq!(tally.refused[15], 0);
+        assert!(met.warm_trials > 1_000, "{tally:?}");
+        assert!(met.warm_though_settled > 100, "{tally:?}");
+        assert!(met.halving > 1_000, "{tally:?}");
+        assert_eq!(tally.refused.0[15], 0);
         assert!(tally.longest <= LONGEST);
     }
 
     #[test]
     fn searches_with_models() {
-        let kinds = Kind::ALL.map(|kind| (!kind.lays_down_the_score()).then_some(kind));
-        let tally = searches(&kinds.into_iter().flatten().collect::<Vec<_>>());
+        let tally = searches(false, 90);
         comparison::say(&tally.line("models"));
         assert!(tally.searches >= 130_000);
         hold_all_ends(&tally);
@@ -103,11 +96,10 @@ mod beside_the_original {
 
     #[test]
     fn searches_with_scores_laid_down() {
-        let kinds = Kind::ALL.map(|kind| kind.lays_down_the_score().then_some(kind));
-        let tally = searches(&kinds.into_iter().flatten().collect::<Vec<_>>());
+        let tally = searches(true, 97);
         comparison::say(&tally.line("scores laid down"));
         assert!(tally.searches >= 70_000);
-        assert!(tally.ties > 100);
+        assert!(tally.met.ties > 100);
         hold_all_ends(&tally);
     }
 
@@ -139,14 +131,14 @@ mod beside_the_original {
         let mut trial = step(1., 1e10, 3.999, &[1.]);
         trial.warm = 2f64.next_up();
         assert_eq!(difference(&trial), None);
-        assert_eq!(original(&trial).evaluations, LONGEST);
-        assert_eq!(ours(&trial, |_| {}).evaluations, LONGEST);
+        assert_eq!(trial.original().evaluations, LONGEST);
+        assert_eq!(trial.ours(|_| {}).evaluations, LONGEST);
         // without the warm start, and with the widest tolerance
         trial.warm = 2.;
-        assert_eq!(ours(&trial, |_| {}).evaluations, LONGEST - 1);
+        assert_eq!(trial.ours(|_| {}).evaluations, LONGEST - 1);
         trial.gradient_tolerance = 1.;
         assert_eq!(difference(&trial), None);
-        assert_eq!(ours(&trial, |_| {}).evaluations, LONGEST - 14);
+        assert_eq!(trial.ours(|_| {}).evaluations, LONGEST - 14);
     }
 
     /// Scores so large that the secant is infinity over infinity: the point is
@@ -155,7 +147,7 @@ mod beside_the_original {
     fn a_secant_that_is_nan() {
         let trial = step(0.8 * f64::MAX, 0.8 * f64::MAX, 3., &[1.2e154; 2]);
         assert_eq!(difference(&trial), None);
-        let run = original(&trial);
+        let run = trial.original();
         assert_eq!(run.end, End::Refused(7));
         assert_eq!((run.asked.len(), run.evaluations), (17, 18));
     }

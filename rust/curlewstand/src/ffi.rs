@@ -1,4 +1,4 @@
-//! The C face of the static library, as it is. Arrays go by pointer; an
+//! The C face of the static libraries, as it is. Arrays go by pointer; an
 //! answer that is written is written whole or not at all.
 
 extern "C" {
@@ -80,5 +80,35 @@ extern "C" {
         nll: f64,
         score: f64,
         information: f64,
+    ) -> u32;
+    /// Writes the two-effect search that has asked nothing. Its words are its
+    /// stage (0 zero, 1 a start, 2 a trial, 3 a mode, and 4 + the number of a
+    /// refusal), the start's number, the round, the reduction, the current
+    /// point, the trial's eta, the fall foreseen there and the best point; a
+    /// point is nine words: both etas, negative log likelihood, both scores,
+    /// information by rows. Floats stand as their bits.
+    pub fn curlewstand_mode_2d_start(search: *mut [u64; 25]);
+    /// 0 with the next point written; or, with nothing written, 1 for a mode,
+    /// which is the search's best point, 13, 14 or 16 for a refusal, 19 where
+    /// the words are no search.
+    pub fn curlewstand_mode_2d_request(
+        eta_bound: f64,
+        precision: *const [[f64; 2]; 2],
+        warm: *const [f64; 2],
+        search: *const [u64; 25],
+        point: *mut [f64; 2],
+    ) -> u32;
+    /// 0 with the evaluated point taken into the search, or 19 with nothing
+    /// written where the words are no search. Nothing of the prior is added to
+    /// the score.
+    pub fn curlewstand_mode_2d_advance(
+        eta_bound: f64,
+        precision: *const [[f64; 2]; 2],
+        warm: *const [f64; 2],
+        search: *mut [u64; 25],
+        eta: *const [f64; 2],
+        nll: f64,
+        score: *const [f64; 2],
+        information: *const [[f64; 2]; 2],
     ) -> u32;
 }

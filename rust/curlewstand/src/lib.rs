@@ -1,7 +1,9 @@
-//! Curlewstand for Rust: safe functions over the static library.
+//! Curlewstand for Rust: safe functions over the static libraries, which are
+//! one for the leaves and one for the searches.
 
 pub mod ffi;
 pub mod mode;
+pub mod mode_2d;
 
 use ffi::*;
 

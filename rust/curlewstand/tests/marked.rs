@@ -2,6 +2,7 @@
 //! through the safe functions.
 
 use curlewstand::mode::{eta_tolerance, Conditional, Request, Search, Settings};
+use curlewstand::mode_2d::{Conditional2, Request2, Search2, Settings2};
 use curlewstand::*;
 
 #[test]
@@ -107,4 +108,67 @@ fn refused_searches() {
     assert_eq!(refused(|_| -1.), Request::Refused(Refusal(13)));
     let falling = |eta: f64| if eta.abs() < 1. { -eta } else { eta };
     assert_eq!(refused(falling), Request::Refused(Refusal(14)));
+}
+
+/// A search where every evaluation gives the same: its points and its end.
+fn alike_everywhere(
+    settings: &Settings2,
+    score: [f64; 2],
+    information: [[f64; 2]; 2],
+) -> (Vec<[f64; 2]>, Search2) {
+    let mut search = Search2::start();
+    let mut points = Vec::new();
+    while let Request2::Point(eta) = search.request(settings) {
+        points.push(eta);
+        let at = Conditional2 {
+            eta,
+            nll: 0.,
+            score,
+            information,
+        };
+        search.advance(settings, &at);
+    }
+    (points, search)
+}
+
+/// Nothing but the prior: from each of the starts off zero one Newton step
+/// leads to zero.
+#[test]
+fn two_effect_searches() {
+    let settings = Settings2 {
+        eta_bound: 4.,
+        precision: [[1., 0.], [0., 1.]],
+        warm: [0.; 2],
+    };
+    let (points, search) = alike_everywhere(&settings, [0.; 2], [[0.; 2]; 2]);
+    let [zero, right, left] = [[0., 0.], [2., 0.], [-2., 0.]];
+    let [up, down] = [[0., 2.], [0., -2.]];
+    assert_eq!(
+        points,
+        [zero, zero, zero, right, zero, left, zero, up, zero, down, zero]
+    );
+    assert_eq!(search.request(&settings), Request2::Mode);
+    assert_eq!(search.best().eta, zero);
+}
+
+#[test]
+fn refused_two_effect_searches() {
+    let settings = Settings2 {
+        eta_bound: 4.,
+        precision: [[1e-6, 0.], [0., 1e-6]],
+        warm: [0.; 2],
+    };
+    let refused = |score: f64, information: f64| {
+        let (points, search) = alike_everywhere(&settings, [score; 2], [[information; 2]; 2]);
+        (points.len(), search.request(&settings))
+    };
+    // no trial is taken, and the norm is too large
+    let (points, end) = refused(1., 0.);
+    assert_eq!((points, end), (2 + 22, Request2::Refused(Refusal(13))));
+    // a norm small enough ends the rounds at each start, far from the first
+    let (points, end) = refused(0., 0.);
+    assert_eq!((points, end), (4, Request2::Refused(Refusal(14))));
+    // the information hides the prior
+    let (points, end) = refused(1., 1e9);
+    assert_eq!((points, end), (2, Request2::Refused(Refusal(16))));
 }

@@ -6,27 +6,34 @@
 //! timed there over a thousand observations of one subject, with a reply of a
 //! single row, so that next to nothing but the rows is left.
 //!
-//! The rules of the one-effect search stand inside the original's `mode`, with
-//! the evaluations. There it is timed on a search whose points are all kept,
-//! so that an evaluation is a look into the cache; ours is the whole search
-//! over the same points, one request and one advance for each. Both are given
-//! for one point.
+//! The rules of a search stand inside the original's `mode`, with the
+//! evaluations. There it is timed on a search whose points are all kept, so
+//! that an evaluation is a look into the cache; ours is the whole search over
+//! the same points, one request and one advance for each. Both are given for
+//! one point that is asked for, with one effect and with two.
 
 use comparison::random::Random;
 #[cfg(source_at_hand)]
-use curlewstand::mode::{eta_tolerance, Conditional, Request, Search, Settings};
+use comparison::simulators::sample;
+#[cfg(source_at_hand)]
+use curlewstand::{
+    mode::{eta_tolerance, Conditional, Request, Search, Settings},
+    mode_2d::{Conditional2, Request2, Search2, Settings2},
+};
 #[cfg(source_at_hand)]
 use oracle::{
-    session::{Observed, Question, SensitivitySample},
-    OneEffect,
+    session::{Observed, Question},
+    OneEffect, TwoEffects,
 };
+#[cfg(source_at_hand)]
+use std::collections::BTreeSet;
 use std::hint::black_box;
 use std::time::Instant;
 
 const INPUTS: usize = 1024;
 
 fn main() {
-    println!("leaf                 original ns    ours ns   ours/original");
+    println!("leaf                   original ns    ours ns   ours/original");
     let mut random = Random::new(71);
     let arguments = drawn(&mut random, |random| [random.magnitude(-40, 40)]);
     beside(
@@ -86,6 +93,7 @@ fn originals(random: &mut Random) {
     );
     two_effects(random);
     search();
+    search_2d();
 }
 
 #[cfg(source_at_hand)]
@@ -125,65 +133,93 @@ fn two_effects(random: &mut Random) {
 
 #[cfg(source_at_hand)]
 fn search() {
-    const SEARCHES: usize = 20;
     let settings = Settings {
         eta_bound: 4.,
         omega: 0.5,
         tolerance: eta_tolerance(1e-4),
         warm: 0.,
     };
-    let mut original = straight_line(settings.eta_bound);
+    let simulator = |question: &Question| Some(vec![sample(question.individual[0], &[1.])]);
+    let kept = keeping_all(settings.eta_bound);
+    let cohort = vec![vec![observed(0)]];
+    let mut original = OneEffect::new(kept, cohort, Box::new(simulator));
     let mode = original.mode(0, 1., settings.omega, None).unwrap();
     let (points, best) = searched(&mut original, &settings);
     // every point was kept, and ours asks for no other
     assert_eq!(original.calls(), points.len());
     assert_eq!(best.eta, mode.best.eta[0]);
-    let theirs = best_of(SEARCHES * points.len(), || {
-        for _ in 0..SEARCHES {
-            black_box(original.mode(0, 1., black_box(settings.omega), None)).unwrap();
+    let theirs = || {
+        black_box(original.mode(0, 1., black_box(settings.omega), None)).unwrap();
+    };
+    let ours = || {
+        let mut search = Search::start();
+        let mut next = black_box(&points).iter();
+        while let Request::Point(_) = search.request(black_box(&settings)) {
+            search.advance(&settings, next.next().unwrap());
         }
-    });
-    let ours = best_of(SEARCHES * points.len(), || {
-        for _ in 0..SEARCHES {
-            let mut search = Search::start();
-            let mut next = black_box(&points).iter();
-            while let Request::Point(_) = search.request(black_box(&settings)) {
-                search.advance(&settings, next.next().unwrap());
-            }
-            black_box(search.best());
-        }
-    });
-    beside("point of a search", theirs, ours);
+        black_box(search.best());
+    };
+    beside_points("point of a search", points.len(), theirs, ours);
 }
 
-/// The original with one observation of the individual value itself, and room
-/// to keep every point of a search.
 #[cfg(source_at_hand)]
-fn straight_line(eta_bound: f64) -> OneEffect {
-    let observed = Observed {
+fn search_2d() {
+    const OMEGA: [[f64; 2]; 2] = [[0.5, 0.1], [0.1, 0.4]];
+    let settings = Settings2 {
+        eta_bound: 4.,
+        precision: curlewstand::inverse_positive(OMEGA).unwrap().0,
+        warm: [0.; 2],
+    };
+    let simulator = |question: &Question| {
+        let [x, y] = question.individual;
+        Some(vec![sample(x, &[1., 0.]), sample(y, &[0., 1.])])
+    };
+    let kept = keeping_all(settings.eta_bound);
+    let cohort = vec![vec![observed(0), observed(1)]];
+    let mut original = TwoEffects::new(kept, OMEGA, cohort, Box::new(simulator)).unwrap();
+    let mode = original.mode(0, [1.; 2]).unwrap();
+    let (points, best) = searched_2d(&mut original, &settings);
+    // every point was kept, and ours asks for no other
+    let unlike: BTreeSet<_> = points.iter().map(|at| at.eta.map(f64::to_bits)).collect();
+    assert_eq!(original.calls(), unlike.len());
+    assert_eq!(best.eta, mode.best.eta);
+    let theirs = || {
+        black_box(original.mode(0, black_box([1.; 2]))).unwrap();
+    };
+    let ours = || {
+        let mut search = Search2::start();
+        let mut next = black_box(&points).iter();
+        while let Request2::Point(_) = search.request(black_box(&settings)) {
+            search.advance(&settings, next.next().unwrap());
+        }
+        black_box(search.best());
+    };
+    beside_points("the same, two effects", points.len(), theirs, ours);
+}
+
+/// An observation of the individual value itself.
+#[cfg(source_at_hand)]
+fn observed(row: usize) -> Observed {
+    Observed {
         output: 0,
-        row: 0,
+        row,
         value: 2.,
         additive: 0.5,
         proportional: 0.1,
-    };
-    let settings = oracle::session::Settings {
+    }
+}
+
+/// Room to keep every point of a search.
+#[cfg(source_at_hand)]
+fn keeping_all(eta_bound: f64) -> oracle::session::Settings {
+    oracle::session::Settings {
         eta_bound,
         gradient_tolerance: 1e-4,
         max_evaluations: 10_000,
-        kept_rows: 64,
+        kept_rows: 10_000,
         width: 1,
         output_budget: 10_000,
-    };
-    let simulator = |question: &Question| {
-        Some(vec![SensitivitySample {
-            time: 0.,
-            side: "pre",
-            values: vec![question.individual[0]],
-            derivatives: vec![vec![1.]],
-        }])
-    };
-    OneEffect::new(settings, vec![vec![observed]], Box::new(simulator))
+    }
 }
 
 /// The points of our search, evaluated by the original, and the mode.
@@ -202,6 +238,40 @@ fn searched(original: &mut OneEffect, settings: &Settings) -> (Vec<Conditional>,
         search.advance(settings, points.last().unwrap());
     }
     (points, search.best())
+}
+
+#[cfg(source_at_hand)]
+fn searched_2d(
+    original: &mut TwoEffects,
+    settings: &Settings2,
+) -> (Vec<Conditional2>, Conditional2) {
+    let mut points = Vec::new();
+    let mut search = Search2::start();
+    while let Request2::Point(eta) = search.request(settings) {
+        let at = original.subject(0, [1.; 2], eta).unwrap();
+        points.push(Conditional2 {
+            eta,
+            nll: at.nll,
+            score: at.score,
+            information: at.information,
+        });
+        search.advance(settings, points.last().unwrap());
+    }
+    (points, search.best())
+}
+
+/// Times whole searches of so many points on both sides, for one point.
+#[cfg(source_at_hand)]
+fn beside_points(name: &str, points: usize, mut theirs: impl FnMut(), mut ours: impl FnMut()) {
+    const SEARCHES: usize = 20;
+    let timed = |search: &mut dyn FnMut()| {
+        best_of(SEARCHES * points, || {
+            for _ in 0..SEARCHES {
+                search();
+            }
+        })
+    };
+    beside(name, timed(&mut theirs), timed(&mut ours));
 }
 
 fn drawn<const N: usize>(
@@ -238,7 +308,7 @@ fn best_of(in_a_round: usize, mut round: impl FnMut()) -> f64 {
 
 fn beside(leaf: &str, original: f64, ours: f64) {
     println!(
-        "{leaf:20} {original:11.1} {ours:10.1} {:15.2}",
+        "{leaf:22} {original:11.1} {ours:10.1} {:15.2}",
         ours / original
     );
 }
