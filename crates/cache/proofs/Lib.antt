@@ -1,0 +1,9 @@
+-- Paths: the ways through the code, for its proofs. Run has the theorem, `refinement`. It rests on Refine (insert, and the list's own laws), Placed (one more entry), Dropped
+-- (eviction), Walked (find) and Filter (a chain's filter).
+pub mod Paths
+pub mod Filter
+pub mod Walked
+pub mod Dropped
+pub mod Placed
+pub mod Refine
+pub mod Run

@@ -1,0 +1,2 @@
+-- Paths: the ways through the exported functions.
+pub mod Paths

@@ -1,0 +1,2 @@
+-- What crosses to C, as words.
+pub mod Words
