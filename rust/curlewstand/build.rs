@@ -1,11 +1,11 @@
-//! Links the two static libraries, of the leaves and of the searches, from the
-//! repository's `target/staticlib`, or from the directory named by
-//! `CURLEWSTAND_LIB_DIR`.
+//! Links the three static libraries, of the leaves, of the searches and of the
+//! kept evaluations, from the repository's `target/staticlib`, or from the
+//! directory named by `CURLEWSTAND_LIB_DIR`.
 
 use std::env;
 use std::path::{Path, PathBuf};
 
-const LIBRARIES: [&str; 2] = ["curlewstand", "searches"];
+const LIBRARIES: [&str; 3] = ["curlewstand", "searches", "kept"];
 
 fn main() {
     println!("cargo::rerun-if-changed=build.rs");

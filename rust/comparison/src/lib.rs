@@ -2,14 +2,21 @@
 
 #[cfg(source_at_hand)]
 pub mod beside;
+pub mod cache_keys;
+pub mod cache_sequences;
+#[cfg(source_at_hand)]
+pub mod cache_sessions;
+pub mod cache_words;
 pub mod compare;
 pub mod double_double;
 pub mod floats;
+pub mod kept;
 pub mod leaves;
 pub mod plausible;
 pub mod random;
 pub mod rules;
 pub mod rules_2d;
+pub mod rules_cache;
 #[cfg(source_at_hand)]
 pub mod searches;
 #[cfg(source_at_hand)]

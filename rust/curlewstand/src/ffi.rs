@@ -1,5 +1,6 @@
-//! The C face of the static libraries, as it is. Arrays go by pointer; an
-//! answer that is written is written whole or not at all.
+//! The C face of the static libraries, as it is. Arrays go by pointer, slices
+//! by pointer and length; an answer that is written is written whole or not at
+//! all.
 
 extern "C" {
     /// Every pattern is accepted; that of a NaN gives a NaN.
@@ -111,4 +112,54 @@ extern "C" {
         score: *const [f64; 2],
         information: *const [[f64; 2]; 2],
     ) -> u32;
+    /// True with the slot of the entry with the key written, or false with
+    /// nothing written. The words belong to `k` rows, and 21 for each suffice:
+    /// a head, a link, an entry of 16 and a row of three. The order is the
+    /// numbers of the oldest entry and the next one and of the first row and the
+    /// next one, at first 1, 1, 0, 0 with all words 0. A key is subject, both
+    /// thetas, both etas, whether there is an additive override, and it. Floats
+    /// stand as their bits.
+    pub fn curlewstand_cache_find(
+        words: *const u64,
+        words_len: usize,
+        k: usize,
+        order: *const [u64; 4],
+        key: *const [u64; 7],
+        slot: *mut usize,
+    ) -> bool;
+    /// Writes the terms in a slot: negative log likelihood, both scores,
+    /// information by rows.
+    pub fn curlewstand_cache_terms(
+        words: *const u64,
+        words_len: usize,
+        k: usize,
+        slot: usize,
+        terms: *mut [u64; 7],
+    );
+    /// Writes the first `n` rows in a slot, three words each, from word `to` of
+    /// `out` on, or nothing where they do not fit.
+    pub fn curlewstand_cache_copy_rows(
+        words: *const u64,
+        words_len: usize,
+        k: usize,
+        slot: usize,
+        n: usize,
+        out: *mut u64,
+        out_len: usize,
+        to: usize,
+    );
+    /// Keeps an evaluation, its `n` rows standing in `rows` from word `from` on,
+    /// and moves the order; or leaves words and order as they are.
+    pub fn curlewstand_cache_insert(
+        words: *mut u64,
+        words_len: usize,
+        k: usize,
+        order: *mut [u64; 4],
+        key: *const [u64; 7],
+        terms: *const [u64; 7],
+        n: usize,
+        rows: *const u64,
+        rows_len: usize,
+        from: usize,
+    );
 }

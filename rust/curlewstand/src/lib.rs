@@ -1,6 +1,7 @@
 //! Curlewstand for Rust: safe functions over the static libraries, which are
-//! one for the leaves and one for the searches.
+//! one for the leaves, one for the searches and one for the kept evaluations.
 
+pub mod cache;
 pub mod ffi;
 pub mod mode;
 pub mod mode_2d;

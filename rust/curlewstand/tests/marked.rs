@@ -1,6 +1,7 @@
-//! Document 01's marked facts about the leaves and the rules of the search,
-//! through the safe functions.
+//! Document 01's marked facts about the leaves and the rules of the search, and
+//! what it says of kept evaluations, through the safe functions.
 
+use curlewstand::cache::{Cache, CacheKey, CachedTerms};
 use curlewstand::mode::{eta_tolerance, Conditional, Request, Search, Settings};
 use curlewstand::mode_2d::{Conditional2, Request2, Search2, Settings2};
 use curlewstand::*;
@@ -171,4 +172,59 @@ fn refused_two_effect_searches() {
     // the information hides the prior
     let (points, end) = refused(1., 1e9);
     assert_eq!((points, end), (2, Request2::Refused(Refusal(16))));
+}
+
+fn terms(nll: f64) -> CachedTerms {
+    CachedTerms {
+        nll,
+        score: [1., -0.],
+        information: [[2., 3.], [3., 4.]],
+    }
+}
+
+#[test]
+fn kept_evaluations() {
+    let mut cache = Cache::new(4);
+    let key = |subject| CacheKey::two_effects(subject, [1., 2.], [0., 0.5]);
+    for subject in 0..3 {
+        assert_eq!(cache.find(&key(subject)), None);
+        cache.insert(&key(subject), &terms(subject as f64), &[[7, 8, 9]]);
+    }
+    let first = cache.find(&key(0)).unwrap();
+    assert_eq!(cache.terms(first), terms(0.));
+    // three rows want room: the two oldest go
+    let rows = [[1, 2, 3], [4, 5, 6], [7, 8, 9]];
+    cache.insert(&key(3), &terms(3.), &rows);
+    assert_eq!((cache.entries(), cache.cached_rows()), (2, 4));
+    assert_eq!([0, 1].map(|subject| cache.find(&key(subject))), [None; 2]);
+    assert_eq!(cache.terms(cache.find(&key(2)).unwrap()), terms(2.));
+    let mut copy = [[0; 3]; 3];
+    cache.rows(cache.find(&key(3)).unwrap(), &mut copy);
+    assert_eq!(copy, rows);
+    // neither one with more rows than K nor one without any is kept
+    let before = cache.clone();
+    cache.insert(&key(4), &terms(4.), &[[0; 3]; 5]);
+    cache.insert(&key(4), &terms(4.), &[]);
+    assert_eq!(cache, before);
+}
+
+#[test]
+fn keys_of_kept_evaluations() {
+    let keys = [
+        CacheKey::one_effect(0, 1., 0., None),
+        CacheKey::one_effect(0, 1., -0., None),
+        CacheKey::one_effect(0, 1., 0., Some(0.)),
+        CacheKey::one_effect(0, 1., 0., Some(-0.)),
+        CacheKey::one_effect(0, -1., 0., None),
+        CacheKey::one_effect(1, 1., 0., None),
+    ];
+    let mut cache = Cache::new(64);
+    for (number, key) in keys.iter().enumerate() {
+        assert_eq!(cache.find(key), None);
+        cache.insert(key, &terms(number as f64), &[[0; 3]]);
+    }
+    for (number, key) in keys.iter().enumerate() {
+        let slot = cache.find(key).unwrap();
+        assert_eq!(cache.terms(slot), terms(number as f64));
+    }
 }
