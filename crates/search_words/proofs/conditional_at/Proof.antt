@@ -1,4 +1,4 @@
--- `mode_search::conditional_at` meets its contract. Assumes nothing.
+-- `conditional_at` meets its contract. Assumes nothing.
 use borrow.Author.Needs.{needs}
 use Rattle.float64.proofs.Laws.{free}
 use Rattle.search_words.specs.SearchWords.{conditionalAt}

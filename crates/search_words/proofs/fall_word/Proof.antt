@@ -1,4 +1,4 @@
--- `mode_search::fall_word` meets its contract. Assumes nothing.
+-- `fall_word` meets its contract. Assumes nothing.
 use mathlib.Core.Path.{refl}
 use Rattle.float64.specs.Pick.{yes, no}
 use Rattle.search_words.specs.SearchWords.{fallWord}

@@ -1,4 +1,4 @@
--- `mode_search::load` meets its contract: each exit by the tests that lead there. Assumes nothing.
+-- `load` meets its contract: each exit by the tests that lead there. Assumes nothing.
 use borrow.Author.Needs.{needs}
 use borrow.Author.Tests.{lt-ltb, le-ltb}
 use mathlib.Core.Path.{refl}

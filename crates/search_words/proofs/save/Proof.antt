@@ -1,4 +1,4 @@
--- `mode_search::save` meets its contract. Assumes nothing.
+-- `save` meets its contract. Assumes nothing.
 use borrow.Author.Needs.{needs}
 use mathlib.Core.Path.{_≡_}
 use mathlib.Core.List.{List, [], _∷_}

@@ -1,4 +1,4 @@
--- `mode_search::stage_of` meets its contract. Assumes nothing.
+-- `stage_of` meets its contract. Assumes nothing.
 use borrow.Author.Tests.{eq-eqb, ne-eqb}
 use mathlib.Core.Path.{refl}
 use Rattle.float64.specs.Pick.{yes, no}

@@ -1,4 +1,4 @@
--- `mode_search::stage_word` meets its contract. Assumes nothing.
+-- `stage_word` meets its contract. Assumes nothing.
 use borrow.Author.Needs.{needs}
 use mathlib.Core.Path.{sym, ap}
 use Rattle.search_words.specs.SearchWords.{stageWord}

@@ -1,4 +1,4 @@
--- `mode_search::words_of` meets its contract. Assumes nothing.
+-- `words_of` meets its contract. Assumes nothing.
 use Rattle.float64.proofs.Laws.{free}
 use Rattle.search_words.specs.SearchWords.{wordsOf}
 use Rattle.search_words.proofs.words_of.Statement.{statement}
