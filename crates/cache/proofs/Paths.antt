@@ -252,14 +252,14 @@ module _ (base c x : ℕ) (v : List ℕ) (from n i : ℕ) (w : List ℕ) where
 
 -- ---- the stores of one entry, from what each call ensures: r is the head that was read, f its new filter, w1 to w4 the words after each store
 module _ (w : List ℕ) (k oldest entry row : ℕ) (key : CacheKey) (terms : CachedTerms) (n : ℕ) (rows : List ℕ) (from : ℕ) where
-  pub written-is : {h head r latest f a count first number : ℕ} {w1 w2 w3 w4 : List ℕ} → h ≡ hash key → head ≡ headOf h k → r ≡ getD w head 0 → latest ≡ r % half → f ≡ withBit latest oldest (r / half) (h / half % 32) → count ≡ n → first ≡ row → a ≡ entryPlace k entry → w1 ≡ putRing 16 w a 16 0 (entryWords key terms count first) 0 0 → w2 ≡ putRing (rowWords * n) w1 (rowsFrom * k) (rowWords * k) (rowWords * row) rows from 0 → w3 ≡ set w2 (k + entry % k) (r % half + h / half * half) → number ≡ entry → w4 ≡ set w3 head (number + f * half) → w4 ≡ written w k oldest entry row key terms n rows from
+  pub written-is : {h head r latest f a number : ℕ} {es w1 w2 w3 w4 : List ℕ} → h ≡ hash key → head ≡ headOf h k → r ≡ getD w head 0 → latest ≡ r % half → f ≡ withBit latest oldest (r / half) (h / half % 32) → es ≡ entryWords key terms n row → a ≡ entryPlace k entry → w1 ≡ putRing 16 w a 16 0 es 0 0 → w2 ≡ putRing (rowWords * n) w1 (rowsFrom * k) (rowWords * k) (rowWords * row) rows from 0 → w3 ≡ set w2 (k + entry % k) (r % half + h / half * half) → number ≡ entry → w4 ≡ set w3 head (number + f * half) → w4 ≡ written w k oldest entry row key terms n rows from
   unfolding written linkPlace chain bits latestOf filterOf
-  written-is {h} {head} {r} {w1 = w1} {w2 = w2} eh ed er el eg ec ef ea e1 e2 e3 en e4 =
+  written-is {h} {head} {r} {w1 = w1} {w2 = w2} eh ed er el eg es ea e1 e2 e3 en e4 =
       let d : head ≡ headOf (hash key) k = ed ∙ ap (λ (x : ℕ). headOf x k) eh in
       let l : r ≡ getD w (headOf (hash key) k) 0 = er ∙ ap (λ (x : ℕ). getD w x 0) d in
       let u1 = putRing 16 w (entryPlace k entry) 16 0 (entryWords key terms n row) 0 0 in
       let u2 = putRing (rowWords * n) u1 (rowsFrom * k) (rowWords * k) (rowWords * row) rows from 0 in
-      let f1 : w1 ≡ u1 = e1 ∙ (λ i. putRing 16 w (ea i) 16 0 (entryWords key terms (ec i) (ef i)) 0 0) in
+      let f1 : w1 ≡ u1 = e1 ∙ (λ i. putRing 16 w (ea i) 16 0 (es i) 0 0) in
       let f2 : w2 ≡ u2 = e2 ∙ ap (λ (x : List ℕ). putRing (rowWords * n) x (rowsFrom * k) (rowWords * k) (rowWords * row) rows from 0) f1 in
       let g = eg ∙ ap (λ (x : ℕ). withBit x oldest (r / half) (h / half % 32)) el ∙ (λ i. withBit (l i % half) oldest (l i / half) (eh i / half % 32)) in
       e4 ∙ (λ i. set ((e3 ∙ (λ j. set (f2 j) (k + entry % k) (l j % half + eh j / half * half))) i) (d i) (en i + g i * half))

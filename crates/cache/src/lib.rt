@@ -114,22 +114,22 @@ fn part(word: u64, low: u64, high: u64) -> u64
 fn hash(key: CacheKey) -> u64
     ensures { λ r. ⌜ r ≡ hash key ⌝ }
 {
-    let theta0 = std::num::wrapping_add_u64(
+    let subject_theta0 = std::num::wrapping_add_u64(
         part(key.subject, 0x9e37_79b1, 0x85eb_ca77),
         part(key.theta0, 0xc2b2_ae3d, 0x27d4_eb2f),
     );
-    let eta0 = std::num::wrapping_add_u64(
+    let theta1_eta0 = std::num::wrapping_add_u64(
         part(key.theta1, 0x1656_67b1, 0xd3a2_646d),
         part(key.eta0, 0xfd70_46c5, 0xb55a_4f09),
     );
-    let override_flag = std::num::wrapping_add_u64(
+    let eta1_override = std::num::wrapping_add_u64(
         part(key.eta1, 0x8f1b_bcdd, 0x6ed9_eba1),
         part(key.has_additive, 0x5a82_7999, 0xca62_c1d7),
     );
     let additive = part(key.additive, 0xb7e1_5163, 0x7f4a_7c15);
     let sum = std::num::wrapping_add_u64(
-        std::num::wrapping_add_u64(theta0, eta0),
-        std::num::wrapping_add_u64(override_flag, additive),
+        std::num::wrapping_add_u64(subject_theta0, theta1_eta0),
+        std::num::wrapping_add_u64(eta1_override, additive),
     );
     sum % 4294967296 * 1640531527 + sum / 4294967296 * 2146121005
 }
@@ -415,6 +415,30 @@ fn put_ring(
     }
 }
 
+// An entry's words: key, terms, the number of its rows and the number of the first.
+fn entry_words(key: CacheKey, terms: CachedTerms, n: usize, row: usize) -> [u64; 16]
+    ensures { λ r. ⌜ r ≡ entryWords key terms n row ⌝ }
+{
+    [
+        key.subject,
+        key.theta0,
+        key.theta1,
+        key.eta0,
+        key.eta1,
+        key.has_additive,
+        key.additive,
+        terms.nll,
+        terms.score0,
+        terms.score1,
+        terms.i00,
+        terms.i01,
+        terms.i10,
+        terms.i11,
+        word(n),
+        word(row),
+    ]
+}
+
 // Writes the entry numbered `entry` with its n rows, the first numbered `row`; what is older than `oldest`
 // has gone.
 fn write_entry(
@@ -438,25 +462,8 @@ fn write_entry(
     let old = read(words, head);
     let latest = old % 4294967296;
     let filter = with_bit(number(latest), oldest, old / 4294967296, bits % 32);
-    let entry_words: [u64; 16] = [
-        key.subject,
-        key.theta0,
-        key.theta1,
-        key.eta0,
-        key.eta1,
-        key.has_additive,
-        key.additive,
-        terms.nll,
-        terms.score0,
-        terms.score1,
-        terms.i00,
-        terms.i01,
-        terms.i10,
-        terms.i11,
-        word(n),
-        word(row),
-    ];
-    put_ring(words, entry_place(k, entry), 16, 0, &entry_words, 0, 16);
+    let new = entry_words(key, terms, n, row);
+    put_ring(words, entry_place(k, entry), 16, 0, &new, 0, 16);
     put_ring(
         words,
         ROWS_FROM * k,

@@ -129,9 +129,6 @@ pub fn save(x: Search2) -> [u64; 25]
 {
     let at = x.stage;
     let stage = stage_word(at);
-    let seed = x.seed as u64;
-    let round = x.round as u64;
-    let reduction = x.reduction as u64;
     let current = words_of(x.current);
     let first = float64::to_word(x.trial.first);
     let second = float64::to_word(x.trial.second);
@@ -139,9 +136,9 @@ pub fn save(x: Search2) -> [u64; 25]
     let best = words_of(x.best);
     [
         stage,
-        seed,
-        round,
-        reduction,
+        x.seed as u64,
+        x.round as u64,
+        x.reduction as u64,
         current[0],
         current[1],
         current[2],

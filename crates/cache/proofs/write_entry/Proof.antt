@@ -5,7 +5,6 @@ use native.Mathlib.Omega.{arith}
 use native.Mathlib.Nat.{mod-lt}
 use Rattle.float64.proofs.Laws.{free}
 use Rattle.cache.proofs.Paths.{written-is}
-use Rattle.cache.specs.Cache.{entryWords}
 use Rattle.cache.proofs.write_entry.Statement.{statement}
 use Rattle.cache.proofs.write_entry.Tie as tie
 
@@ -46,7 +45,7 @@ add-put : tie.Need-add-put
 add-put c =
     let rows = c .before .before .before in
     let entry = rows .before .before .before .before in
-    let start = entry .before .before .before .before .before .before .before .before .before .before .before .before .before .before in
+    let start = entry .before .before .before .before .before .before .before .before .before .before .before .before .before in
     omega (arith, mod-lt (start .args .entry) (start .pre .0))
 
 mul-put : tie.Need-mul-put
@@ -60,9 +59,9 @@ mul-put-2 c = search needs
 
 add-put-3 : tie.Need-add-put-3
 add-put-3 c =
-    let filter = c .before .before .before .before .before .before .before .before .before .before .before .before .before .before .before .before .before .before in
+    let filter = c .before .before .before .before .before .before .before .before .before .before .before .before .before .before .before .before .before in
     let start = filter .before .before .before .before .before .before .before .before in
-    omega (arith, c .word3 .ensures, filter .with-bit .ensures .1, start .pre .3)
+    omega (arith, c .word .ensures, filter .with-bit .ensures .1, start .pre .3)
 
 same-length : tie.Need-same-length
 same-length c =
@@ -71,21 +70,21 @@ same-length c =
     c .before .before .put2 .kept .0 ∙ link .put .kept .0 ∙ rows .put-ring2 .kept .0 ∙ rows .before .before .before .before .put-ring .kept .0
 
 returns : tie.Need-returns
-unfolding entryWords
 returns c =
     let link = c .before .before .before .before .before .before .before in
     let rows = link .before .before .before .before in
     let entry = rows .before .before .before .before in
-    let filter = entry .before .before .before .before .before .before in
+    let new = entry .before .before .before .before in
+    let filter = new .before in
     let old = filter .before .before in
     written-is _ _ _ _ _ _ _ _ _ _ (old .before .before .before .hash .ensures) (old .before .before .head-of .ensures) (old .read .ensures) (filter .before .number .ensures) (filter .with-bit .ensures .0)
-    (entry .before .before .before .before .before .word .ensures) (entry .before .before .before .before .word2 .ensures) (entry .before .before .entry-place .ensures .0) (entry .put-ring .ensures)
-    (rows .put-ring2 .ensures) (link .put .ensures) (c .before .before .before .word3 .ensures) (c .before .before .put2 .ensures)
+    (new .entry-words .ensures) (entry .before .before .entry-place .ensures .0) (entry .put-ring .ensures) (rows .put-ring2 .ensures) (link .put .ensures) (c .before .before .before .word .ensures)
+    (c .before .before .put2 .ensures)
 
 pub write-entry-spec : {M : Type 1} → statement M
 write-entry-spec =
     tie.close
     (tie.spec
-    free head-of-requires free free with-bit-requires free free entry-place-requires slice-aggregate-put-ring
+    free head-of-requires free free with-bit-requires free entry-place-requires slice-aggregate-put-ring
     put-ring-requires mul-put-ring mul-put-ring-2 mul-put-ring-3 mul-put-ring-4 put-ring-requires-2 rem-put
     add-put mul-put add-put-2 free free mul-put-2 add-put-3 free same-length returns)

@@ -28,37 +28,37 @@ laid :
 unfolding saved wordsOf
 laid x s c f g d b = rw (s, c, f, g, d, b)
 
-cast-seed : tie.Need-cast-seed
-cast-seed c = search needs
+cast-t10 : tie.Need-cast-t10
+cast-t10 c = search needs
 
-cast-round : tie.Need-cast-round
-cast-round c = search needs
+cast-t11 : tie.Need-cast-t11
+cast-t11 c = search needs
 
-cast-reduction : tie.Need-cast-reduction
-cast-reduction c = search needs
+cast-t12 : tie.Need-cast-t12
+cast-t12 c = search needs
 
 returns : tie.Need-returns
 returns c =
-    let decrease = c .before in
+    let best = c .before .before .before in
+    let decrease = best .before in
     let second = decrease .before in
     let first = second .before in
     let current = first .before in
-    laid _ (current .before .before .before .before .stage-word .ensures) (current .words-of .ensures) (first .to-word .ensures) (second .to-word2 .ensures) (decrease .to-word3 .ensures)
-    (c .words-of2 .ensures)
+    laid _ (current .before .stage-word .ensures) (current .words-of .ensures) (first .to-word .ensures) (second .to-word2 .ensures) (decrease .to-word3 .ensures) (best .words-of2 .ensures)
 
 pub save-spec : {M : Type 1} → statement M
 save-spec =
     tie.close
     (tie.spec
     free
-    cast-seed
-    cast-round
-    cast-reduction
     free
     free
     free
     free
     free
+    cast-t10
+    cast-t11
+    cast-t12
     (at 0 tt)
     (at 1 tt)
     (at 2 tt)
