@@ -11,7 +11,7 @@
 ghost use mathlib.Core.Path.{_≡_};
 ghost use Prim.Native.Nat.{_+_, _-_, _*_, _%_, _≤_, _<_};
 ghost use lib.ListN.{getD, set};
-ghost use Rattle.cache.specs.Cache.{part, hash, headOf, hasBit, withBit, isRoom, isSame, isAt, walk, entryPlace, find, termsAt, termsOf, rowsTo, copied, raised, evict, putRing, entryWords, written, isKept, after, insert};
+ghost use Rattle.cache.specs.Cache.{rowWords, part, hash, headOf, hasBit, withBit, isRoom, isSame, isAt, walk, entryPlace, find, termsAt, termsOf, rowsTo, copied, raised, evict, putRing, entryWords, written, isKept, after, insert};
 
 // The layout: the words of a row, and where entries and rows begin, for each row of the room.
 const ROW_WORDS: usize = 3;
@@ -453,7 +453,7 @@ fn write_entry(
     rows: &[u64],
     from: usize,
 )
-    requires { ⌜ (0 < k) × (k ≤ 100000) × (n ≤ k) × (entry < 4294967296) × (row < 1152921504606846976) × (from + 3 * n < 18446744073709551616) ⌝ }
+    requires { ⌜ (0 < k) × (k ≤ 100000) × (n ≤ k) × (entry < 4294967296) × (row < 1152921504606846976) × (from + rowWords * n < 18446744073709551616) ⌝ }
     ensures { λ _. ⌜ now (words .exit) ≡ written (now (words .entry)) k oldest entry row key terms n (now (rows .entry)) from ⌝ }
 {
     let hash = hash(key);
