@@ -15,7 +15,7 @@ use borrow.Author.Tests.{le-ltb, ltb-true, ltb-false}
 use Rattle.float64.specs.Pick.{cases, pick-yes, pick-no}
 use Rattle.cache.specs.declared.Found.{Found}
 use Rattle.cache.specs.declared.Found.the-variants.{At, Nothing}
-use Rattle.cache.specs.Cache.{half, rowWords, rowAt, firstOf, insert, Cache, termsOf, copyFrom, rowsTo, copied}
+use Rattle.cache.specs.Cache.{half, rowWords, rowsFrom, rowAt, firstOf, insert, Cache, termsOf, copyFrom, rowsTo, copied}
 use Rattle.cache.specs.Kept.{Entry, Stands, lookup, dropTo, foundEntry, entryOf, rowWordsFrom, Evaluated, Lent, AllLent, entryFor, unlessAt, unlessFound, cacheWith, cacheAfter, appended, keptWith, keptAfter}
 use Rattle.cache.specs.Claim.{Refinement}
 use Rattle.cache.proofs.Walked.{split, room-is, find-is-lookup}
@@ -88,10 +88,10 @@ copy-same (suc m) w k x out to i t a b l =
     (λ (h : t ≤ i). let e : i ≡ t = omega arith in copy-other m w k x _ to (i + 1) (to + t) (inl (omega arith)) ∙ ap (λ (u : ℕ). getD (set out (to + u) (rowAt w k (x + u))) (to + t) 0) e ∙ getD-set-same out (to + t) (rowAt w k (x + t)) 0 (omega arith))
     (split i t)
 
-module _ (w : List ℕ) (k slot n : ℕ) (out : List ℕ) (to : ℕ) (a : 1 ≤ k) (b : k ≤ 100000) (most : n ≤ k) (fits : to + rowWords * n ≤ length out) where
+module _ (w : List ℕ) (k slot n : ℕ) (out : List ℕ) (to : ℕ) (a : 1 ≤ k) (b : k ≤ 100000) (long : 24 * k ≤ length w) (most : n ≤ k) (fits : to + rowWords * n ≤ length out) where
   copied-is : copied w k slot n out to ≡ rowsTo w k slot (rowWords * n) out to
   unfolding copied
-  copied-is = pick-yes _ _ _ (room-is k a b) ∙ pick-no _ _ _ (le-ltb k n most) ∙ pick-no _ _ _ (le-ltb (length out) (to + rowWords * n) fits)
+  copied-is = pick-yes _ _ _ (room-is k a b) ∙ pick-no _ _ _ (le-ltb k n most) ∙ pick-no _ _ _ (le-ltb (length w) ((rowsFrom + rowWords) * k) (omega (arith, long))) ∙ pick-no _ _ _ (le-ltb (length out) (to + rowWords * n) fits)
 
   -- the rows copied are the entry's
   pub copied-at : n ≤ entryOf w k slot .n → (j : ℕ) → j < rowWords * n → getD (copied w k slot n out to) (to + j) 0 ≡ getD (entryOf w k slot .rows) j 0
@@ -115,6 +115,6 @@ refinement = record {
   atMost = rows-most;
   run = kept-after;
   readsTerms = λ w k slot m. terms-at w k slot (m .some) (m .most);
-  readsRows = λ w k slot n out to m h f e j d. copied-at w k slot n out to (m .some) (m .most) h f e j d;
-  readsNoMore = λ w k slot n out to m h f j d. copied-else w k slot n out to (m .some) (m .most) h f j d;
+  readsRows = λ w k slot n out to m l h f e j d. copied-at w k slot n out to (m .some) (m .most) l h f e j d;
+  readsNoMore = λ w k slot n out to m l h f j d. copied-else w k slot n out to (m .some) (m .most) l h f j d;
 }

@@ -173,12 +173,18 @@ copyFrom (suc n) w k x out to i = copyFrom n w k x (set out (to + i) (rowAt w k 
 unfoldable pub rowsTo : List ℕ → ℕ → ℕ → ℕ → List ℕ → ℕ → List ℕ
 rowsTo w k slot n out to = copyFrom n w k (rowWords * firstOf w k slot) out to 0
 
--- n rows, where they fit
+-- n words of w from `from` + i on, to `to` + i on
+unfoldable pub copyRun : ℕ → List ℕ → ℕ → List ℕ → ℕ → ℕ → List ℕ
+copyRun zero w from out to i = out
+copyRun (suc n) w from out to i = copyRun n w from (set out (to + i) (at w (from + i))) to (i + 1)
+
+-- n rows, where they fit and all rows are lent
 unfoldable pub copied : List ℕ → ℕ → ℕ → ℕ → List ℕ → ℕ → List ℕ
 copied w k slot n out to =
     pick (isRoom k)
     (pick (ltb k n) out
-    (pick (ltb (length out) (to + rowWords * n)) out (rowsTo w k slot (rowWords * n) out to)))
+    (pick (ltb (length w) ((rowsFrom + rowWords) * k)) out
+    (pick (ltb (length out) (to + rowWords * n)) out (rowsTo w k slot (rowWords * n) out to))))
     out
 
 -- ---- keeping

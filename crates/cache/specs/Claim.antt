@@ -40,7 +40,7 @@ pub record Refinement : Type 0 where
       → Stands (cacheAfter k t xs .words) k (cacheAfter k t xs .order) (keptAfter k l xs)
   -- the readers read what the slot's entry holds, and write nothing else
   pub readsTerms : (w : List ℕ) (k slot : ℕ) → Room k → termsOf w k slot ≡ entryOf w k slot .terms
-  pub readsRows : (w : List ℕ) (k slot n : ℕ) (out : List ℕ) (to : ℕ) → Room k → n ≤ k → to + rowWords * n ≤ length out → n ≤ entryOf w k slot .n
+  pub readsRows : (w : List ℕ) (k slot n : ℕ) (out : List ℕ) (to : ℕ) → Room k → 24 * k ≤ length w → n ≤ k → to + rowWords * n ≤ length out → n ≤ entryOf w k slot .n
       → (j : ℕ) → j < rowWords * n → getD (copied w k slot n out to) (to + j) 0 ≡ getD (entryOf w k slot .rows) j 0
-  pub readsNoMore : (w : List ℕ) (k slot n : ℕ) (out : List ℕ) (to : ℕ) → Room k → n ≤ k → to + rowWords * n ≤ length out
+  pub readsNoMore : (w : List ℕ) (k slot n : ℕ) (out : List ℕ) (to : ℕ) → Room k → 24 * k ≤ length w → n ≤ k → to + rowWords * n ≤ length out
       → (j : ℕ) → (j < to) ⊎ (to + rowWords * n ≤ j) → getD (copied w k slot n out to) j 0 ≡ getD out j 0

@@ -10,8 +10,8 @@
 // unlinked.
 ghost use mathlib.Core.Path.{_≡_};
 ghost use Prim.Native.Nat.{_+_, _-_, _*_, _%_, _≤_, _<_};
-ghost use lib.ListN.{getD, set};
-ghost use Rattle.cache.specs.Cache.{rowWords, part, hash, headOf, hasBit, withBit, isRoom, isSame, isAt, walk, entryPlace, find, termsAt, termsOf, rowsTo, copied, raised, evict, putRing, entryWords, written, isKept, after, insert};
+ghost use lib.ListN.{getD, set, length};
+ghost use Rattle.cache.specs.Cache.{rowWords, rowsFrom, part, hash, headOf, hasBit, withBit, isRoom, isSame, isAt, walk, entryPlace, find, termsAt, termsOf, copyRun, rowsTo, copied, raised, evict, putRing, entryWords, written, isKept, after, insert};
 
 // The layout: the words of a row, and where entries and rows begin, for each row of the room.
 const ROW_WORDS: usize = 3;
@@ -318,29 +318,45 @@ fn onward(at: usize, c: usize) -> usize
     at + 1
 }
 
-// Copies n words of a slot's rows to `out`, from word `to` on.
-fn copy_words(words: &[u64], k: usize, slot: usize, n: usize, out: &mut [u64], to: usize)
-    requires { ⌜ (0 < k) × (k ≤ 100000) × (to + n < 18446744073709551616) ⌝ }
-    ensures { λ _. ⌜ now (out .exit) ≡ rowsTo (now (words .entry)) k slot n (now (out .entry)) to ⌝ }
+// Copies n words, from word `from` on, to `out`, from word `to` on.
+fn copy_run(words: &[u64], from: usize, n: usize, out: &mut [u64], to: usize)
+    requires { ⌜ (from + n ≤ length (now words)) × (to + n ≤ length (now out)) ⌝ }
+    ensures { λ _. ⌜ now (out .exit) ≡ copyRun n (now (words .entry)) from (now (out .entry)) to 0 ⌝ }
 {
-    let first = number(read(words, entry_place(k, slot) + 15));
-    let c = ROW_WORDS * k;
-    let base = ROWS_FROM * k;
-    let mut at = ROW_WORDS * (first % k);
     let mut i = 0;
     while i < n {
-        put(out, to + i, read(words, base + at));
-        at = onward(at, c);
+        out[to + i] = words[from + i];
         i += 1;
     }
 }
 
-// Copies the first n rows of a slot to `out`, from word `to` on, where they fit.
+// Copies n words of a slot's rows to `out`, from word `to` on: those before the end of their ring, then
+// those from its beginning on.
+fn copy_words(words: &[u64], k: usize, slot: usize, n: usize, out: &mut [u64], to: usize)
+    requires { ⌜ (0 < k) × (k ≤ 100000) × (n ≤ rowWords * k) × ((rowsFrom + rowWords) * k ≤ length (now words)) × (to + n ≤ length (now out)) ⌝ }
+    ensures { λ _. ⌜ now (out .exit) ≡ rowsTo (now (words .entry)) k slot n (now (out .entry)) to ⌝ }
+{
+    let first = number(read(words, entry_place(k, slot) + 15));
+    let base = ROWS_FROM * k;
+    let at = ROW_WORDS * (first % k);
+    let left = ROW_WORDS * k - at;
+    if n <= left {
+        copy_run(words, base + at, n, out, to);
+        return;
+    }
+    copy_run(words, base + at, left, out, to);
+    copy_run(words, base, n - left, out, to + left);
+}
+
+// Copies the first n rows of a slot to `out`, from word `to` on, where they fit and all rows are lent.
 pub fn copy_rows(words: &[u64], k: usize, slot: usize, n: usize, out: &mut [u64], to: usize)
     ensures { λ _. ⌜ now (out .exit) ≡ copied (now (words .entry)) k slot n (now (out .entry)) to ⌝ }
 {
     if is_room(k) {
         if k < n {
+            return;
+        }
+        if words.len() < (ROWS_FROM + ROW_WORDS) * k {
             return;
         }
         if to <= out.len() {

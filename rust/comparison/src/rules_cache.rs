@@ -158,7 +158,7 @@ fn fit(n: usize, words: usize, place: usize) -> bool {
 }
 
 pub fn copy_rows(words: &[u64], k: usize, slot: usize, n: usize, out: &mut [u64], to: usize) {
-    if !is_room(k) || n > k || !fit(n, out.len(), to) {
+    if !is_room(k) || n > k || words.len() < (ROWS + ROW_WORDS) * k || !fit(n, out.len(), to) {
         return;
     }
     let first = at(words, entry_place(k, slot as u64) + FIRST);

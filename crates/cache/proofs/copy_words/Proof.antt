@@ -1,82 +1,89 @@
--- `copy_words` meets its contract: each turn by its law. Assumes nothing.
+-- `copy_words` meets its contract: in one run, or in two. Assumes nothing.
 use borrow.Author.Needs.{needs}
-use mathlib.Core.Path.{refl, _∙_, _≡_}
+use mathlib.Core.Path.{_∙_}
 use native.Mathlib.Omega.{arith}
-use native.Mathlib.Nat.{mod-lt, sub-zero}
-use Prim.Native.Nat.{_+_, _-_, _*_, _%_}
-use lib.ListN.{length}
+use native.Mathlib.Nat.{mod-lt}
 use Rattle.float64.proofs.Laws.{free}
-use Rattle.cache.proofs.Paths.{round, within-rows, copy-start, copy-end, copy-step, copy-is}
-use Rattle.cache.specs.Cache.{rowWords, copyFrom}
+use Rattle.cache.proofs.Paths.{one-run, two-runs}
 use Rattle.cache.proofs.copy_words.Statement.{statement}
 use Rattle.cache.proofs.copy_words.Tie as tie
 
-abbrev Inv-loop : tie.InvT-loop
-Inv-loop words k slot n out₀ to first c base at₀ i₀ out at i =
-    (copyFrom (n - i) words k (rowWords * first) out to i ≡ copyFrom n words k (rowWords * first) out₀ to 0)
-    × (at ≡ (rowWords * first + i) % (rowWords * k))
-    × (length out ≡ length out₀)
-
-abbrev μ-loop : tie.MeasureT-loop
-μ-loop words k slot n out₀ to first c base at₀ i₀ out at i = n - i
-
-entry-place-requires : tie.Need-entry-place-requires Inv-loop μ-loop
+entry-place-requires : tie.Need-entry-place-requires
 entry-place-requires c κs = search needs
 
-add-read : tie.Need-add-read Inv-loop μ-loop
+add-read : tie.Need-add-read
 add-read c = search needs
 
-mul-c : tie.Need-mul-c Inv-loop μ-loop
-mul-c c = search needs
-
-mul-base : tie.Need-mul-base Inv-loop μ-loop
+mul-base : tie.Need-mul-base
 mul-base c = search needs
 
-rem-at : tie.Need-rem-at Inv-loop μ-loop
+rem-at : tie.Need-rem-at
 rem-at c = search needs
 
-mul-at : tie.Need-mul-at Inv-loop μ-loop
-mul-at c = omega (arith, mod-lt (c .number .result) (c .before .before .before .before .before .pre .0))
+mul-at : tie.Need-mul-at
+mul-at c = let start = c .before .before .before .before .before in omega (arith, mod-lt (c .number .result) (start .pre .0))
 
-loop-holds : tie.Need-loop-holds Inv-loop μ-loop
-loop-holds c = (simp sub-zero, copy-start _ _ (c .before .before .before .before .before .pre .0), refl)
+mul-left : tie.Need-mul-left
+mul-left c = search needs
 
-add-put : tie.Need-add-put Inv-loop μ-loop
-add-put c = search needs
+sub-left : tie.Need-sub-left
+sub-left c = let start = c .before .before .before .before .before in omega (arith, mod-lt (c .number .result) (start .pre .0))
 
-add-read-2 : tie.Need-add-read-2 Inv-loop μ-loop
-add-read-2 c = let turn = c .before .before in omega (arith, within-rows _ _ (turn .before .before .before .before .before .before .pre .0) (turn .loop .inv .1))
+add-copy-run : tie.Need-add-copy-run
+add-copy-run c = let start = c .before .before .before .before .before .before in omega (arith, mod-lt (c .before .number .result) (start .pre .0))
 
-onward-requires : tie.Need-onward-requires Inv-loop μ-loop
-onward-requires c κs = let turn = c .before .before .before .before .before .before in within-rows _ _ (turn .before .before .before .before .before .before .pre .0) (turn .loop .inv .1)
+copy-run-requires : tie.Need-copy-run-requires
+copy-run-requires c κs =
+    let start = c .before .before .before .before .before .before .before in
+    let m = mod-lt (c .before .before .number .result) (start .pre .0) in
+    (omega (arith, m, c .before .if1 .taken, start .pre .3), omega (arith, start .pre .4))
 
-add-i : tie.Need-add-i Inv-loop μ-loop
-add-i c = search needs
+same-length : tie.Need-same-length
+same-length c = c .before .before .copy-run .kept .1 .1 .1 .0
 
-loop-less : tie.Need-loop-less Inv-loop μ-loop
-loop-less c = search needs
-
-loop-again : tie.Need-loop-again Inv-loop μ-loop
-loop-again c =
-    let stored = c .before .before .before in
-    let turn = stored .before .before .before in
-    let so-far = turn .before .loop .inv in (
-      copy-step _ _ _ _ _ _ _ (turn .loop-test .taken) (so-far .1) (stored .before .read2 .ensures) (stored .put .ensures) ∙ so-far .0,
-      round _ _ _ (so-far .1) (c .onward .ensures),
-      stored .put .kept .0 ∙ so-far .2,
-    )
-
-same-length : tie.Need-same-length Inv-loop μ-loop
-same-length c = c .before .loop .inv .2
-
-returns : tie.Need-returns Inv-loop μ-loop
+returns : tie.Need-returns
 returns c =
-    copy-end _ _ _ _ _ _ _ (c .loop-test .left) ∙ c .before .loop .inv .0
-    ∙ copy-is _ _ _ _ _ _ (c .before .before .before .before .entry-place .ensures .0) (c .before .before .before .read .ensures) (c .before .before .number .ensures)
+    let numbered = c .before .before .before .before .before in
+    let start = numbered .before .before .before .before .before in
+    one-run _ _ _ _ _ _ (start .pre .0) (numbered .before .before .entry-place .ensures .0) (numbered .before .read .ensures) (numbered .number .ensures) (c .before .before .before .before .if1 .taken) (c .before .before .copy-run .ensures)
+
+add-copy-run-2 : tie.Need-add-copy-run-2
+add-copy-run-2 c = let start = c .before .before .before .before .before .before in omega (arith, mod-lt (c .before .number .result) (start .pre .0))
+
+copy-run-requires-2 : tie.Need-copy-run-requires-2
+copy-run-requires-2 c κs =
+    let start = c .before .before .before .before .before .before .before in
+    let m = mod-lt (c .before .before .number .result) (start .pre .0) in
+    (omega (arith, m, start .pre .3), omega (arith, m, c .before .if1 .left, start .pre .4))
+
+sub-copy-run : tie.Need-sub-copy-run
+sub-copy-run c = search needs
+
+add-copy-run-3 : tie.Need-add-copy-run-3
+add-copy-run-3 c = search needs
+
+copy-run-requires-3 : tie.Need-copy-run-requires-3
+copy-run-requires-3 c κs =
+    let start = c .before .before .before .before .before .before .before .before .before .before .before in
+    let m = mod-lt (c .before .before .before .before .before .before .number .result) (start .pre .0) in
+    (omega (arith, m, start .pre .2, start .pre .3), omega (arith, m, start .pre .4, c .before .before .before .copy-run2 .kept .1 .1 .1 .0, c .before .before .before .before .before .if1 .left))
+
+same-length-2 : tie.Need-same-length-2
+same-length-2 c = c .before .before .copy-run3 .kept .1 .1 .1 .0 ∙ c .before .before .before .before .before .before .copy-run2 .kept .1 .1 .1 .0
+
+returns-2 : tie.Need-returns-2
+returns-2 c =
+    let first = c .before .before .before .before .before .before in
+    let test = first .before .before in
+    let numbered = test .before in
+    let start = numbered .before .before .before .before .before in
+    two-runs _ _ _ _ _ _ (start .pre .0) (numbered .before .before .entry-place .ensures .0) (numbered .before .read .ensures) (numbered .number .ensures) (start .pre .2) (test .if1 .left) (first .copy-run2 .ensures)
+    (c .before .before .copy-run3 .ensures)
 
 pub copy-words-spec : {M : Type 1} → statement M
 copy-words-spec =
     tie.close
     (tie.spec
-    Inv-loop μ-loop entry-place-requires add-read free free mul-c mul-base rem-at mul-at loop-holds add-put
-    add-read-2 free free onward-requires add-i loop-less loop-again same-length returns)
+    entry-place-requires add-read free free mul-base rem-at mul-at mul-left sub-left add-copy-run
+    copy-run-requires same-length returns add-copy-run-2 copy-run-requires-2 sub-copy-run add-copy-run-3
+    copy-run-requires-3 same-length-2 returns-2)
