@@ -3,15 +3,14 @@
 //
 // The words, for K rows: K heads, K links, K entries of 16 words, 3·K words of rows. Entries are numbered
 // from 1 as they come, and entry s stands in slot s % K. Rows are numbered from 0, and word x of all rows
-// stands at x % (3·K). The entries of a chain have keys of one hash. A head is the number of the latest
-// entry of its chain; a slot's link is the number of the entry before it in the chain, with bits of the
-// hash above it. A head has a filter above its number: a bit for each entry of its chain, so that most keys
-// that are not kept are known by the head alone. A number below the oldest is dead, so nothing is ever
-// unlinked.
+// stands at x % (3·K). The entries whose keys' hashes fall to one head are a chain. The head has the number
+// of its latest entry, and above it a filter: a bit for each entry of the chain, so that most keys that are
+// not kept are known by the head alone. A slot's link has the number of the entry before it in the chain,
+// and above it bits of its own key's hash. A number below the oldest is dead, so nothing is ever unlinked.
 ghost use mathlib.Core.Path.{_≡_};
 ghost use Prim.Native.Nat.{_+_, _-_, _*_, _%_, _≤_, _<_};
 ghost use lib.ListN.{getD, set, length};
-ghost use Rattle.cache.specs.Cache.{rowWords, rowsFrom, part, hash, headOf, hasBit, withBit, isRoom, isSame, isAt, walk, entryPlace, find, termsAt, termsOf, copyRun, rowsTo, copied, raised, evict, putRing, entryWords, written, isKept, after, insert};
+ghost use Rattle.cache.specs.Cache.{half, rowWords, rowsFrom, part, hash, headOf, hasBit, withBit, isRoom, isSame, isAt, walk, entryPlace, find, termsAt, termsOf, copyRun, rowsTo, copied, raised, evict, putRing, entryWords, written, isKept, after, insert};
 
 // The layout: the words of a row, and where entries and rows begin, for each row of the room.
 const ROW_WORDS: usize = 3;
@@ -19,6 +18,11 @@ const ROW_WORDS: usize = 3;
 const ENTRIES_FROM: usize = 2;
 
 const ROWS_FROM: usize = 18;
+
+// Half a word: 2^32. A number of an entry is below it.
+const HALF: u64 = 4294967296;
+
+const ENTRY_NUMBERS: usize = 4294967296;
 
 // The source's CacheKey: the subject, the words of both thetas and both etas, and the optional additive
 // override, with has_additive 0 where there is none. The sign of a zero counts. With one effect the second
@@ -104,11 +108,11 @@ fn less(a: usize, b: usize) -> usize
 
 // The product of a word's halves, each with a number of its own added.
 fn part(word: u64, low: u64, high: u64) -> u64
-    requires { ⌜ low < 4294967296 ⌝ }
-    requires { ⌜ high < 4294967296 ⌝ }
+    requires { ⌜ low < half ⌝ }
+    requires { ⌜ high < half ⌝ }
     ensures { λ r. ⌜ r ≡ part word low high ⌝ }
 {
-    (word % 4294967296 + low) % 4294967296 * ((word / 4294967296 + high) % 4294967296)
+    (word % HALF + low) % HALF * ((word / HALF + high) % HALF)
 }
 
 fn hash(key: CacheKey) -> u64
@@ -131,7 +135,7 @@ fn hash(key: CacheKey) -> u64
         std::num::wrapping_add_u64(subject_theta0, theta1_eta0),
         std::num::wrapping_add_u64(eta1_override, additive),
     );
-    sum % 4294967296 * 1640531527 + sum / 4294967296 * 2146121005
+    sum % HALF * 1640531527 + sum / HALF * 2146121005
 }
 
 // The chain of a hash, by its low half: below k.
@@ -139,7 +143,7 @@ fn head_of(hash: u64, k: usize) -> usize
     requires { ⌜ k ≤ 100000 ⌝ }
     ensures { λ r. ⌜ r ≡ headOf hash k ⌝ }
 {
-    number(hash % 4294967296 * word(k) / 4294967296)
+    number(hash % HALF * word(k) / HALF)
 }
 
 // Whether the filter has this bit.
@@ -152,9 +156,9 @@ fn has_bit(filter: u64, bit: u64) -> bool
 
 // The filter with one more bit. A chain without a live entry begins anew.
 fn with_bit(latest: usize, oldest: usize, filter: u64, bit: u64) -> u64
-    requires { ⌜ filter < 4294967296 ⌝ }
+    requires { ⌜ filter < half ⌝ }
     requires { ⌜ bit < 32 ⌝ }
-    ensures { λ r. ⌜ (r ≡ withBit latest oldest filter bit) × (r < 4294967296) ⌝ }
+    ensures { λ r. ⌜ (r ≡ withBit latest oldest filter bit) × (r < half) ⌝ }
 {
     if latest < oldest {
         return 1 << bit;
@@ -212,7 +216,7 @@ fn is_at(words: &[u64], k: usize, entry: usize, bits: u64, key: CacheKey) -> boo
     requires { ⌜ (0 < k) × (k ≤ 100000) ⌝ }
     ensures { λ r. ⌜ r ≡ isAt (now (words .entry)) k entry bits key ⌝ }
 {
-    if read(words, k + entry % k) / 4294967296 == bits {
+    if read(words, k + entry % k) / HALF == bits {
         return is_same(words, entry_place(k, entry), key);
     }
     false
@@ -241,7 +245,7 @@ fn walk(
         if is_at(words, k, entry, bits, key) {
             return Found::At(entry % k);
         }
-        entry = number(read(words, k + entry % k) % 4294967296);
+        entry = number(read(words, k + entry % k) % HALF);
     }
     Found::Nothing
 }
@@ -261,9 +265,9 @@ pub fn find(words: &[u64], k: usize, order: CacheOrder, key: CacheKey) -> Found
         }
         let hash = hash(key);
         let head = read(words, head_of(hash, k));
-        let bits = hash / 4294967296;
-        if has_bit(head / 4294967296, bits % 32) {
-            let latest = number(head % 4294967296);
+        let bits = hash / HALF;
+        if has_bit(head / HALF, bits % 32) {
+            let latest = number(head % HALF);
             return walk(words, k, order.oldest, bits, key, latest, most);
         }
         return Found::Nothing;
@@ -469,15 +473,15 @@ fn write_entry(
     rows: &[u64],
     from: usize,
 )
-    requires { ⌜ (0 < k) × (k ≤ 100000) × (n ≤ k) × (entry < 4294967296) × (row < 1152921504606846976) × (from + rowWords * n < 18446744073709551616) ⌝ }
+    requires { ⌜ (0 < k) × (k ≤ 100000) × (n ≤ k) × (entry < half) × (row < 1152921504606846976) × (from + rowWords * n < 18446744073709551616) ⌝ }
     ensures { λ _. ⌜ now (words .exit) ≡ written (now (words .entry)) k oldest entry row key terms n (now (rows .entry)) from ⌝ }
 {
     let hash = hash(key);
-    let bits = hash / 4294967296;
+    let bits = hash / HALF;
     let head = head_of(hash, k);
     let old = read(words, head);
-    let latest = old % 4294967296;
-    let filter = with_bit(number(latest), oldest, old / 4294967296, bits % 32);
+    let latest = old % HALF;
+    let filter = with_bit(number(latest), oldest, old / HALF, bits % 32);
     let new = entry_words(key, terms, n, row);
     put_ring(words, entry_place(k, entry), 16, 0, &new, 0, 16);
     put_ring(
@@ -489,8 +493,8 @@ fn write_entry(
         from,
         ROW_WORDS * n,
     );
-    put(words, k + entry % k, latest + bits * 4294967296);
-    put(words, head, word(entry) + filter * 4294967296);
+    put(words, k + entry % k, latest + bits * HALF);
+    put(words, head, word(entry) + filter * HALF);
 }
 
 // An evaluation is kept that has rows, at most K, all of them lent, beside at most K entries, and with
@@ -514,7 +518,7 @@ fn is_kept(k: usize, order: CacheOrder, n: usize, lent: usize, from: usize) -> b
         if k < less(order.next, order.oldest) {
             return false;
         }
-        if order.next < 4294967296 {
+        if order.next < ENTRY_NUMBERS {
             return order.next_row < 1152921504606846976;
         }
         return false;
