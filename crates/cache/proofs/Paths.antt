@@ -20,7 +20,7 @@ use Rattle.cache.specs.declared.Found.the-variants.{At, Nothing}
 use Rattle.cache.specs.Cache.{rowWords, rowsFrom, half, mixed, hash, headOf, chain, bits, bitOf, hasBit, withBit, latestOf, filterOf, entryPlace, linkPlace, rowPlace, countOf, linkOf, bitsOf, rowAt, isRoom, isSame, isAt, walk, find, copyFrom, copyRun, rowsTo, copied, order, raised, evict, putRing, entryWords, written, isKept, after, placed, insert}
 
 -- ---- tests
-picked : (b x : Bool) → pick b x false ≡ true → (b ≡ true) × (x ≡ true)
+pub picked : (b x : Bool) → pick b x false ≡ true → (b ≡ true) × (x ≡ true)
 picked b x =
     cases (λ (y : Bool). y ≡ true → (b ≡ true) × (x ≡ true)) b (λ p e. (p, e)) (λ p e. absurd (subst T (sym e) tt))
 

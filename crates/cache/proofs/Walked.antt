@@ -16,6 +16,7 @@ use Rattle.cache.specs.declared.Found.{Found}
 use Rattle.cache.specs.declared.Found.the-variants.{At, Nothing}
 use Rattle.cache.specs.Cache.{half, hash, headOf, entryPlace, countOf, linkOf, bitsOf, latestOf, filterOf, hasBit, bits, bitOf, chain, sameKey, isSame, isAt, walk, isRoom, find}
 use Rattle.cache.specs.Kept.{Entry, lookup, keyOf, entryOf, keptFrom, foundEntry, Latest, Laid, Good, Stands}
+use Rattle.cache.proofs.Paths.{picked}
 
 pub which : (b : Bool) → (b ≡ true) ⊎ (b ≡ false)
 which true = inl refl
@@ -40,11 +41,6 @@ chain-lt k key h = div-lt-iff-lt-mul (lit< tt) .1 (go (hash key % half) k (mod-l
     go x k a b = let m : (x + 1) * k ≤ half * k = mul-le-mul-right k (omega arith) in omega (arith, m, b)
 
 -- ---- keys
-picked : (b : Bool) (x : Bool) → pick b x false ≡ true → (b ≡ true) × (x ≡ true)
-unfolding pick
-picked true x e = (refl, e)
-picked false x e = absurd (subst T (sym e) tt)
-
 pub same-true : (a b : CacheKey) → sameKey a b ≡ true → a ≡ b
 unfolding sameKey
 same-true a b e =

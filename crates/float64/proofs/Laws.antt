@@ -5,7 +5,7 @@ use Prim.Native.Nat.{ℕ, zero, suc, _+_, _*_, _%_, _^_, _<_, _≤_}
 use native.Mathlib.Nat.{mul-pos, pow-suc, zero-lt-suc, zero-mul}
 use native.Mathlib.Omega.{arith}
 use borrow.Author.Tests.{lt-ltb, le-ltb, ltb-true, ltb-false}
-use lib.Dec.{T, eqb, eqb→eq}
+use lib.Dec.{T, ltb, eqb, eqb→eq, lit<}
 use lib.IntN.{ℤ, pos, negsuc}
 use lib.Pow.{pow-pos}
 use lib.Ieee.{Float, nan, inf, fin, binary64, ofBits, nanBits, isNan, fits, up, down, lt, eq, ne, neg}
@@ -18,6 +18,10 @@ use Rattle.float64.specs.Float64.{abs}
 -- ---- at any place of the code, a call with no `requires` asks nothing
 pub free : {C K : Type 0} → C → K → Unit {0}
 free c κs = tt
+
+-- and a literal index is below a literal length
+pub index : {C : Type 0} (i n : ℕ) → T (ltb i n) → C → i < n
+index i n h c = lit< h
 
 -- ---- a NaN: it alone differs from itself, and a word is one's above the infinity's pattern
 nan-of : (x : Float) → isNan x ≡ true → nan ≡ x

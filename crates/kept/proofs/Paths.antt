@@ -3,8 +3,7 @@
 use mathlib.Core.Path.{_≡_, sym, ap, _∙_}
 use mathlib.Core.Bool.{true, false}
 use mathlib.Core.List.{List, [], _∷_}
-use Prim.Native.Nat.{ℕ, _<_}
-use lib.Dec.{T, ltb, lit<}
+use Prim.Native.Nat.{ℕ}
 use Rattle.cache.specs.declared.CacheKey.{CacheKey}
 use Rattle.cache.specs.declared.CachedTerms.{CachedTerms}
 use Rattle.cache.specs.declared.CacheOrder.{CacheOrder}
@@ -12,13 +11,6 @@ use Rattle.cache.specs.declared.Found.{Found}
 use Rattle.cache.specs.declared.Found.the-variants.{At, Nothing}
 use Rattle.cache.specs.Cache.{Cache, after, find, insert}
 use Rattle.kept.specs.Words.{orderWords, isFound, slotOr}
-
--- at any place of the code, an index below 4, and one below 7
-pub of-four : {C : Type 0} (i : ℕ) → T (ltb i 4) → C → i < 4
-of-four i h c = lit< h
-
-pub of-seven : {C : Type 0} (i : ℕ) → T (ltb i 7) → C → i < 7
-of-seven i h c = lit< h
 
 module _ {o p : CacheOrder} {x y : CacheKey} (eo : o ≡ p) (ex : x ≡ y) (w : List ℕ) (k : ℕ) where
   module _ {f : Found} (ef : f ≡ find w k o x) where

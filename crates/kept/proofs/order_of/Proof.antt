@@ -1,7 +1,7 @@
 -- `order_of` meets its contract. Assumes nothing.
 use mathlib.Core.Path.{refl}
 use Rattle.kept.specs.Words.{orderOf}
-use Rattle.kept.proofs.Paths.{of-four}
+use Rattle.float64.proofs.Laws.{index}
 use Rattle.kept.proofs.order_of.Statement.{statement}
 use Rattle.kept.proofs.order_of.Tie as tie
 
@@ -10,4 +10,4 @@ unfolding orderOf
 returns c = refl
 
 pub order-of-spec : {M : Type 1} → statement M
-order-of-spec = tie.close (tie.spec (of-four 0 tt) (of-four 1 tt) (of-four 2 tt) (of-four 3 tt) returns)
+order-of-spec = tie.close (tie.spec (index 0 4 tt) (index 1 4 tt) (index 2 4 tt) (index 3 4 tt) returns)

@@ -2,28 +2,14 @@
 use borrow.Author.Needs.{needs}
 use mathlib.Core.Path.{_≡_}
 use mathlib.Core.List.{List, [], _∷_}
-use Prim.Native.Nat.{ℕ, _<_}
-use native.Mathlib.Omega.{arith}
+use Prim.Native.Nat.{ℕ}
 use lib.ListN.{getD}
 use lib.Ieee.{binary64, toBits}
-use Rattle.float64.proofs.Laws.{free}
+use Rattle.float64.proofs.Laws.{free, index}
 use Rattle.mode.specs.declared.population_focei.Search.{Search}
 use Rattle.search_words.specs.SearchWords.{wordsOf, stageWord, fallWord, saved}
 use Rattle.search_words.proofs.save.Statement.{statement}
 use Rattle.search_words.proofs.save.Tie as tie
-
--- ---- at any place of the code, an index below 4
-at-0 : {C : Type 0} → C → 0 < 4
-at-0 c = omega arith
-
-at-1 : {C : Type 0} → C → 1 < 4
-at-1 c = omega arith
-
-at-2 : {C : Type 0} → C → 2 < 4
-at-2 c = omega arith
-
-at-3 : {C : Type 0} → C → 3 < 4
-at-3 c = omega arith
 
 -- the words, by what the calls answered
 abbrev four : List ℕ → List ℕ → List ℕ
@@ -60,20 +46,20 @@ save-spec =
     free
     free
     free
-    at-0
-    at-1
-    at-2
-    at-3
-    at-0
-    at-1
-    at-2
-    at-3
-    at-0
-    at-1
-    at-2
-    at-3
-    at-0
-    at-1
-    at-2
-    at-3
+    (index 0 4 tt)
+    (index 1 4 tt)
+    (index 2 4 tt)
+    (index 3 4 tt)
+    (index 0 4 tt)
+    (index 1 4 tt)
+    (index 2 4 tt)
+    (index 3 4 tt)
+    (index 0 4 tt)
+    (index 1 4 tt)
+    (index 2 4 tt)
+    (index 3 4 tt)
+    (index 0 4 tt)
+    (index 1 4 tt)
+    (index 2 4 tt)
+    (index 3 4 tt)
     returns)

@@ -2,18 +2,13 @@
 use borrow.Author.Needs.{needs}
 use mathlib.Core.Path.{_≡_}
 use mathlib.Core.List.{List, [], _∷_}
-use Prim.Native.Nat.{ℕ, _<_}
-use lib.Dec.{T, ltb, lit<}
+use Prim.Native.Nat.{ℕ}
 use lib.ListN.{getD}
-use Rattle.float64.proofs.Laws.{free}
+use Rattle.float64.proofs.Laws.{free, index}
 use Rattle.mode_2d.specs.declared.population_focei_2d.Search2.{Search2}
 use Rattle.search_words_2d.specs.SearchWords2.{bits, wordsOf, stageWord, saved}
 use Rattle.search_words_2d.proofs.save.Statement.{statement}
 use Rattle.search_words_2d.proofs.save.Tie as tie
-
--- at any place of the code, an index below 9
-at : {C : Type 0} (i : ℕ) → T (ltb i 9) → C → i < 9
-at i h c = lit< h
 
 -- the words, by what the calls answered
 abbrev nine : List ℕ → List ℕ → List ℕ
@@ -59,22 +54,22 @@ save-spec =
     cast-t10
     cast-t11
     cast-t12
-    (at 0 tt)
-    (at 1 tt)
-    (at 2 tt)
-    (at 3 tt)
-    (at 4 tt)
-    (at 5 tt)
-    (at 6 tt)
-    (at 7 tt)
-    (at 8 tt)
-    (at 0 tt)
-    (at 1 tt)
-    (at 2 tt)
-    (at 3 tt)
-    (at 4 tt)
-    (at 5 tt)
-    (at 6 tt)
-    (at 7 tt)
-    (at 8 tt)
+    (index 0 9 tt)
+    (index 1 9 tt)
+    (index 2 9 tt)
+    (index 3 9 tt)
+    (index 4 9 tt)
+    (index 5 9 tt)
+    (index 6 9 tt)
+    (index 7 9 tt)
+    (index 8 9 tt)
+    (index 0 9 tt)
+    (index 1 9 tt)
+    (index 2 9 tt)
+    (index 3 9 tt)
+    (index 4 9 tt)
+    (index 5 9 tt)
+    (index 6 9 tt)
+    (index 7 9 tt)
+    (index 8 9 tt)
     returns)
