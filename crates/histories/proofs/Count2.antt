@@ -11,7 +11,7 @@ use borrow.Author.Tests.{ltb-true}
 use Rattle.float64.specs.Arithmetic.{word}
 use Rattle.float64.specs.Pick.{cases}
 use Rattle.matrix.specs.Matrix.{Inverse, some, none, inversePositive}
-use Rattle.mode_2d.specs.declared.population_focei_2d.Pair.{Pair}
+use Rattle.matrix.specs.declared.Pair.{Pair}
 use Rattle.mode_2d.specs.declared.population_focei_2d.Settings2.{Settings2}
 use Rattle.mode_2d.specs.declared.population_focei_2d.Conditional2.{Conditional2}
 use Rattle.mode_2d.specs.declared.population_focei_2d.NewtonStep.{NewtonStep}

@@ -9,7 +9,7 @@ use lib.ListN.{length}
 use lib.Dec.{T, ltb, eqb, lit<}
 use Rattle.float64.specs.Pick.{pick, cases}
 use Rattle.float64.proofs.Order.{num?}
-use Rattle.mode_2d.specs.declared.population_focei_2d.Pair.{Pair}
+use Rattle.matrix.specs.declared.Pair.{Pair}
 use Rattle.mode_2d.specs.declared.population_focei_2d.Settings2.{Settings2}
 use Rattle.mode_2d.specs.declared.population_focei_2d.Conditional2.{Conditional2}
 use Rattle.mode_2d.specs.declared.population_focei_2d.Stage2.{Stage2}

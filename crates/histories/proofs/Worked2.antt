@@ -8,7 +8,7 @@ use Rattle.float64.specs.Arithmetic.{word, one, two}
 use Rattle.float64.specs.Float64.{abs, max, clamp}
 use Rattle.float64.specs.Pick.{pick}
 use Rattle.matrix.specs.Matrix.{pair, determinant, product, dot, inverse, hasNonfiniteEntry, inversePositive}
-use Rattle.mode_2d.specs.declared.population_focei_2d.Pair.{Pair}
+use Rattle.matrix.specs.declared.Pair.{Pair}
 use Rattle.mode_2d.specs.declared.population_focei_2d.Settings2.{Settings2}
 use Rattle.mode_2d.specs.declared.population_focei_2d.Conditional2.{Conditional2}
 use Rattle.mode_2d.specs.declared.population_focei_2d.Request2.{Request2}

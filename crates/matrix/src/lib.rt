@@ -3,6 +3,12 @@
 ghost use mathlib.Core.Path.{_≡_};
 ghost use Rattle.matrix.specs.Matrix.{answer, determinant, hasNonfiniteEntry, inverse, inversePositive, product, dot};
 
+// The source's Vector, a value for each effect, where a struct or an enum holds one.
+pub struct Pair {
+    pub first: f64,
+    pub second: f64,
+}
+
 // The answer of inverse_positive: the determinant, or no inverse. An enum holds no array, so the
 // inverse itself, which the source answers too, is `inverse(matrix, det)`.
 pub enum InversePositive {

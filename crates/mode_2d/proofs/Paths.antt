@@ -9,7 +9,7 @@ use Rattle.float64.specs.Pick.{pick, yesOf, noOf}
 use Rattle.matrix.specs.Matrix.{Inverse, inverse, answer, inversePositive}
 use Rattle.matrix.specs.declared.InversePositive.{InversePositive}
 use Rattle.matrix.specs.declared.InversePositive.the-variants.{Exists, None}
-use Rattle.mode_2d.specs.declared.population_focei_2d.Pair.{Pair}
+use Rattle.matrix.specs.declared.Pair.{Pair}
 use Rattle.mode_2d.specs.declared.population_focei_2d.Settings2.{Settings2}
 use Rattle.mode_2d.specs.declared.population_focei_2d.Conditional2.{Conditional2}
 use Rattle.mode_2d.specs.declared.population_focei_2d.NewtonStep.{NewtonStep}

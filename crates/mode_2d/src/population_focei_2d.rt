@@ -4,12 +4,7 @@ ghost use mathlib.Core.Path.{_≡_};
 ghost use Prim.Native.Nat.{_<_, _≤_, _-_};
 ghost use Rattle.mode_2d.specs.Rules.{vector, pairOf, precision, priorScore, joint, penalisedScore, maxAbs, norm, curvature, stepBy, scale, reduced, trialPoint, decrease, isSame, isPassedOver, nextReduction, isTaken, startPoint, isUnresolved, isFar, better, between, trying, finish, tryFrom, descend, beginRound, take, leave, start, request, advance};
 use matrix::InversePositive;
-
-// The source's Vector: a value for each effect.
-pub struct Pair {
-    pub first: f64,
-    pub second: f64,
-}
+use matrix::Pair;
 
 // What a search is given: eta_bound, the entries of the precision (omega's inverse) by row and column, and
 // the subject's warm start.

@@ -7,7 +7,7 @@ use lib.Ieee.{Float, binary64, toBits}
 use Rattle.float64.specs.Arithmetic.{word}
 use Rattle.float64.specs.Pick.{pick}
 use Rattle.float64.specs.Answer.{Answer, given, refused}
-use Rattle.mode_2d.specs.declared.population_focei_2d.Pair.{Pair}
+use Rattle.matrix.specs.declared.Pair.{Pair}
 use Rattle.mode_2d.specs.declared.population_focei_2d.Conditional2.{Conditional2}
 use Rattle.mode_2d.specs.declared.population_focei_2d.Stage2.{Stage2}
 use Rattle.mode_2d.specs.declared.population_focei_2d.Stage2.the-variants.{Zero, Start, Trial, Found, Halted}

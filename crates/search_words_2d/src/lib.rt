@@ -5,8 +5,8 @@
 ghost use mathlib.Core.Path.{_≡_};
 ghost use Prim.Native.Nat.{_<_};
 ghost use Rattle.search_words_2d.specs.SearchWords2.{pairAt, conditionalAt, wordsOf, stageOf, stageWord, loaded, saved, answer};
+use matrix::Pair;
 use mode_2d::population_focei_2d::Conditional2;
-use mode_2d::population_focei_2d::Pair;
 use mode_2d::population_focei_2d::Search2;
 use mode_2d::population_focei_2d::Stage2;
 
