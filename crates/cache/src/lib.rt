@@ -13,7 +13,7 @@ ghost use lib.ListN.{getD, set, length};
 ghost use Rattle.cache.specs.Cache.{half, rowWords, rowsFrom, part, hash, headOf, hasBit, withBit, isRoom, isSame, isAt, walk, entryPlace, find, termsAt, termsOf, copyRun, rowsTo, copied, raised, evict, putRing, entryWords, written, isKept, after, insert};
 
 // The layout: the words of a row, and where entries and rows begin, for each row of the room.
-const ROW_WORDS: usize = 3;
+pub const ROW_WORDS: usize = 3;
 
 const ENTRIES_FROM: usize = 2;
 
