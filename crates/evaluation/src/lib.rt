@@ -523,11 +523,11 @@ fn is_no_deviation(deviation: f64) -> bool
 }
 
 // The place after this one, in a subject of `count` observations.
-fn next_place(place: Place, count: usize) -> Place
+fn next_place(place: Place, count: u64) -> Place
     ensures { λ r. ⌜ r ≡ nextPlace place count ⌝ }
 {
     let next = std::num::wrapping_add_usize(place.observation, 1);
-    if next < count {
+    if (next as u64) < count {
         return Place {
             subject: place.subject,
             observation: next,
@@ -540,14 +540,11 @@ fn next_place(place: Place, count: usize) -> Place
 }
 
 // The observation at the place that was reached.
-fn check_at(place: Place, observation: Observation, width: u32, counts: &[usize]) -> Check
+fn check_at(place: Place, observation: Observation, width: u32, counts: &[u64]) -> Check
     ensures { λ r. ⌜ r ≡ checkAt width (now (counts .entry)) observation place ⌝ }
 {
     if is_sound(observation, width) {
-        let mut count = 0;
-        if place.subject < counts.len() {
-            count = counts[place.subject];
-        }
+        let count = read(counts, place.subject);
         return Check::Sound(next_place(place, count));
     }
     Check::Unsound(place)
@@ -558,7 +555,7 @@ pub fn check_observation(
     check: Check,
     observation: Observation,
     width: u32,
-    counts: &[usize],
+    counts: &[u64],
 ) -> Check
     ensures { λ r. ⌜ r ≡ checkObservation width (now (counts .entry)) observation check ⌝ }
 {
@@ -575,7 +572,7 @@ pub fn check_observations(
     to: usize,
     check: Check,
     width: u32,
-    counts: &[usize],
+    counts: &[u64],
 ) -> Check
     ensures { λ r. ⌜ r ≡ checkObservations width (now (counts .entry)) (take (to - from) (drop from (now (observations .entry)))) check ⌝ }
 {
