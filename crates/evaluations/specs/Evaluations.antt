@@ -53,8 +53,8 @@ evaluated number work out = record { number = number; work = work; out = out }
 unfoldable pub additiveSd : Bool → Float → AdditiveSd
 additiveSd has additive = pick has (Override additive) Own
 
-unfoldable pub begun : Question → List ℕ → Begun
-begun q reply = record {
+unfoldable pub beginning : Question → List ℕ → Begun
+beginning q reply = record {
   from = q .from;
   to = q .to;
   evaluation = begin reply (q .width) (q .effects) (q .«output_budget»);
@@ -86,7 +86,7 @@ evaluateFrom observations b reply work out =
     evaluated (t .number) (x .work) (t .out)
 
 unfoldable pub evaluate : List Observation → Question → List ℕ → List ℕ → List ℕ → Evaluated
-evaluate observations question reply work out = evaluateFrom observations (begun question reply) reply work out
+evaluate observations question reply work out = evaluateFrom observations (beginning question reply) reply work out
 
 -- ---- the check of every observation
 

@@ -5,7 +5,7 @@ ghost use mathlib.Core.Path.{_≡_};
 ghost use lib.ListN.{set};
 ghost use Rattle.float64.specs.Answer.{numberOf, orOld};
 ghost use Rattle.evaluation.specs.Subject.{individualValues, finish};
-ghost use Rattle.evaluations.specs.Evaluations.{pairOf, floatsOf, additiveSd, begun, sumsWritten, answered, told, evaluated, evaluate, firstCheck, toldCheck, checkAll};
+ghost use Rattle.evaluations.specs.Evaluations.{pairOf, floatsOf, additiveSd, beginning, sumsWritten, answered, told, evaluated, evaluate, firstCheck, toldCheck, checkAll};
 use evaluation::AdditiveSd;
 use evaluation::Check;
 use evaluation::Evaluation;
@@ -81,8 +81,8 @@ fn additive_sd(has_additive: bool, additive: f64) -> AdditiveSd
     AdditiveSd::Own
 }
 
-fn begun(question: Question, reply: &[u64]) -> Begun
-    ensures { λ r. ⌜ r ≡ begun question (now (reply .entry)) ⌝ }
+fn beginning(question: Question, reply: &[u64]) -> Begun
+    ensures { λ r. ⌜ r ≡ beginning question (now (reply .entry)) ⌝ }
 {
     let evaluation = evaluation::begin(
         reply,
@@ -163,7 +163,7 @@ pub extern "C" fn curlewstand_evaluate(
 ) -> u32
     ensures { λ r. ⌜ evaluated r (now (work .exit)) (now (out .exit)) ≡ evaluate (now (observations .entry)) question (now (reply .entry)) (now (work .entry)) (now (out .entry)) ⌝ }
 {
-    let start = begun(question, reply);
+    let start = beginning(question, reply);
     let evaluation = evaluation::add_observations(
         observations,
         start.from,
