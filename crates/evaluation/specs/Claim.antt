@@ -1,0 +1,32 @@
+-- What is claimed of a subject's evaluation, whatever the reply, the observations and the work words.
+use mathlib.Core.Path.{_≡_}
+use mathlib.Core.Logic.{_⊎_}
+use mathlib.Core.Bool.{false}
+use mathlib.Core.List.{List}
+use Prim.Native.Nat.{ℕ, _+_, _*_, _≤_, _<_, _^_}
+use lib.ListN.{getD, length}
+use Rattle.cache.specs.Cache.{rowWords}
+use Rattle.likelihood.specs.declared.population_focei.Observation.{Observation}
+use Rattle.evaluation.specs.Subject.{Evaluating, evaluating, begin, addObservations, hasNonfiniteSum, finish}
+use Rattle.evaluation.specs.declared.Trial.{Trial}
+use Rattle.evaluation.specs.declared.Sums.{Sums}
+use Rattle.evaluation.specs.declared.Evaluation.the-variants.{Running, Refused, RefusedAt}
+
+-- the whole of it: begun, its observations added one after the other
+abbrev pub evaluated : Trial → ℕ → List ℕ → List Observation → List ℕ → Evaluating
+evaluated trial budget reply observations work =
+    addObservations trial reply observations (evaluating (begin reply (trial .width) (trial .effects) budget) work)
+
+pub record Evaluates (trial : Trial) (budget : ℕ) (reply : List ℕ) (observations : List Observation) (work : List ℕ) : Type 0 where
+  -- the sums that it ends with are finite
+  pub sums : (s : Sums) → finish (evaluated trial budget reply observations work .evaluation) ≡ Running s → hasNonfiniteSum s ≡ false
+  -- or it ends with 8, 9 or 12, without an observation
+  pub numbers : (n : ℕ) → finish (evaluated trial budget reply observations work .evaluation) ≡ Refused n → (n ≡ 8) ⊎ ((n ≡ 9) ⊎ (n ≡ 12))
+  -- or with 10, 11 or 12 at one of the observations
+  pub places : (n i : ℕ) → finish (evaluated trial budget reply observations work .evaluation) ≡ RefusedAt n i → ((n ≡ 10) ⊎ ((n ≡ 11) ⊎ (n ≡ 12))) × (i < length observations)
+  -- and of the work words only those of the trial block have changed
+  pub around : (j : ℕ) → (j < trial .block) ⊎ (trial .block + rowWords * length observations ≤ j)
+      → getD (evaluated trial budget reply observations work .work) j 0 ≡ getD work j 0
+
+abbrev pub EveryEvaluation : Type 0
+EveryEvaluation = (trial : Trial) (budget : ℕ) (reply : List ℕ) (observations : List Observation) (work : List ℕ) → length observations < 2 ^ 64 → Evaluates trial budget reply observations work
