@@ -1,33 +1,63 @@
--- The ways through the exported functions that take lent observations: what their calls answered, put together, is the definition.
-use mathlib.Core.Path.{_≡_, ap, _∙_}
+-- The ways through the code: one law for each, over plain variables. Assumes nothing.
+use mathlib.Core.Path.{_≡_, refl, sym, ap, _∙_}
 use mathlib.Core.List.{List}
-use Prim.Native.Nat.{ℕ, _-_}
-use lib.ListN.{length, take, drop}
-use Rattle.likelihood.specs.declared.population_focei.Observation.{Observation}
-use Rattle.evaluation.specs.Observations.{checkObservations}
-use Rattle.evaluation.specs.Subject.{Evaluating, evaluating, addObservations, finish}
-use Rattle.evaluation.specs.declared.Check.{Check}
+use Prim.Native.Nat.{ℕ}
+use lib.ListN.{set}
+use lib.Ieee.{Float}
+use Rattle.float64.specs.Answer.{Answer, numberOf, through, orOld}
+use Rattle.matrix.specs.Matrix.{pair}
+use Rattle.matrix.specs.declared.Pair.{Pair}
+use Rattle.evaluation.specs.Subject.{answer, individualValues, next, finish}
+use Rattle.evaluation.specs.declared.IndividualValues.{IndividualValues}
+use Rattle.evaluation.specs.declared.IndividualValues.the-variants.{Valid, Invalid}
+use Rattle.evaluation.specs.declared.Sums.{Sums}
 use Rattle.evaluation.specs.declared.Evaluation.{Evaluation}
-use Rattle.evaluations.specs.Evaluations.{Answered, answered, evaluated, beginning, told, evaluateFrom, evaluate, firstCheck, toldCheck, checkAll}
-use Rattle.evaluations.specs.declared.Begun.{Begun}
-use Rattle.evaluations.specs.declared.Question.{Question}
+use Rattle.evaluation.specs.declared.Evaluation.the-variants.{Running, Refused, RefusedAt}
+use Rattle.evaluation.specs.declared.Place.{Place}
+use Rattle.evaluation.specs.declared.Check.{Check}
+use Rattle.evaluation.specs.declared.Check.the-variants.{Sound, Unsound}
+use Rattle.evaluations.specs.Evaluations.{pairOf, floatsOf, sumsWritten, Answered, answered, told, toldCheck}
 
-pub as-defined : (observations : List Observation) (question : Question) (reply work out : List ℕ) (b : Begun) (e : Evaluation) (work′ : List ℕ) (r : ℕ) (out′ : List ℕ)
-    → b ≡ beginning question reply
-    → evaluating e work′ ≡ addObservations (b .trial) reply (take (b .to - b .from) (drop (b .from) observations)) (evaluating (b .evaluation) work)
-    → answered r out′ ≡ told (finish e) out
-    → evaluated r work′ out′ ≡ evaluate observations question reply work out
-unfolding evaluate evaluateFrom
-as-defined observations question reply work out b e work′ r out′ begins adds tells =
-    ap (λ (t : Answered). evaluated (t .number) work′ (t .out)) tells
-    ∙ ap (λ (x : Evaluating). evaluated (told (finish (x .evaluation)) out .number) (x .work) (told (finish (x .evaluation)) out .out)) adds
-    ∙ ap (λ (y : Begun). evaluateFrom observations y reply work out) begins
+-- ---- individual values; p and q are what the code has made of the lent arrays, r what `individual_values` answered
+module _ (theta eta : List Float) (effects : ℕ) (old : List Float) {p q : Pair} {r : IndividualValues} (ep : p ≡ pairOf theta) (eq : q ≡ pairOf eta) (er : answer r ≡ individualValues p q effects) where
+  values : {variant : IndividualValues} → r ≡ variant → answer variant ≡ individualValues (pairOf theta) (pairOf eta) effects
+  values t = sym (ap answer t) ∙ er ∙ (λ i. individualValues (ep i) (eq i) effects)
 
-pub check-as-defined : (observations : List Observation) (width : ℕ) (counts out : List ℕ) (first check : Check) (r : ℕ) (out′ : List ℕ)
-    → first ≡ firstCheck
-    → check ≡ checkObservations width counts (take (length observations - 0) (drop 0 observations)) first
-    → answered r out′ ≡ toldCheck check out
-    → answered r out′ ≡ checkAll observations width counts out
-unfolding checkAll
-check-as-defined observations width counts out first check r out′ begins checks tells =
-    tells ∙ ap (λ (c : Check). toldCheck c out) (checks ∙ ap (checkObservations width counts (take (length observations - 0) (drop 0 observations))) begins)
+  pub values-written : {x : Pair} → r ≡ Valid x → (0 ≡ numberOf (individualValues (pairOf theta) (pairOf eta) effects)) × (pair (x .first) (x .second) ≡ orOld old (floatsOf (individualValues (pairOf theta) (pairOf eta) effects)))
+  unfolding answer numberOf orOld floatsOf through
+  values-written t = let a = values t in (ap numberOf a, ap (λ (z : Answer Pair). orOld old (floatsOf z)) a)
+
+  pub no-values : r ≡ Invalid → (7 ≡ numberOf (individualValues (pairOf theta) (pairOf eta) effects)) × (old ≡ orOld old (floatsOf (individualValues (pairOf theta) (pairOf eta) effects)))
+  unfolding answer numberOf orOld floatsOf through
+  no-values t = let a = values t in (ap numberOf a, ap (λ (z : Answer Pair). orOld old (floatsOf z)) a)
+
+-- ---- one word more is written: v are the words before, and w after it
+pub stored : {v v' w : List ℕ} {x x' : ℕ} (i : ℕ) → v ≡ v' → x ≡ x' → w ≡ set v i x → w ≡ set v' i x'
+stored i ev ex e = e ∙ (λ j. set (ev j) i (ex j))
+
+-- ---- the end of an evaluation; x is what `finish` answered, w the words afterwards
+module _ (evaluation : Evaluation) (out : List ℕ) {x : Evaluation} (e : x ≡ finish evaluation) where
+  ended : {variant : Evaluation} {z : Answered} → x ≡ variant → z ≡ told variant out → z ≡ told (finish evaluation) out
+  ended t q = q ∙ ap (λ (y : Evaluation). told y out) (sym t ∙ e)
+
+  pub sums-told : {sums : Sums} {w : List ℕ} → x ≡ Running sums → w ≡ sumsWritten sums out → answered 0 w ≡ told (finish evaluation) out
+  unfolding told
+  sums-told t q = ended t (ap (answered 0) q)
+
+  pub refusal-told : {number : ℕ} {w : List ℕ} → x ≡ Refused number → w ≡ set out 7 0 → answered number w ≡ told (finish evaluation) out
+  unfolding told
+  refusal-told {number} t q = ended t (ap (answered number) q)
+
+  pub refusal-at-told : {number n y : ℕ} {w : List ℕ} → x ≡ RefusedAt number n → y ≡ next n → w ≡ set out 7 y → answered number w ≡ told (finish evaluation) out
+  unfolding told
+  refusal-at-told {number} t p q = ended t (ap (answered number) (stored {v = out} 7 refl p q))
+
+-- ---- the check x of the observations; v and w are the words after each store
+module _ {x : Check} (out : List ℕ) where
+  pub sound-told : {place : Place} → x ≡ Sound place → answered 0 out ≡ toldCheck x out
+  unfolding toldCheck
+  sound-told t = ap (λ (y : Check). toldCheck y out) (sym t)
+
+  pub unsound-told : {place : Place} {v w : List ℕ} → x ≡ Unsound place → v ≡ set out 0 (place .subject) → w ≡ set v 1 (place .observation) → answered 4 w ≡ toldCheck x out
+  unfolding toldCheck
+  unsound-told t p q = ap (answered 4) (stored 1 p refl q) ∙ ap (λ (y : Check). toldCheck y out) (sym t)

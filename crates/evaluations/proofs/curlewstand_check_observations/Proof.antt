@@ -45,7 +45,7 @@ use Rattle.evaluation.proofs.Check.Laws as K′
 use lib.ListN.{take, drop as drop-list}
 use Rattle.evaluation.specs.Observations.{checkObservations}
 use Rattle.evaluations.specs.Evaluations.{answered, firstCheck, toldCheck}
-use Rattle.evaluations.proofs.Paths.{check-as-defined}
+use Rattle.evaluations.proofs.Whole.{check-as-defined}
 use Rattle.evaluations.proofs.first_check as g
 use Rattle.evaluations.proofs.first_check.Symbol as g-def
 use Rattle.evaluations.proofs.first_check.Symbol.{name as #g}

@@ -54,7 +54,7 @@ use Rattle.evaluations.proofs.Begun.Laws as B′
 use lib.ListN.{take, drop as drop-list}
 use Rattle.evaluation.specs.Subject.{evaluating, addObservations, finish}
 use Rattle.evaluations.specs.Evaluations.{beginning, answered, told}
-use Rattle.evaluations.proofs.Paths.{as-defined}
+use Rattle.evaluations.proofs.Whole.{as-defined}
 use Rattle.evaluations.proofs.beginning as g
 use Rattle.evaluations.proofs.beginning.Symbol as g-def
 use Rattle.evaluations.proofs.beginning.Symbol.{name as #g}
