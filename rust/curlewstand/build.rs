@@ -1,11 +1,11 @@
-//! Links the three static libraries, of the leaves, of the searches and of the
-//! kept evaluations, from the repository's `target/staticlib`, or from the
-//! directory named by `CURLEWSTAND_LIB_DIR`.
+//! Links the four static libraries, of the leaves, of the searches, of the kept
+//! evaluations and of the evaluations themselves, from the repository's
+//! `target/staticlib`, or from the directory named by `CURLEWSTAND_LIB_DIR`.
 
 use std::env;
 use std::path::{Path, PathBuf};
 
-const LIBRARIES: [&str; 3] = ["curlewstand", "searches", "kept"];
+const LIBRARIES: [&str; 4] = ["curlewstand", "searches", "kept", "evaluations"];
 
 fn main() {
     println!("cargo::rerun-if-changed=build.rs");

@@ -33,7 +33,7 @@ use Rattle.evaluation.specs.declared.Evaluation.the-variants.{Running, R
 use Rattle.evaluation.specs.declared.RowAt.{RowAt}
 use Rattle.evaluation.specs.declared.RowAt.the-variants.{Word, Missing}
 use Rattle.evaluation.specs.declared.PredictionRow.{PredictionRow}
-use Rattle.evaluation.specs.declared.Place.{Place}
+use Rattle.evaluation.specs.declared.Position.{Position}
 use Rattle.evaluation.specs.declared.Check.{Check}
 use Rattle.evaluation.specs.declared.Check.the-variants.{Sound, Unsound}
 use Rattle.evaluation.specs.Reply.{outputValues, rowLength, rows, rowAt, column, side, predictionRow, written}
@@ -256,7 +256,7 @@ module _ {x : Evaluation} where
   ends-refused-at t = ap finish (sym t)
 
 -- ---- the place after this one; n and m are the numbers after its observation's and its subject's
-module _ (place : Place) (count : ℕ) {n : ℕ} (e : n ≡ next (place .observation)) where
+module _ (place : Position) (count : ℕ) {n : ℕ} (e : n ≡ next (place .observation)) where
   pub same-subject : n < count → record { subject = place .subject; observation = n } ≡ nextPlace place count
   unfolding nextPlace
   same-subject h = yes _ (lt-ltb _ _ (subst (λ (x : ℕ). x < count) e h)) (λ i. record { subject = place .subject; observation = e i })
@@ -267,8 +267,8 @@ module _ (place : Place) (count : ℕ) {n : ℕ} (e : n ≡ next (place .observa
 
 -- ---- the check; b is what `is_sound` answered, count what was read, after the place afterwards
 module _ (width : ℕ) (counts : List ℕ) (observation : Observation) where
-  module _ (place : Place) {b : Bool} (e : b ≡ isSound observation width) where
-    pub sound-at : {count : ℕ} {after : Place} → b ≡ true → count ≡ getD counts (place .subject) 0 → after ≡ nextPlace place count → Sound after ≡ checkAt width counts observation place
+  module _ (place : Position) {b : Bool} (e : b ≡ isSound observation width) where
+    pub sound-at : {count : ℕ} {after : Position} → b ≡ true → count ≡ getD counts (place .subject) 0 → after ≡ nextPlace place count → Sound after ≡ checkAt width counts observation place
     unfolding checkAt
     sound-at t p q = yesOf _ e t (ap Sound (q ∙ ap (nextPlace place) p))
 
@@ -277,10 +277,10 @@ module _ (width : ℕ) (counts : List ℕ) (observation : Observation) where
     unsound-at t = noOf _ e t refl
 
   module _ {x : Check} where
-    pub after-sound : {place : Place} {z : Check} → x ≡ Sound place → z ≡ checkAt width counts observation place → z ≡ checkObservation width counts observation x
+    pub after-sound : {place : Position} {z : Check} → x ≡ Sound place → z ≡ checkAt width counts observation place → z ≡ checkObservation width counts observation x
     unfolding checkObservation
     after-sound t q = q ∙ ap (checkObservation width counts observation) (sym t)
 
-    pub after-unsound : {place : Place} → x ≡ Unsound place → Unsound place ≡ checkObservation width counts observation x
+    pub after-unsound : {place : Position} → x ≡ Unsound place → Unsound place ≡ checkObservation width counts observation x
     unfolding checkObservation
     after-unsound t = ap (checkObservation width counts observation) (sym t)

@@ -10,7 +10,7 @@ use Rattle.float64.specs.Float64.{nonfinite}
 use Rattle.float64.specs.Pick.{pick}
 use Rattle.likelihood.specs.declared.population_focei.Observation.{Observation}
 use Rattle.evaluation.specs.Subject.{next}
-use Rattle.evaluation.specs.declared.Place.{Place}
+use Rattle.evaluation.specs.declared.Position.{Position}
 use Rattle.evaluation.specs.declared.Check.{Check}
 use Rattle.evaluation.specs.declared.Check.the-variants.{Sound, Unsound}
 
@@ -39,12 +39,12 @@ isSound observation width =
     false
 
 -- the place after this one, in a subject of `count` observations
-unfoldable pub nextPlace : Place → ℕ → Place
+unfoldable pub nextPlace : Position → ℕ → Position
 nextPlace place count =
     pick (ltb (next (place .observation)) count) (record { subject = place .subject; observation = next (place .observation) })
     (record { subject = next (place .subject); observation = 0 })
 
-unfoldable pub checkAt : ℕ → List ℕ → Observation → Place → Check
+unfoldable pub checkAt : ℕ → List ℕ → Observation → Position → Check
 checkAt width counts observation place =
     pick (isSound observation width) (Sound (nextPlace place (getD counts (place .subject) 0))) (Unsound place)
 

@@ -76,7 +76,7 @@ pub struct PredictionRow {
 }
 
 // A subject, and the number of one of its observations.
-pub struct Place {
+pub struct Position {
     pub subject: usize,
     pub observation: usize,
 }
@@ -84,8 +84,8 @@ pub struct Place {
 // The check of the observations: all were sound and the next one's place is this, or the first that was
 // not is at this place.
 pub enum Check {
-    Sound(Place),
-    Unsound(Place),
+    Sound(Position),
+    Unsound(Position),
 }
 
 // ---- individual values
@@ -523,24 +523,24 @@ fn is_no_deviation(deviation: f64) -> bool
 }
 
 // The place after this one, in a subject of `count` observations.
-fn next_place(place: Place, count: u64) -> Place
+fn next_place(place: Position, count: u64) -> Position
     ensures { λ r. ⌜ r ≡ nextPlace place count ⌝ }
 {
     let next = std::num::wrapping_add_usize(place.observation, 1);
     if (next as u64) < count {
-        return Place {
+        return Position {
             subject: place.subject,
             observation: next,
         };
     }
-    Place {
+    Position {
         subject: std::num::wrapping_add_usize(place.subject, 1),
         observation: 0,
     }
 }
 
 // The observation at the place that was reached.
-fn check_at(place: Place, observation: Observation, width: u32, counts: &[u64]) -> Check
+fn check_at(place: Position, observation: Observation, width: u32, counts: &[u64]) -> Check
     ensures { λ r. ⌜ r ≡ checkAt width (now (counts .entry)) observation place ⌝ }
 {
     if is_sound(observation, width) {

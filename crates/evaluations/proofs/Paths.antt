@@ -13,7 +13,7 @@ use Rattle.evaluation.specs.declared.IndividualValues.the-variants.{Valid, Inva
 use Rattle.evaluation.specs.declared.Sums.{Sums}
 use Rattle.evaluation.specs.declared.Evaluation.{Evaluation}
 use Rattle.evaluation.specs.declared.Evaluation.the-variants.{Running, Refused, RefusedAt}
-use Rattle.evaluation.specs.declared.Place.{Place}
+use Rattle.evaluation.specs.declared.Position.{Position}
 use Rattle.evaluation.specs.declared.Check.{Check}
 use Rattle.evaluation.specs.declared.Check.the-variants.{Sound, Unsound}
 use Rattle.evaluations.specs.Evaluations.{pairOf, floatsOf, sumsWritten, Answered, answered, told, toldCheck}
@@ -54,10 +54,10 @@ module _ (evaluation : Evaluation) (out : List ℕ) {x : Evaluation} (e : x ≡ 
 
 -- ---- the check x of the observations; v and w are the words after each store
 module _ {x : Check} (out : List ℕ) where
-  pub sound-told : {place : Place} → x ≡ Sound place → answered 0 out ≡ toldCheck x out
+  pub sound-told : {place : Position} → x ≡ Sound place → answered 0 out ≡ toldCheck x out
   unfolding toldCheck
   sound-told t = ap (λ (y : Check). toldCheck y out) (sym t)
 
-  pub unsound-told : {place : Place} {v w : List ℕ} → x ≡ Unsound place → v ≡ set out 0 (place .subject) → w ≡ set v 1 (place .observation) → answered 4 w ≡ toldCheck x out
+  pub unsound-told : {place : Position} {v w : List ℕ} → x ≡ Unsound place → v ≡ set out 0 (place .subject) → w ≡ set v 1 (place .observation) → answered 4 w ≡ toldCheck x out
   unfolding toldCheck
   unsound-told t p q = ap (answered 4) (stored 1 p refl q) ∙ ap (λ (y : Check). toldCheck y out) (sym t)

@@ -10,7 +10,7 @@ use evaluation::AdditiveSd;
 use evaluation::Check;
 use evaluation::Evaluation;
 use evaluation::IndividualValues;
-use evaluation::Place;
+use evaluation::Position;
 use evaluation::Sums;
 use evaluation::Trial;
 use likelihood::population_focei::Observation;
@@ -179,7 +179,7 @@ pub extern "C" fn curlewstand_evaluate(
 fn first_check() -> Check
     ensures { λ r. ⌜ r ≡ firstCheck ⌝ }
 {
-    Check::Sound(Place {
+    Check::Sound(Position {
         subject: 0,
         observation: 0,
     })

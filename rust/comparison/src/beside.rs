@@ -2,7 +2,7 @@
 //! how a search ended, what is counted, and how a difference is made simpler
 //! and told.
 
-use crate::compare::simpler_than;
+use crate::compare::{shown, simpler_than, simplest, Simpler};
 use crate::random::Random;
 use crate::simulators::Model;
 use oracle::session::Observed;
@@ -148,11 +148,11 @@ pub fn difference<T: Trial>(trial: &T) -> Option<String> {
     if !differs(trial) {
         return None;
     }
-    let mut trial = trial.clone();
-    while let Some(simpler) = trial.simpler().into_iter().find(differs) {
-        trial = simpler;
-    }
-    Some(report(&mut trial))
+    Some(report(&mut simplest(trial, simpler, differs)))
+}
+
+fn simpler<T: Trial>(trial: &T) -> Simpler<'_, T> {
+    Box::new(trial.simpler().into_iter())
 }
 
 /// How many of the points that both sides asked alike are told, the last ones.
@@ -186,10 +186,6 @@ fn report<T: Trial>(trial: &mut T) -> String {
         }
     }
     text
-}
-
-fn shown(word: u64) -> String {
-    format!("{word:016x} {:e}", f64::from_bits(word))
 }
 
 /// Counts of what searches met, to see that everything occurs.

@@ -291,7 +291,8 @@ fn eta(random: &mut Random) -> f64 {
     random.pick(&[0., -0., 0.5, -0.5, 1., -2.])
 }
 
-fn terms(point: &Point) -> CachedTerms {
+/// What is kept of an evaluated point.
+pub fn terms(point: &Point) -> CachedTerms {
     CachedTerms {
         nll: point.nll,
         score: point.score,
@@ -299,7 +300,8 @@ fn terms(point: &Point) -> CachedTerms {
     }
 }
 
-fn rows(point: &Point) -> Vec<[u64; 3]> {
+/// Prediction, time and side of each observation, as words.
+pub fn rows(point: &Point) -> Vec<[u64; 3]> {
     let words = |row: &Predicted| {
         let side = if row.pre { 0 } else { 1 };
         [row.prediction.to_bits(), row.time.to_bits(), side]

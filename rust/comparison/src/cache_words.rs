@@ -1,6 +1,7 @@
 //! Calls of the kept evaluations over words, orders and numbers of any kind,
 //! beside their definitions in plain Rust.
 
+use crate::guarded::Guarded;
 use crate::random::Random;
 use crate::rules_cache::{self, ENTRY_NUMBERS, ROW_NUMBERS};
 use curlewstand::cache::{self, AT_FIRST, MOST_ROWS};
@@ -147,23 +148,6 @@ fn draw_rows(random: &mut Random, lent: &mut Lent) {
     };
 }
 
-/// The words on either side of what is lent, which no call may write.
-const GUARD: [u64; 4] = [0x5eed_0f1e_1d5a_fe00; 4];
-
-/// The words between guards, and what a call made of them.
-fn guarded<T>(words: &[u64], call: impl FnOnce(&mut [u64]) -> T) -> (Vec<u64>, T) {
-    let mut all = [&GUARD, words, &GUARD].concat();
-    let answer = call(&mut all[GUARD.len()..][..words.len()]);
-    (all, answer)
-}
-
-fn first_unlike(ours: &[u64], theirs: &[u64]) -> Option<String> {
-    let place = ours.iter().zip(theirs).position(|(a, b)| a != b)?;
-    let word = place as i64 - GUARD.len() as i64;
-    let [a, b] = [ours[place], theirs[place]];
-    Some(format!("word {word}: ours {a:x}, defined {b:x}"))
-}
-
 /// True where the call did or found something, or where the sides differ.
 pub type Compared = Result<bool, String>;
 
@@ -209,15 +193,12 @@ pub fn copy_rows(lent: &Lent) -> Compared {
         place,
         ..
     } = lent;
-    let (ours, ()) = guarded(rows, |out| {
-        cache::copy_rows(words, *k, *slot, *n, out, *place)
-    });
-    let (defined, ()) = guarded(rows, |out| {
-        rules_cache::copy_rows(words, *k, *slot, *n, out, *place)
-    });
-    match first_unlike(&ours, &defined) {
+    let [mut ours, mut defined] = [Guarded::new(rows), Guarded::new(rows)];
+    cache::copy_rows(words, *k, *slot, *n, ours.lent(), *place);
+    rules_cache::copy_rows(words, *k, *slot, *n, defined.lent(), *place);
+    match ours.first_unlike(&defined) {
         Some(unlike) => Err(unlike),
-        None => Ok(ours[GUARD.len()..][..rows.len()] != rows[..]),
+        None => Ok(ours.lent() != &rows[..]),
     }
 }
 
@@ -233,19 +214,18 @@ pub fn insert(lent: &Lent) -> Compared {
     } = lent;
     let mut orders = [lent.order; 2];
     let [order, defined_order] = &mut orders;
-    let (ours, ()) = guarded(&lent.words, |words| {
-        cache::insert(words, *k, order, key, terms, *n, rows, *place)
-    });
-    let (defined, ()) = guarded(&lent.words, |words| {
-        rules_cache::insert(words, *k, defined_order, key, terms, *n, rows, *place)
-    });
+    let [mut ours, mut defined] = [&lent.words; 2].map(|words| Guarded::new(words));
+    let words = ours.lent();
+    cache::insert(words, *k, order, key, terms, *n, rows, *place);
+    let words = defined.lent();
+    rules_cache::insert(words, *k, defined_order, key, terms, *n, rows, *place);
     if orders[0] != orders[1] {
         return Err(format!(
             "order: ours {:x?}, defined {:x?}",
             orders[0], orders[1]
         ));
     }
-    match first_unlike(&ours, &defined) {
+    match ours.first_unlike(&defined) {
         Some(unlike) => Err(unlike),
         None => Ok(orders[0] != lent.order),
     }

@@ -134,6 +134,11 @@ impl<'a, const N: usize, const WORDS: usize> Comparison<'a, N, WORDS> {
     /// Tells what was compared, and holds it to have met at least five million
     /// inputs and every one of the codes.
     pub fn done(self, codes: &[u32]) {
+        self.done_with(5_000_000, codes);
+    }
+
+    /// The same with another number of inputs.
+    pub fn done_with(self, fewest: u64, codes: &[u32]) {
         let mut line = format!("{}: {} inputs alike", self.name, self.inputs);
         for code in codes {
             let met = self.by_code[*code as usize];
@@ -142,7 +147,7 @@ impl<'a, const N: usize, const WORDS: usize> Comparison<'a, N, WORDS> {
                 write!(line, ", {met} answered {code}").unwrap();
             }
         }
-        assert!(self.inputs >= 5_000_000, "{line}: too few");
+        assert!(self.inputs >= fewest, "{line}: too few");
         crate::say(&format!("{line}, {:.1?}", self.begun.elapsed()));
     }
 
@@ -186,6 +191,29 @@ impl<'a, const N: usize, const WORDS: usize> Comparison<'a, N, WORDS> {
             text.push_str("  ours wrote to its answer although it refused\n");
         }
         text
+    }
+}
+
+/// A word with the float that it stands for.
+pub fn shown(word: u64) -> String {
+    format!("{word:016x} {:e}", f64::from_bits(word))
+}
+
+/// Inputs simpler than one, the simplest first, each made only when it is wanted.
+pub type Simpler<'a, T> = Box<dyn Iterator<Item = T> + 'a>;
+
+/// The input made simpler as long as it still differs.
+pub fn simplest<T: Clone>(
+    input: &T,
+    simpler: impl Fn(&T) -> Simpler<'_, T>,
+    differs: impl Fn(&T) -> bool,
+) -> T {
+    let mut input = input.clone();
+    loop {
+        let Some(simpler) = simpler(&input).find(&differs) else {
+            return input;
+        };
+        input = simpler;
     }
 }
 

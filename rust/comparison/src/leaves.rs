@@ -121,6 +121,13 @@ fn evaluated_2d(input: &[f64]) -> Conditional2 {
     }
 }
 
+/// Theta, eta and the number of effects.
+type Effects = ([f64; 2], [f64; 2], u32);
+
+fn effects([theta, theta_2, eta, eta_2, effects]: [f64; 5]) -> Effects {
+    ([theta, theta_2], [eta, eta_2], effects as u32)
+}
+
 /// Curlewstand's leaves. What a call writes is filled beforehand, to see that
 /// a refusal leaves it alone.
 pub mod ours {
@@ -322,6 +329,17 @@ pub mod ours {
         }
     }
 
+    pub fn individual_values(input: [f64; 5]) -> Answer {
+        let (theta, eta, effects) = effects(input);
+        let mut individual = [FILLED; 2];
+        let code = unsafe { curlewstand_individual_values(&theta, &eta, effects, &mut individual) };
+        match code {
+            0 => Answer::floats(&individual),
+            _ if touched(&individual) => Answer::refused(TOUCHED),
+            code => Answer::refused(code),
+        }
+    }
+
     fn add([value, additive, proportional, prediction, f, g]: [f64; 6], lent: &mut Lent) -> u32 {
         let (information, score, nll) = lent;
         unsafe {
@@ -375,6 +393,22 @@ pub mod rust {
     pub fn eta_tolerance([gradient_tolerance]: [f64; 1]) -> Answer {
         Answer::floats(&[(gradient_tolerance * 1e-4).clamp(1e-12, 1e-8)])
     }
+
+    /// As the source has it at the beginning of `subject`, the second where
+    /// there are two effects.
+    pub fn individual_values(input: [f64; 5]) -> Answer {
+        let (theta, eta, effects) = effects(input);
+        let mut individual = [0.; 2];
+        let axes = if effects == 2 { 2 } else { 1 };
+        for axis in 0..axes {
+            let value = theta[axis] * oracle::libm::exp(eta[axis]);
+            if !value.is_finite() || value <= 0. {
+                return Answer::refused(7);
+            }
+            individual[axis] = value;
+        }
+        Answer::floats(&individual)
+    }
 }
 
 /// The steps of a search by the rules in plain Rust.
@@ -420,9 +454,10 @@ pub mod plain {
 #[cfg(source_at_hand)]
 pub mod original {
     use super::*;
-    use oracle::session::Row2;
-    use oracle::Rows2;
-    use std::cell::RefCell;
+    use oracle::session::{Observed, Row2, Settings, Simulator};
+    use oracle::{OneEffect, Rows2, TwoEffects};
+    use std::cell::{Cell, RefCell};
+    use std::rc::Rc;
 
     pub fn determinant([a, b, c, d]: [f64; 4]) -> Answer {
         Answer::floats(&[oracle::determinant([[a, b], [c, d]])])
@@ -481,5 +516,71 @@ pub mod original {
             prediction,
             f_eta: [f, g],
         }
+    }
+
+    /// The original with a simulator that notes what it is asked and has no
+    /// rows, so that an evaluation which comes to it ends with 10.
+    struct Noting {
+        one: OneEffect,
+        two: TwoEffects,
+        noted: Rc<Cell<Option<[f64; 2]>>>,
+    }
+
+    thread_local! {
+        static NOTING: RefCell<Noting> = RefCell::new(Noting::new());
+    }
+
+    impl Noting {
+        fn new() -> Self {
+            let noted = Rc::new(Cell::new(None));
+            let simulator = || -> Simulator {
+                let noted = Rc::clone(&noted);
+                Box::new(move |question| {
+                    noted.set(Some(question.individual));
+                    Some(Vec::new())
+                })
+            };
+            let settings = Settings {
+                eta_bound: 16.,
+                gradient_tolerance: 1.,
+                max_evaluations: usize::MAX,
+                kept_rows: 0,
+                width: 1,
+                output_budget: 0,
+            };
+            let observed = Observed {
+                output: 0,
+                row: 0,
+                value: 0.,
+                additive: 1.,
+                proportional: 0.,
+            };
+            let cohort = vec![vec![observed]];
+            let unit = [[1., 0.], [0., 1.]];
+            let two = TwoEffects::new(settings.clone(), unit, cohort.clone(), simulator());
+            Noting {
+                one: OneEffect::new(settings, cohort, simulator()),
+                two: two.expect("the unit matrix has an inverse"),
+                noted,
+            }
+        }
+    }
+
+    /// What the simulator is asked, or the 7 of an evaluation that does not come
+    /// to it.
+    pub fn individual_values(input: [f64; 5]) -> Answer {
+        let (theta, eta, effects) = effects(input);
+        NOTING.with_borrow_mut(|Noting { one, two, noted }| {
+            noted.set(None);
+            let refusal = match effects {
+                2 => two.subject(0, theta, eta),
+                _ => one.subject(0, theta[0], eta[0], None),
+            };
+            let number = refusal.expect_err("there is no row").number;
+            match noted.get() {
+                Some(individual) if number == 10 => Answer::floats(&individual),
+                _ => Answer::refused(number),
+            }
+        })
     }
 }

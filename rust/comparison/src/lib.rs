@@ -9,14 +9,22 @@ pub mod cache_sessions;
 pub mod cache_words;
 pub mod compare;
 pub mod double_double;
+#[cfg(source_at_hand)]
+pub mod evaluation_asked;
+pub mod evaluation_draws;
+pub mod evaluation_met;
+pub mod evaluations;
 pub mod floats;
+pub mod guarded;
 pub mod kept;
 pub mod leaves;
+pub mod observation_checks;
 pub mod plausible;
 pub mod random;
 pub mod rules;
 pub mod rules_2d;
 pub mod rules_cache;
+pub mod rules_evaluation;
 #[cfg(source_at_hand)]
 pub mod searches;
 #[cfg(source_at_hand)]

@@ -21,7 +21,7 @@ fn additive(random: &mut Random) -> f64 {
     }
 }
 
-fn subnormal(random: &mut Random) -> f64 {
+pub fn subnormal(random: &mut Random) -> f64 {
     let bits = 1 << random.below(53);
     f64::from_bits(random.below(bits))
 }
@@ -189,6 +189,22 @@ pub fn exp(random: &mut Random) -> [f64; 1] {
         2 => random.uniform(-1.5, 1.5),
         _ => random.uniform(-16.1, 16.1),
     }]
+}
+
+/// Both thetas, both etas and the number of effects. Thetas are mostly of a
+/// fit's sizes, else often such that the value is lost at one end of the floats.
+pub fn individual_values(random: &mut Random) -> [f64; 5] {
+    let theta = [0; 2].map(|_| match random.below(16) {
+        0 => stray(random, 1.),
+        1 => random.pick(&[0., -0., -1., f64::MAX]),
+        2 => subnormal(random),
+        3 => random.magnitude(1000, 1023),
+        4 => random.magnitude(-1022, -1000),
+        _ => random.magnitude(-4, 4),
+    });
+    let eta = [0; 2].map(|_| exp(random)[0]);
+    let effects = random.pick(&[1., 1., 1., 2., 2., 2., 2., 0., 3., 4294967295.]);
+    [theta[0], theta[1], eta[0], eta[1], effects]
 }
 
 /// A point between bounds, beyond one, or at one.
@@ -445,7 +461,9 @@ fn with_strays<const N: usize>(random: &mut Random, mut input: [f64; N]) -> [f64
     input
 }
 
-fn stray(random: &mut Random, x: f64) -> f64 {
+/// A float of any bits, or the one given with the other sign, or one of a
+/// special kind.
+pub fn stray(random: &mut Random, x: f64) -> f64 {
     match random.below(3) {
         0 => f64::from_bits(random.word()),
         1 => -x,

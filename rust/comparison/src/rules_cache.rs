@@ -70,11 +70,11 @@ fn is_room(k: usize) -> bool {
     (1..=MOST_ROWS).contains(&k)
 }
 
-fn at(words: &[u64], place: usize) -> u64 {
+pub fn at(words: &[u64], place: usize) -> u64 {
     words.get(place).copied().unwrap_or(0)
 }
 
-fn put(words: &mut [u64], place: usize, word: u64) {
+pub fn put(words: &mut [u64], place: usize, word: u64) {
     if let Some(stands) = words.get_mut(place) {
         *stands = word;
     }

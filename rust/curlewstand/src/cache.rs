@@ -19,6 +19,7 @@
 //!     assert_eq!(copy, rows);
 
 use crate::ffi::*;
+use crate::Sums;
 
 /// The words of a row.
 pub const ROW_WORDS: usize = 3;
@@ -101,6 +102,26 @@ impl CachedTerms {
             nll,
             score: [s, t],
             information: [[a, b], [c, d]],
+        }
+    }
+}
+
+impl From<Sums> for CachedTerms {
+    fn from(sums: Sums) -> Self {
+        CachedTerms {
+            nll: sums.nll,
+            score: sums.score,
+            information: sums.information,
+        }
+    }
+}
+
+impl From<CachedTerms> for Sums {
+    fn from(terms: CachedTerms) -> Self {
+        Sums {
+            nll: terms.nll,
+            score: terms.score,
+            information: terms.information,
         }
     }
 }

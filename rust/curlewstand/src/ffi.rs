@@ -1,6 +1,49 @@
 //! The C face of the static libraries, as it is. Arrays go by pointer, slices
 //! by pointer and length; an answer that is written is written whole or not at
-//! all.
+//! all. Evaluations write word by word instead, and nothing beyond the end of
+//! what they are lent.
+
+/// One observation of a subject, as it is lent.
+#[repr(C)]
+#[derive(Clone, Copy, Debug, PartialEq)]
+pub struct Observation {
+    /// Which of a row's outputs predicts it.
+    pub output: usize,
+    /// Which of the reply's rows predicts it.
+    pub row: usize,
+    /// What was measured.
+    pub value: f64,
+    /// The additive deviation of its error.
+    pub additive: f64,
+    /// The proportional deviation of its error.
+    pub proportional: f64,
+}
+
+/// What a reply is an answer to, see `evaluation::Question`.
+#[repr(C)]
+#[derive(Clone, Copy, Debug, PartialEq)]
+pub struct Question {
+    /// The subject's first observation.
+    pub from: usize,
+    /// The one after its last.
+    pub to: usize,
+    /// The value that was simulated with, the first of two.
+    pub individual: f64,
+    /// The second, looked at with two effects alone.
+    pub individual_2: f64,
+    /// Whether there is an override, looked at with one effect alone.
+    pub has_additive: bool,
+    /// The override, in place of each observation's own.
+    pub additive: f64,
+    /// How many outputs a row has.
+    pub width: u32,
+    /// 1 or 2. Any other number makes rows of its length and counts as 1.
+    pub effects: u32,
+    /// The most values and derivatives that a reply may have.
+    pub output_budget: u32,
+    /// The work word at which the rows begin.
+    pub block: usize,
+}
 
 extern "C" {
     /// Every pattern is accepted; that of a NaN gives a NaN.
@@ -162,4 +205,43 @@ extern "C" {
         rows_len: usize,
         from: usize,
     );
+    /// 0 with the values theta·exp(eta) written, with one effect a zero for the
+    /// second; or 7 with nothing written where one is not finite and above 0.
+    /// Any number of effects but 2 counts as 1.
+    pub fn curlewstand_individual_values(
+        theta: *const [f64; 2],
+        eta: *const [f64; 2],
+        effects: u32,
+        individual: *mut [f64; 2],
+    ) -> u32;
+    /// 0 with nothing written; or 4 with the place of the first observation that
+    /// is not sound: its subject, by the subjects' numbers of observations, and
+    /// its number within it. A subject without a number, or with 0, counts as
+    /// having one observation.
+    pub fn curlewstand_check_observations(
+        observations: *const Observation,
+        observations_len: usize,
+        width: u32,
+        counts: *const u64,
+        counts_len: usize,
+        place: *mut u64,
+        place_len: usize,
+    ) -> u32;
+    /// 0 with words 0 to 6 of `out` written: negative log likelihood, both
+    /// scores, information by rows. Or the number of the refusal, 8 to 12, with
+    /// word 7 written: one more than the observation's number within its
+    /// subject, or 0 where the refusal is of none. For each observation whose
+    /// row is present, up to a refusal at it, three work words are written:
+    /// prediction, time, and side, 0 pre and 1 post. Floats stand as their bits.
+    pub fn curlewstand_evaluate(
+        observations: *const Observation,
+        observations_len: usize,
+        question: Question,
+        reply: *const u64,
+        reply_len: usize,
+        work: *mut u64,
+        work_len: usize,
+        out: *mut u64,
+        out_len: usize,
+    ) -> u32;
 }

@@ -1,7 +1,9 @@
 //! Curlewstand for Rust: safe functions over the static libraries, which are
-//! one for the leaves, one for the searches and one for the kept evaluations.
+//! one each for the leaves, the searches, the kept evaluations and the
+//! evaluations themselves.
 
 pub mod cache;
+pub mod evaluation;
 pub mod ffi;
 pub mod mode;
 pub mod mode_2d;
@@ -17,7 +19,8 @@ pub struct RowTerms {
     pub information: f64,
 }
 
-/// A subject's sums over its observations, two effects.
+/// A subject's sums over its observations. With one effect the second score
+/// and all of the information but its first entry are zero.
 #[derive(Clone, Copy, Debug, Default, PartialEq)]
 pub struct Sums {
     pub nll: f64,

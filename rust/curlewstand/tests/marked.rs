@@ -1,7 +1,11 @@
 //! Document 01's marked facts about the leaves and the rules of the search, and
-//! what it says of kept evaluations, through the safe functions.
+//! what it says of kept evaluations and of evaluations, through the safe
+//! functions.
 
 use curlewstand::cache::{Cache, CacheKey, CachedTerms};
+use curlewstand::evaluation::{
+    self, check_observations, evaluate, individual_values, Observation, Place, Question,
+};
 use curlewstand::mode::{eta_tolerance, Conditional, Request, Search, Settings};
 use curlewstand::mode_2d::{Conditional2, Request2, Search2, Settings2};
 use curlewstand::*;
@@ -172,6 +176,155 @@ fn refused_two_effect_searches() {
     // the information hides the prior
     let (points, end) = refused(1., 1e9);
     assert_eq!((points, end), (2, Request2::Refused(Refusal(16))));
+}
+
+fn observation(row: usize, value: f64, additive: f64, proportional: f64) -> Observation {
+    Observation {
+        output: 0,
+        row,
+        value,
+        additive,
+        proportional,
+    }
+}
+
+/// About the whole list, with unit individual values and room for every row.
+fn question(effects: u32) -> Question {
+    Question {
+        observations: 0..usize::MAX,
+        individual: [1.; 2],
+        additive: None,
+        width: 1,
+        effects,
+        output_budget: u32::MAX,
+        block: 0,
+    }
+}
+
+/// Rows at time 0 before the dose, of a prediction and its derivatives.
+fn reply<const N: usize>(rows: &[[f64; N]]) -> Vec<u64> {
+    let words = |row: &[f64; N]| [&[0., 0.], &row[..]].concat();
+    rows.iter().flat_map(words).map(to_word).collect()
+}
+
+fn refused<T>(number: u32, observation: Option<usize>) -> Result<T, evaluation::Refusal> {
+    Err(evaluation::Refusal {
+        number,
+        observation,
+    })
+}
+
+/// Whether there are sums.
+fn end(
+    observations: &[Observation],
+    question: &Question,
+    reply: &[u64],
+) -> Result<(), evaluation::Refusal> {
+    evaluate(observations, question, reply, &mut []).map(|_| ())
+}
+
+#[test]
+fn individual_parameters() {
+    assert_eq!(individual_values([2., 0.], [0., 9.], 1), Ok([2., 0.]));
+    assert_eq!(individual_values([2., 3.], [0., -0.], 2), Ok([2., 3.]));
+    for theta in [0., -1., f64::INFINITY, f64::NAN] {
+        assert_eq!(individual_values([theta, 1.], [0.; 2], 1), refused(7, None));
+        assert_eq!(individual_values([1., theta], [0.; 2], 2), refused(7, None));
+    }
+    // `exp` has no value beyond 16
+    assert!(individual_values([1., 0.], [16., 0.], 1).is_ok());
+    assert!(individual_values([1., 0.], [16f64.next_up(), 0.], 1).is_err());
+}
+
+#[test]
+fn sound_observations() {
+    let sound = observation(0, 1., 1., 0.);
+    let mut list = [sound; 5];
+    assert_eq!(check_observations(&list, 1, &[2, 3]), Ok(()));
+    let unsound = [
+        Observation { output: 1, ..sound },
+        observation(0, f64::NAN, 1., 0.),
+        observation(0, 1., -1., 1.),
+        observation(0, 1., 1., f64::INFINITY),
+        observation(0, 1., 0., -0.),
+    ];
+    for one in unsound {
+        list[3] = one;
+        let place = Place {
+            subject: 1,
+            observation: 1,
+        };
+        assert_eq!(check_observations(&list, 1, &[2, 3]), Err(place));
+    }
+}
+
+#[test]
+fn evaluations() {
+    // document 01's two rows, the second with the individual value 2
+    let mut asked = question(1);
+    let one = [observation(0, 3., 1., 0.)];
+    let sums = evaluate(&one, &asked, &reply(&[[1., 2.]]), &mut []).unwrap();
+    assert_eq!((sums.score, sums.information[0]), ([-4., 0.], [4., 0.]));
+    asked.individual[0] = 2.;
+    let one = [observation(0, 4., 0., 1.)];
+    let sums = evaluate(&one, &asked, &reply(&[[2., 0.5]]), &mut []).unwrap();
+    assert_eq!((sums.score, sums.information[0]), ([-0.5, 0.], [0.75, 0.]));
+
+    // two effects, and rows out of order
+    let both = [observation(1, 3., 1., 0.), observation(0, 0., 1., 0.)];
+    let mut work = [9; 7];
+    let mut rows = reply(&[[0., 5., 6.], [1., 2., 1.]]);
+    rows[5] = to_word(7.);
+    rows[6] = 1 << 63;
+    let mut asked = question(2);
+    asked.block = 1;
+    let sums = evaluate(&both, &asked, &rows, &mut work).unwrap();
+    assert_eq!(sums.score, [-4., -2.]);
+    assert_eq!(sums.information, [[29., 32.], [32., 37.]]);
+    assert_eq!(work, [9, to_word(1.), to_word(7.), 1, 0, 0, 0]);
+}
+
+#[test]
+fn refused_evaluations() {
+    let good = observation(0, 0., 1., 0.);
+    let rows = reply(&[[0., 0.], [0., 0.]]);
+    let mut asked = question(1);
+    assert_eq!(end(&[good], &asked, &rows), Ok(()));
+    assert_eq!(end(&[good], &asked, &rows[1..]), refused(8, None));
+    asked.output_budget = 4;
+    assert_eq!(end(&[good], &asked, &rows), Ok(()));
+    asked.output_budget = 3;
+    assert_eq!(end(&[good], &asked, &rows), refused(9, None));
+    asked.output_budget = 4;
+    let [missing, invalid, large] = [(2, 0., 1.), (0, 0., 0.), (0, 1e200, 1.)]
+        .map(|(row, value, additive)| observation(row, value, additive, 0.));
+    assert_eq!(end(&[good, missing], &asked, &rows), refused(10, Some(1)));
+    assert_eq!(end(&[good, invalid], &asked, &rows), refused(11, Some(1)));
+    assert_eq!(end(&[good, large], &asked, &rows), refused(12, Some(1)));
+    asked.additive = Some(1.);
+    assert_eq!(end(&[good, invalid], &asked, &rows), Ok(()));
+}
+
+#[test]
+fn sums_that_overflow() {
+    let rows = reply(&[[0., 0.]]);
+    let asked = question(1);
+    let [good, missing] = [0, 1].map(|row| observation(row, 0., 1., 0.));
+    // each of three is finite, their sum is not; a row that is missing after it
+    // is told first
+    let most = observation(0, 1.3e154, 1., 0.);
+    assert_eq!(end(&[most; 2], &asked, &rows), Ok(()));
+    assert_eq!(end(&[most; 3], &asked, &rows), refused(12, None));
+    let missed = [most, most, most, missing];
+    assert_eq!(end(&missed, &asked, &rows), refused(10, Some(3)));
+
+    // with two effects no single row is refused with 12
+    let large = observation(0, 1e200, 1., 0.);
+    let rows = reply(&[[0., 0., 0.]]);
+    let asked = question(2);
+    assert_eq!(end(&[good, large], &asked, &rows), refused(12, None));
+    let missed = [large, missing];
+    assert_eq!(end(&missed, &asked, &rows), refused(10, Some(1)));
 }
 
 fn terms(nll: f64) -> CachedTerms {
