@@ -107,9 +107,10 @@ fn compared(lent: &Lent, ask: Ask) -> Result<(Evaluated, bool), String> {
     if let Some(unlike) = work.first_unlike(&defined_work) {
         return Err(format!("work {unlike}"));
     }
-    let typed = lent.typed(evaluated.rows.len());
-    if typed != (evaluated.end(), evaluated.rows.as_flattened().to_vec()) {
-        return Err(format!("the safe function gives {typed:x?}"));
+    let (end, rows) = lent.typed(evaluated.rows.len());
+    if end != evaluated.end() || rows != evaluated.rows.as_flattened() {
+        let end = end_text(&end);
+        return Err(format!("the safe function gives {end} and {rows:x?}"));
     }
     let asked = ask(lent);
     if let Some(asked) = &asked {
@@ -122,7 +123,8 @@ fn compared(lent: &Lent, ask: Ask) -> Result<(Evaluated, bool), String> {
 fn beside(evaluated: &Evaluated, asked: &Asked) -> Result<(), String> {
     let end = evaluated.end();
     if end != asked.end {
-        return Err(format!("defined {end:x?}, original {:x?}", asked.end));
+        let [end, asked] = [&end, &asked.end].map(end_text);
+        return Err(format!("defined {end}, original {asked}"));
     }
     let words = |rows: &[[u64; ROW_WORDS]]| -> Vec<u64> {
         let words = rows.as_flattened().iter();
@@ -133,6 +135,13 @@ fn beside(evaluated: &Evaluated, asked: &Asked) -> Result<(), String> {
             Err(format!("defined {:x?}, original {rows:x?}", evaluated.rows))
         }
         _ => Ok(()),
+    }
+}
+
+fn end_text(end: &Result<[u64; 7], Refusal>) -> String {
+    match end {
+        Ok(sums) => format!("{sums:x?}"),
+        Err(refusal) => format!("{refusal:?}"),
     }
 }
 
