@@ -1,0 +1,193 @@
+// The work words of a search and the words of the results. Each function is defined for all words and
+// numbers: beyond the end a word reads as 0, and nothing is written there.
+//
+// The work words are four blocks of a subject's rows, three words a row (prediction, time, side): the rows
+// at eta zero (`population_rows` of the source), those of the best point, those of the latest grid point
+// (one effect) or of the rounds' current point (two), and those of the trial that was just evaluated.
+ghost use mathlib.Core.Path.{_≡_};
+ghost use Prim.Native.Nat.{_+_, _*_, _≤_, _<_};
+ghost use lib.ListN.{getD, set, length};
+ghost use Rattle.work.specs.Work.{smaller, zeros, rowsLength, block, copyWords, copyBlock, moveRows, isSameRow, isSameGrid, resultWritten, fittedAt, fittedRow, fittedWritten};
+use cache::ROW_WORDS;
+use matrix::Pair;
+
+// Document 01's largest numbers of subjects, and of observations.
+pub const MOST_SUBJECTS: usize = 4096;
+
+pub const MOST_ROWS: usize = 100000;
+
+// The blocks.
+pub const POPULATION: usize = 0;
+
+pub const BEST: usize = 1;
+
+pub const LATEST: usize = 2;
+
+pub const TRIAL: usize = 3;
+
+// From which block each of the first three gets its rows; its own, where they stay.
+pub struct Sources {
+    pub population: usize,
+    pub best: usize,
+    pub latest: usize,
+}
+
+fn read(words: &[u64], i: usize) -> u64
+    ensures { λ r. ⌜ r ≡ getD (now (words .entry)) i 0 ⌝ }
+{
+    if i < words.len() {
+        return words[i];
+    }
+    0
+}
+
+fn put(words: &mut [u64], i: usize, value: u64)
+    ensures { λ _. ⌜ now (words .exit) ≡ set (now (words .entry)) i value ⌝ }
+{
+    if i < words.len() {
+        words[i] = value;
+    }
+}
+
+fn smaller(a: usize, b: usize) -> usize
+    ensures { λ r. ⌜ r ≡ smaller a b ⌝ }
+{
+    if a < b {
+        return a;
+    }
+    b
+}
+
+// Every word becomes 0.
+pub fn clear(words: &mut [u64])
+    ensures { λ _. ⌜ now (words .exit) ≡ zeros (length (now (words .entry))) ⌝ }
+{
+    let n = words.len();
+    let mut i = 0;
+    while i < n {
+        words[i] = 0;
+        i += 1;
+    }
+}
+
+// ---- blocks
+
+// The number of words in a block of so many rows.
+fn rows_length(rows: usize) -> usize
+    ensures { λ r. ⌜ r ≡ rowsLength rows ⌝ }
+{
+    ROW_WORDS * smaller(rows, MOST_ROWS)
+}
+
+// The word at which a block begins.
+pub fn block(rows: usize, number: usize) -> usize
+    ensures { λ r. ⌜ r ≡ block rows number ⌝ }
+{
+    rows_length(rows) * smaller(number, TRIAL)
+}
+
+// Copies n words, from word `from` on, to those from word `to` on, one after the other.
+fn copy_words(work: &mut [u64], n: usize, from: usize, to: usize)
+    requires { ⌜ (n ≤ 300000) × (from ≤ 900000) × (to ≤ 900000) ⌝ }
+    ensures { λ _. ⌜ now (work .exit) ≡ copyWords n from to (now (work .entry)) ⌝ }
+{
+    let mut i = 0;
+    while i < n {
+        let word = read(work, from + i);
+        put(work, to + i, word);
+        i += 1;
+    }
+}
+
+// Copies a block to another.
+fn copy_block(work: &mut [u64], rows: usize, from: usize, to: usize)
+    ensures { λ _. ⌜ now (work .exit) ≡ copyBlock rows from to (now (work .entry)) ⌝ }
+{
+    if from == to {
+        return;
+    }
+    let n = rows_length(rows);
+    let first = block(rows, from);
+    let last = block(rows, to);
+    copy_words(work, n, first, last);
+}
+
+// The rows go where an evaluation puts them: the best before the latest, since it may come from there.
+pub fn move_rows(work: &mut [u64], rows: usize, sources: Sources)
+    ensures { λ _. ⌜ now (work .exit) ≡ moveRows rows sources (now (work .entry)) ⌝ }
+{
+    copy_block(work, rows, sources.population, POPULATION);
+    copy_block(work, rows, sources.best, BEST);
+    copy_block(work, rows, sources.latest, LATEST);
+}
+
+// ---- times and sides
+
+// Times are compared as floats: -0 is 0, and a NaN is no time at all.
+fn is_same_row(work: &[u64], a: usize, b: usize) -> bool
+    requires { ⌜ (a ≤ 900000) × (b ≤ 900000) ⌝ }
+    ensures { λ r. ⌜ r ≡ isSameRow (now (work .entry)) a b ⌝ }
+{
+    let time = float64::from_word(read(work, a + 1));
+    let other = float64::from_word(read(work, b + 1));
+    if time == other {
+        return read(work, a + 2) == read(work, b + 2);
+    }
+    false
+}
+
+// Document 01's question 17: times and sides are the same at eta zero and at the best point.
+pub fn is_same_grid(work: &[u64], rows: usize) -> bool
+    ensures { λ r. ⌜ r ≡ isSameGrid (now (work .entry)) rows ⌝ }
+{
+    let n = smaller(rows, MOST_ROWS);
+    let population = block(rows, POPULATION);
+    let best = block(rows, BEST);
+    let mut i = 0;
+    while i < n {
+        if is_same_row(work, population + ROW_WORDS * i, best + ROW_WORDS * i) {
+            i += 1;
+        } else {
+            return false;
+        }
+    }
+    true
+}
+
+// ---- results: three words for each subject, then two for each observation
+
+// Eta, second eta and negative log likelihood of a subject.
+pub fn write_result(results: &mut [u64], subject: usize, eta: Pair, nll: f64)
+    ensures { λ _. ⌜ now (results .exit) ≡ resultWritten subject eta nll (now (results .entry)) ⌝ }
+{
+    if results.len() <= subject {
+        return;
+    }
+    let at = 3 * subject;
+    put(results, at, float64::to_word(eta.first));
+    put(results, at + 1, float64::to_word(eta.second));
+    put(results, at + 2, float64::to_word(nll));
+}
+
+// Where the fitted rows begin, of the subject whose first observation has this number among all.
+fn fitted_at(subjects: usize, first: usize) -> usize
+    ensures { λ r. ⌜ r ≡ fittedAt subjects first ⌝ }
+{
+    3 * smaller(subjects, MOST_SUBJECTS) + 2 * smaller(first, MOST_ROWS)
+}
+
+// The predictions at eta zero and at the mode.
+pub fn write_fitted(results: &mut [u64], subjects: usize, first: usize, work: &[u64], rows: usize)
+    ensures { λ _. ⌜ now (results .exit) ≡ fittedWritten subjects first (now (work .entry)) rows (now (results .entry)) ⌝ }
+{
+    let n = smaller(rows, MOST_ROWS);
+    let at = fitted_at(subjects, first);
+    let population = block(rows, POPULATION);
+    let best = block(rows, BEST);
+    let mut i = 0;
+    while i < n {
+        put(results, at + 2 * i, read(work, population + ROW_WORDS * i));
+        put(results, at + 2 * i + 1, read(work, best + ROW_WORDS * i));
+        i += 1;
+    }
+}
