@@ -14,7 +14,7 @@ use Rattle.admission.specs.declared.Counts.the-variants.{Within, Outside
 use Rattle.admission.specs.Admission.{larger, countFrom, countObservations, isCohort, isNoShape}
 
 -- where the answer is not that of a test, the test was false
-not-first : {X : Type 0} {x z : X} (b : Bool) (y : X) → (x ≡ z → ⊥) → pick b x y ≡ z → (b ≡ false) × (y ≡ z)
+pub not-first : {X : Type 0} {x z : X} (b : Bool) (y : X) → (x ≡ z → ⊥) → pick b x y ≡ z → (b ≡ false) × (y ≡ z)
 not-first {X} {x} {z} b y d =
     cases (λ (v : X). v ≡ z → (b ≡ false) × (y ≡ z)) b (λ p e. absurd (d e)) (λ p e. (p, e))
 

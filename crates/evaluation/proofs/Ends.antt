@@ -129,7 +129,7 @@ module _ (trial : Trial) (reply : List ℕ) (n : ℕ) (few : n < 2 ^ 64) where
       record { good = b .good; same = λ j out. b .same j out ∙ a .same j out }
 
 -- ---- the end
-finite-sums : (e : Evaluation) (s : Sums) → finish e ≡ Running s → hasNonfiniteSum s ≡ false
+pub finite-sums : (e : Evaluation) (s : Sums) → finish e ≡ Running s → hasNonfiniteSum s ≡ false
 unfolding finish
 finite-sums (Running t) s q = cases (λ (z : Evaluation). z ≡ Running s → hasNonfiniteSum s ≡ false) (hasNonfiniteSum t) (λ h w. cc) (λ h w. cc) q
 finite-sums (Refused n) s q = cc

@@ -13,7 +13,7 @@ use Rattle.mode_2d.specs.Rules.{priorScore, joint}
 use Rattle.histories.specs.History2.{Within, Answers}
 use Rattle.histories.specs.Claim2.{Bounded}
 
-in-16 : (x : Float) → Within (word 0x4030_0000_0000_0000) x → InPower 4 x
+pub in-16 : (x : Float) → Within (word 0x4030_0000_0000_0000) x → InPower 4 x
 unfolding ofBits neg
 in-16 x w = record { low = w .low; high = w .high }
 

@@ -78,11 +78,11 @@ passed m i d h =
     }
 
 -- ---- ranges
-in-20 : (x : Float) → T (le (word 0x3eb0_0000_0000_0000) x) → T (le x (word 0x4130_0000_0000_0000)) → InPower 20 x
+pub in-20 : (x : Float) → T (le (word 0x3eb0_0000_0000_0000) x) → T (le x (word 0x4130_0000_0000_0000)) → InPower 20 x
 unfolding le ofBits
 in-20 x l h = record { low = le-trans (fin true 1 (pos 20)) (fin false 1 (negsuc 19)) x tt l; high = h }
 
-least-20 : (x : Float) → InPower 20 x → T (le (word 0x3eb0_0000_0000_0000) x) → Least 19 x
+pub least-20 : (x : Float) → InPower 20 x → T (le (word 0x3eb0_0000_0000_0000) x) → Least 19 x
 unfolding ofBits
 least-20 x w l = record { isFinite = within-finite 20 x w; low = l }
 

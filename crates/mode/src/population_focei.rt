@@ -57,20 +57,20 @@ pub fn eta_tolerance(gradient_tolerance: f64) -> f64
     float64::clamp(gradient_tolerance * 1e-4, 1e-12, 1e-8)
 }
 
-fn is_above(c: Conditional) -> bool
+pub fn is_above(c: Conditional) -> bool
     ensures { λ r. ⌜ r ≡ isAbove c ⌝ }
 {
     c.score > 0.0
 }
 
-fn is_under(c: Conditional) -> bool
+pub fn is_under(c: Conditional) -> bool
     ensures { λ r. ⌜ r ≡ isUnder c ⌝ }
 {
     c.score <= 0.0
 }
 
 // Whether a has the smaller absolute score.
-fn is_closer(a: Conditional, b: Conditional) -> bool
+pub fn is_closer(a: Conditional, b: Conditional) -> bool
     ensures { λ r. ⌜ r ≡ isCloser a b ⌝ }
 {
     float64::abs(a.score) < float64::abs(b.score)

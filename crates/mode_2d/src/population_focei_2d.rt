@@ -221,7 +221,7 @@ fn next_reduction(eta_bound: f64, step: NewtonStep, from: u32) -> u32
 }
 
 // Whether `joint` at the trial's evaluation c falls by at least 1e-4 of what was foreseen.
-fn is_taken(s: Settings2, x: Search2, c: Conditional2) -> bool
+pub fn is_taken(s: Settings2, x: Search2, c: Conditional2) -> bool
     ensures { λ r. ⌜ r ≡ isTaken s x c ⌝ }
 {
     joint(s, c) <= joint(s, x.current) - 1e-4 * x.decrease

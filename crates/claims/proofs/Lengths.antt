@@ -1,0 +1,46 @@
+-- What a step writes keeps the number of words that are lent. Assumes nothing.
+use mathlib.Core.Path.{_≡_, refl, ap, _∙_}
+use mathlib.Core.List.{List}
+use Prim.Native.Nat.{ℕ, zero, suc, _+_, _*_}
+use lib.Dec.{ltb, eqb}
+use lib.ListN.{getD, set, length, length-set}
+use Rattle.float64.specs.Pick.{both}
+use Rattle.cache.specs.Cache.{rowWords, rowsFrom, isRoom, copied, copyFrom, rowsTo, firstOf}
+use Rattle.work.specs.Work.{zeros, rowsLength, block, copyWords, copyBlock, moveRows}
+use Rattle.work.specs.declared.Sources.{Sources}
+
+-- as many words as there were
+abbrev pub AsLong : List ℕ → List ℕ → Type 0
+AsLong work after = length after ≡ length work
+
+pub zeros-length : (n : ℕ) → length (zeros n) ≡ n
+unfolding zeros
+zeros-length zero = refl
+zeros-length (suc n) = ap suc (zeros-length n)
+
+copy-words-length : (n from to : ℕ) (work : List ℕ) → AsLong work (copyWords n from to work)
+unfolding copyWords
+copy-words-length zero from to work = refl
+copy-words-length (suc n) from to work = copy-words-length n (from + 1) (to + 1) (set work to (getD work from 0)) ∙ length-set work to (getD work from 0)
+
+copy-block-length : (rows from to : ℕ) (work : List ℕ) → AsLong work (copyBlock rows from to work)
+unfolding copyBlock
+copy-block-length rows from to work = both (AsLong work) (eqb from to) refl (copy-words-length (rowsLength rows) (block rows from) (block rows to) work)
+
+pub move-rows-length : (rows : ℕ) (sources : Sources) (work : List ℕ) → AsLong work (moveRows rows sources work)
+unfolding moveRows
+move-rows-length rows s work =
+    let one = copyBlock rows (s .population) 0 work in
+    let two = copyBlock rows (s .best) 1 one in
+    copy-block-length rows (s .latest) 2 two ∙ copy-block-length rows (s .best) 1 one ∙ copy-block-length rows (s .population) 0 work
+
+copy-from-length : (n : ℕ) (w : List ℕ) (k x : ℕ) (out : List ℕ) (to i : ℕ) → AsLong out (copyFrom n w k x out to i)
+unfolding copyFrom
+copy-from-length zero w k x out to i = refl
+copy-from-length (suc n) w k x out to i = copy-from-length n w k x _ to (i + 1) ∙ length-set out (to + i) _
+
+pub copied-length : (w : List ℕ) (k slot n : ℕ) (out : List ℕ) (to : ℕ) → AsLong out (copied w k slot n out to)
+unfolding copied rowsTo
+copied-length w k slot n out to =
+    both (AsLong out) (isRoom k) (both (AsLong out) (ltb k n) refl (both (AsLong out) (ltb (length w) ((rowsFrom + rowWords) * k)) refl
+    (both (AsLong out) (ltb (length out) (to + rowWords * n)) refl (copy-from-length (rowWords * n) w k (rowWords * firstOf w k slot) out to 0)))) refl
