@@ -52,7 +52,7 @@ use Rattle.claims.proofs.Stores.{Fine, Trusted}
 use Rattle.claims.proofs.Turns.{key-fine, warm-of-fits}
 
 -- the trial block is the last of four
-block-end : (rows : ℕ) → rows ≤ 100000 → block rows 3 + rowWords * rows ≡ 12 * rows
+pub block-end : (rows : ℕ) → rows ≤ 100000 → block rows 3 + rowWords * rows ≡ 12 * rows
 unfolding block
 block-end rows h = omega (arith, h)
 

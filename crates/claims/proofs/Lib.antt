@@ -1,10 +1,12 @@
 pub mod Accepted
+pub mod Copies
 pub mod Domains
 pub mod Entries
 pub mod Evaluated
 pub mod Fitting
 pub mod Lengths
 pub mod Points
+pub mod Refined
 pub mod Searches
 pub mod Session
 pub mod Standing

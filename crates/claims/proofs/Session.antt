@@ -63,7 +63,7 @@ module _ (S : Store) (setup : Setup) (counts : List ℕ) (observations : List Ob
   rows-are i l = let e = a .each i l in (e .0, let f = e .1 in omega (arith, f, a .small))
 
   -- the host sets the warm starts
-  sets : (warm : List ℕ) (h : Held S) → Stands h → Stands (setWarm S setup counts observations warm h)
+  pub sets : (warm : List ℕ) (h : Held S) → Stands h → Stands (setWarm S setup counts observations warm h)
   unfolding setWarm
   sets warm h s = both Stands _ (record {
     subject = s .subject;
@@ -98,7 +98,7 @@ module _ (S : Store) (setup : Setup) (counts : List ℕ) (observations : List Ob
     writes-tally = sets-tally;
   }
 
-  opens-standing : Stands (opened S setup counts observations lent results)
+  pub opens-standing : Stands (opened S setup counts observations lent results)
   unfolding B.beginSubject
   opens-standing =
       let e = sym (same-setup S setup counts observations) in
@@ -121,7 +121,7 @@ module _ (S : Store) (setup : Setup) (counts : List ℕ) (observations : List Ob
   holds acts = demand3 (I .rules) (I .claims) (Q .proved) M (view S setup counts observations I) Stands lawful (opened S setup counts observations lent results) opens-standing refl refl acts
 
 -- K is from 1 to 100,000
-some-room : (setup : Setup) → isNoShape setup ≡ false → 1 ≤ setup .k
+pub some-room : (setup : Setup) → isNoShape setup ≡ false → 1 ≤ setup .k
 unfolding isNoShape
 some-room setup e =
     let no : true ≡ false → ⊥ = λ q. subst T q tt in

@@ -47,11 +47,11 @@ pub record Trusted (S : Store) (k : ℕ) : Type 1 where
 abbrev FineEntry : Entry → Type 0
 FineEntry x = Fine (x .key) (x .terms)
 
-every-append : {A : Type 0} (P : A → Type 0) (l : List A) (x : A) → Every P l → P x → Every P (l ++ (x ∷ []))
+pub every-append : {A : Type 0} (P : A → Type 0) (l : List A) (x : A) → Every P l → P x → Every P (l ++ (x ∷ []))
 every-append P [] x no-entry p = more p no-entry
 every-append P (y ∷ l) x (more q h) p = more q (every-append P l x h p)
 
-every-drop : (P : Entry → Type 0) (room : ℕ) (l : List Entry) → Every P l → Every P (dropTo room l)
+pub every-drop : (P : Entry → Type 0) (room : ℕ) (l : List Entry) → Every P l → Every P (dropTo room l)
 unfolding dropTo
 every-drop P room [] h = h
 every-drop P room (x ∷ l) (more p h) = cases (Every P) (ltb room (cachedRows (x ∷ l))) (λ t. every-drop P room l h) (λ t. more p h)
@@ -75,7 +75,7 @@ module _ (k : ℕ) (some-room : 1 ≤ k) (most : k ≤ 100000) where
     pub few : c .order .next ≤ n + 1
     pub fine : Every FineEntry list
 
-  zeros-are : (n i : ℕ) → getD (zeros n) i 0 ≡ 0
+  pub zeros-are : (n i : ℕ) → getD (zeros n) i 0 ≡ 0
   unfolding zeros
   zeros-are zero i = refl
   zeros-are (suc n) zero = refl
@@ -92,7 +92,7 @@ module _ (k : ℕ) (some-room : 1 ≤ k) (most : k ≤ 100000) where
       (subst (Fine key) (sym d) (found-fine key l x h g), ap length v ∙ copied-length (c .words) k slot rows work to)
   recalled c l st h key rows work to r Nothing e q = absurd (let z : _≡_ {A = ℕ} 0 1 = cc in omega arith)
 
-  not-found : (c : Cache) (l : List Entry) → Stands (c .words) k (c .order) l → (key : CacheKey) (rows : ℕ) (work : List ℕ) (to : ℕ)
+  pub not-found : (c : Cache) (l : List Entry) → Stands (c .words) k (c .order) l → (key : CacheKey) (rows : ℕ) (work : List ℕ) (to : ℕ)
       → (f : Found) → find (c .words) k (c .order) key ≡ f → recallAt (c .words) k rows work to f ≡ none → lookup key l ≡ none
   unfolding recallAt foundEntry
   not-found c l st key rows work to (At slot) e q = absurd (let z : _≡_ {A = ℕ} 0 1 = cc in omega arith)
@@ -132,3 +132,7 @@ module _ (k : ℕ) (some-room : 1 ≤ k) (most : k ≤ 100000) where
     recalls = λ n c s key rows work to r e. recalled c (s .list) (s .stands) (s .fine) key rows work to r _ refl e;
     keeps = kept;
   }
+
+  pub kept-few : (n : ℕ) (c : Cache) → words-trusted .Holds n c → c .order .next ≤ n + 1
+  unfolding words-trusted
+  kept-few n c s = s .few

@@ -1,3 +1,5 @@
--- What a reader must believe: Inner (how a session's state is read as a search, with one effect and with two) and Claim (demand 3 for every session).
+-- What a reader must believe: Inner (how a session's state is read as a search, with one effect and with two), Claim (demand 3 for every session), Refined (the words of the kept evaluations do not
+-- show in what a session does).
 pub mod Inner
 pub mod Claim
+pub mod Refined
