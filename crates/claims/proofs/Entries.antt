@@ -103,7 +103,7 @@ module _ (S : Store) (setup : Setup) (counts : List ℕ) (observations : List Ob
     starts : (parameters : Parameters) → p .awaits ≡ false → N.admitted S setup counts observations parameters w ≡ A.Accepted → Goes c h (on (N.begun S setup counts observations parameters w))
     unfolding N.begun N.admitted B.beginSubject
     starts parameters idle e =
-        let a = accepts (withParameters setup parameters) counts (N.lentOf S setup counts observations w) (checkObservations (setup .width) counts observations (N.firstCheck S setup counts observations)) e in
+        let a = accepts (withParameters setup parameters) counts (N.lentOf S setup counts (length observations) w) (checkObservations (setup .width) counts observations (N.firstCheck S setup counts observations)) e in
         let f = warm-of-fits (w .warm) (setup .effects) 0 in
         begins idle (record {
           sound = record {
@@ -130,7 +130,7 @@ module _ (S : Store) (setup : Setup) (counts : List ℕ) (observations : List Ob
     unfolding N.enterObjective
     at-objective parameters =
         cases (Goes c h) (p .awaits) (λ t. unaltered 19 At.Nowhere)
-        (λ t. both (Goes c h) (N.isStanding S setup counts observations w) (when-admitted _ _ (starts parameters t)) (unaltered 19 At.Nowhere))
+        (λ t. both (Goes c h) (N.isStanding S setup counts (length observations) w) (when-admitted _ _ (starts parameters t)) (unaltered 19 At.Nowhere))
 
     -- ---- a reply is awaited
     at-wanted : (go : Pair → Moved (Held S) Step) (v : Wanted) → ((eta : Pair) → v ≡ Wants.Point eta → Goes c h (go eta)) → Goes c h (N.atWanted S setup counts observations h go v)
@@ -142,7 +142,7 @@ module _ (S : Store) (setup : Setup) (counts : List ℕ) (observations : List Ob
     when-awaited : (go : Pair → Moved (Held S) Step) → (p .awaits ≡ true → (eta : Pair) → B.wantedBy fit p ≡ Wants.Point eta → Goes c h (go eta)) → Goes c h (N.whenAwaited S setup counts observations h go)
     unfolding N.whenAwaited
     when-awaited go f =
-        cases (Goes c h) (p .awaits) (λ t. both (Goes c h) (N.isStanding S setup counts observations w) (at-wanted go (B.wantedBy fit p) (f t)) (unaltered 19 At.Nowhere)) (λ t. unaltered 19 At.Nowhere)
+        cases (Goes c h) (p .awaits) (λ t. both (Goes c h) (N.isStanding S setup counts (length observations) w) (at-wanted go (B.wantedBy fit p) (f t)) (unaltered 19 At.Nowhere)) (λ t. unaltered 19 At.Nowhere)
 
   -- ---- a reply
   module _ (words : List ℕ) (h : Held S) (s : Stands h) (t : h .whole .progress .awaits ≡ true) (eta : Pair) (e : B.wantedBy (B.fitOf setup (h .parameters)) (h .whole .progress) ≡ Wants.Point eta) where

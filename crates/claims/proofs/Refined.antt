@@ -265,7 +265,7 @@ module _ (setup : Setup) (counts : List ℕ) (observations : List Observation) (
 
       admits : (q : Parameters) → N.admitted words setup counts observations q (h .whole) ≡ N.admitted entries setup counts observations q (g .whole)
       unfolding N.admitted withParameters
-      admits q = checks-same (withParameters setup q) (N.lentOf words setup counts observations (h .whole)) (N.lentOf entries setup counts observations (g .whole)) refl refl refl refl (st .good .long) (omega arith) counts _
+      admits q = checks-same (withParameters setup q) (N.lentOf words setup counts (length observations) (h .whole)) (N.lentOf entries setup counts (length observations) (g .whole)) refl refl refl refl (st .good .long) (omega arith) counts _
 
       when-admitted : (x : Moved (Held words) Step) (y : Moved (Held entries) Step) → Pair' x y → (m : Admission) → Pair' (N.whenAdmitted words setup counts observations h x m) (N.whenAdmitted entries setup counts observations g y m)
       unfolding N.whenAdmitted

@@ -77,29 +77,29 @@ isPlaced effects counts observations p =
     (pick (eqb effects 2) (searchWithin2 (p .«search_2d»)) (searchWithin (p .search))))
     false
 
-module _ (S : Store) (setup : Setup) (counts : List ℕ) (observations : List Observation) where
-  -- kept rows at most K
+-- and kept rows at most K; n observations are lent
+module _ (S : Store) (setup : Setup) (counts : List ℕ) (n : ℕ) where
   unfoldable pub isStanding : Whole S → Bool
-  isStanding w =
-      pick (ltb (setup .k) (w .tally .«cached_rows» .0)) false (isPlaced (setup .effects) counts (length observations) (w .progress))
-
-  -- ---- 1 to 5 of what is lent
-
-  abbrev pub firstCheck : Check
-  firstCheck = Sound (record { subject = 0; observation = 0 })
+  isStanding w = pick (ltb (setup .k) (w .tally .«cached_rows» .0)) false (isPlaced (setup .effects) counts n (w .progress))
 
   abbrev pub lentOf : Whole S → Lent
   lentOf w = record {
-    observations = length observations;
+    observations = n;
     work = length (w .work);
     cache = S .lent (w .kept) (setup .k);
     warm = length (w .warm);
     results = length (w .results);
   }
 
+module _ (S : Store) (setup : Setup) (counts : List ℕ) (observations : List Observation) where
+  -- ---- 1 to 5 of what is lent
+
+  abbrev pub firstCheck : Check
+  firstCheck = Sound (record { subject = 0; observation = 0 })
+
   unfoldable pub admitted : Parameters → Whole S → Admission
   admitted parameters w =
-      checks (withParameters setup parameters) counts (lentOf w) (checkObservations (setup .width) counts observations firstCheck)
+      checks (withParameters setup parameters) counts (lentOf S setup counts (length observations) w) (checkObservations (setup .width) counts observations firstCheck)
 
   -- a refusal that alters nothing
   abbrev pub unaltered : ℕ → Place → Held S → Moved (Held S) Step
@@ -136,7 +136,7 @@ module _ (S : Store) (setup : Setup) (counts : List ℕ) (observations : List Ob
   unfoldable pub enterObjective : Parameters → Held S → Moved (Held S) Step
   enterObjective parameters h =
       pick (h .whole .progress .awaits) (unaltered 19 At.Nowhere h)
-      (pick (isStanding (h .whole)) (whenAdmitted h (on (begun parameters (h .whole))) (admitted parameters (h .whole)))
+      (pick (isStanding S setup counts (length observations) (h .whole)) (whenAdmitted h (on (begun parameters (h .whole))) (admitted parameters (h .whole)))
       (unaltered 19 At.Nowhere h))
 
   -- ---- a reply
@@ -185,7 +185,7 @@ module _ (S : Store) (setup : Setup) (counts : List ℕ) (observations : List Ob
   unfoldable pub whenAwaited : Held S → (Pair → Moved (Held S) Step) → Moved (Held S) Step
   whenAwaited h go =
       pick (h .whole .progress .awaits)
-      (pick (isStanding (h .whole)) (atWanted h go (wantedBy (fitOf setup (h .parameters)) (h .whole .progress))) (unaltered 19 At.Nowhere h))
+      (pick (isStanding S setup counts (length observations) (h .whole)) (atWanted h go (wantedBy (fitOf setup (h .parameters)) (h .whole .progress))) (unaltered 19 At.Nowhere h))
       (unaltered 19 At.Nowhere h)
 
   unfoldable pub enterReply : List ℕ → Held S → Moved (Held S) Step
