@@ -10,7 +10,6 @@ use lib.ListN.{length, take, drop}
 use Rattle.float64.specs.Pick.{both, cases}
 use Rattle.matrix.specs.declared.Pair.{Pair}
 use Rattle.likelihood.specs.declared.population_focei.Observation.{Observation}
-use Rattle.evaluation.specs.Observations.{checkObservations}
 use Rattle.evaluation.specs.Subject.{Evaluating, hasNonfiniteSum, finish}
 use Rattle.evaluation.specs.declared.Trial.{Trial}
 use Rattle.evaluation.specs.declared.Sums.{Sums}
@@ -81,17 +80,17 @@ module _ (S : Store) (setup : Setup) (counts : List ℕ) (observations : List Ob
     fit = B.fitOf setup (h .parameters)
 
     -- a refusal that alters nothing
-    unaltered : (number : ℕ) (place : Place) → Goes c h (N.unaltered S setup counts observations number place h)
+    unaltered : (number : ℕ) (place : Place) → Goes c h (N.unaltered S setup counts number place h)
     unaltered number place = same refl
 
-    when-admitted : (go : Moved (Held S) Step) (a : Admission) → (a ≡ A.Accepted → Goes c h go) → Goes c h (N.whenAdmitted S setup counts observations h go a)
+    when-admitted : (go : Moved (Held S) Step) (a : Admission) → (a ≡ A.Accepted → Goes c h go) → Goes c h (N.whenAdmitted S setup counts h go a)
     unfolding N.whenAdmitted
     when-admitted go A.Accepted f = f refl
     when-admitted go (A.Refused n) f = unaltered n At.Nowhere
     when-admitted go (A.Unsound place) f = unaltered 4 _
 
     -- a refusal that ends the objective
-    over : p .awaits ≡ true → (number : ℕ) (place : Place) → Goes c h (N.over S setup counts observations number place h)
+    over : p .awaits ≡ true → (number : ℕ) (place : Place) → Goes c h (N.over S setup counts number place h)
     unfolding N.over B.idle B.withSearch
     over t number place = failed t refl (record {
       sound = still S setup counts observations I Q U h s (B.idle p) (w .tally) (zeros (length (w .work))) (w .warm) (w .results) (s .subject) refl (s .warm-fits) (Q .pointed-idle p (s .pointed)) (omega arith) (s .limit) (zeros-length (length (w .work)));
@@ -100,10 +99,10 @@ module _ (S : Store) (setup : Setup) (counts : List ℕ) (observations : List Ob
     })
 
     -- ---- an objective
-    starts : (parameters : Parameters) → p .awaits ≡ false → N.admitted S setup counts observations parameters w ≡ A.Accepted → Goes c h (on (N.begun S setup counts observations parameters w))
+    starts : (parameters : Parameters) → p .awaits ≡ false → N.admitted S setup counts (length observations) (N.allChecked setup counts observations) parameters w ≡ A.Accepted → Goes c h (on (N.begun S setup counts parameters w))
     unfolding N.begun N.admitted B.beginSubject
     starts parameters idle e =
-        let a = accepts (withParameters setup parameters) counts (N.lentOf S setup counts (length observations) w) (checkObservations (setup .width) counts observations (N.firstCheck S setup counts observations)) e in
+        let a = accepts (withParameters setup parameters) counts (N.lentOf S setup (length observations) w) (N.allChecked setup counts observations) e in
         let f = warm-of-fits (w .warm) (setup .effects) 0 in
         begins idle (record {
           sound = record {
@@ -126,23 +125,23 @@ module _ (S : Store) (setup : Setup) (counts : List ℕ) (observations : List Ob
           tally = refl;
         })
 
-    at-objective : (parameters : Parameters) → Goes c h (N.enterObjective S setup counts observations parameters h)
+    at-objective : (parameters : Parameters) → Goes c h (N.enterObjective S setup counts (length observations) (N.allChecked setup counts observations) parameters h)
     unfolding N.enterObjective
     at-objective parameters =
         cases (Goes c h) (p .awaits) (λ t. unaltered 19 At.Nowhere)
-        (λ t. both (Goes c h) (N.isStanding S setup counts (length observations) w) (when-admitted _ _ (starts parameters t)) (unaltered 19 At.Nowhere))
+        (λ t. both (Goes c h) (N.isStanding setup counts (length observations) (w .tally) (w .progress)) (when-admitted _ _ (starts parameters t)) (unaltered 19 At.Nowhere))
 
     -- ---- a reply is awaited
-    at-wanted : (go : Pair → Moved (Held S) Step) (v : Wanted) → ((eta : Pair) → v ≡ Wants.Point eta → Goes c h (go eta)) → Goes c h (N.atWanted S setup counts observations h go v)
+    at-wanted : (go : Pair → Moved (Held S) Step) (v : Wanted) → ((eta : Pair) → v ≡ Wants.Point eta → Goes c h (go eta)) → Goes c h (N.atWanted S setup counts (length observations) (N.allChecked setup counts observations) h go v)
     unfolding N.atWanted
     at-wanted go (Wants.Point eta) f = when-admitted (go eta) _ (λ e. f eta refl)
     at-wanted go Wants.Mode f = unaltered 19 At.Nowhere
     at-wanted go (Wants.Refused n) f = unaltered 19 At.Nowhere
 
-    when-awaited : (go : Pair → Moved (Held S) Step) → (p .awaits ≡ true → (eta : Pair) → B.wantedBy fit p ≡ Wants.Point eta → Goes c h (go eta)) → Goes c h (N.whenAwaited S setup counts observations h go)
+    when-awaited : (go : Pair → Moved (Held S) Step) → (p .awaits ≡ true → (eta : Pair) → B.wantedBy fit p ≡ Wants.Point eta → Goes c h (go eta)) → Goes c h (N.whenAwaited S setup counts (length observations) (N.allChecked setup counts observations) h go)
     unfolding N.whenAwaited
     when-awaited go f =
-        cases (Goes c h) (p .awaits) (λ t. both (Goes c h) (N.isStanding S setup counts (length observations) w) (at-wanted go (B.wantedBy fit p) (f t)) (unaltered 19 At.Nowhere)) (λ t. unaltered 19 At.Nowhere)
+        cases (Goes c h) (p .awaits) (λ t. both (Goes c h) (N.isStanding setup counts (length observations) (w .tally) (w .progress)) (at-wanted go (B.wantedBy fit p) (f t)) (unaltered 19 At.Nowhere)) (λ t. unaltered 19 At.Nowhere)
 
   -- ---- a reply
   module _ (words : List ℕ) (h : Held S) (s : Stands h) (t : h .whole .progress .awaits ≡ true) (eta : Pair) (e : B.wantedBy (B.fitOf setup (h .parameters)) (h .whole .progress) ≡ Wants.Point eta) where
@@ -162,7 +161,7 @@ module _ (S : Store) (setup : Setup) (counts : List ℕ) (observations : List Ob
     ended = N.evaluated S setup counts observations own words r (v .work)
 
     abbrev trial : Trial
-    trial = N.trialOf S setup counts observations own r
+    trial = N.trialOf S setup counts own r
 
     abbrev lists : List Observation
     lists = take rows (drop (r .first) observations)
@@ -225,7 +224,7 @@ module _ (S : Store) (setup : Setup) (counts : List ℕ) (observations : List Ob
           (U .keeps (s .count) (v .kept) (s .trust) (let a = waits .fewer in omega (arith, a, s .limit, word-limit)) (B.keyOf own (r .subject) eta) (B.termsOf sums) rows (ended .work) (block rows 3) (v .work) (block rows 3)
           missing fine (each (r .subject) (s .subject) .0) lent)
 
-      goes : Goes (reply words) h (N.replied S setup counts observations own eta h (ended .work) (E.Running sums))
+      goes : Goes (reply words) h (N.replied S setup counts own eta h (ended .work) (E.Running sums))
       unfolding N.replied receive takes
       goes = replied t
           (subst (I .rules .Answers _) (sym given-is) (Q .answers own r eta sums effects-are (Q .domain setup (h .parameters) r refl bound (s .omega-in) (s .shape-in) (s .warm-fits)) e passed finite))
@@ -251,7 +250,7 @@ module _ (S : Store) (setup : Setup) (counts : List ℕ) (observations : List Ob
             tally = refl;
           })
 
-    by-end : (x : Evaluation) → finish (ended .evaluation) ≡ x → Goes (reply words) h (N.replied S setup counts observations own eta h (ended .work) x)
+    by-end : (x : Evaluation) → finish (ended .evaluation) ≡ x → Goes (reply words) h (N.replied S setup counts own eta h (ended .work) x)
     by-end (E.Running sums) d = goes sums d
     by-end (E.Refused n) d = unfold N.replied in over (reply words) h s t n _
     by-end (E.RefusedAt n i) d = unfold N.replied in over (reply words) h s t n _

@@ -12,7 +12,6 @@ use lib.ListN.{length, take, drop}
 use Rattle.float64.specs.Pick.{pick, cases, pick-yes, pick-no, both as both-of}
 use Rattle.matrix.specs.declared.Pair.{Pair}
 use Rattle.likelihood.specs.declared.population_focei.Observation.{Observation}
-use Rattle.evaluation.specs.Observations.{checkObservations}
 use Rattle.evaluation.specs.Subject.{Evaluating, finish}
 use Rattle.evaluation.specs.declared.Check.{Check}
 use Rattle.evaluation.specs.declared.Check.the-variants.{Sound, Unsound}
@@ -246,55 +245,55 @@ module _ (setup : Setup) (counts : List ℕ) (observations : List Observation) (
       served-by Wants.Mode = refl
       served-by (Wants.Refused n) = refl
 
-      moves : (t : Turned) (x y z : List ℕ) → Pair' (N.heldBy words setup counts observations parameters (moved words tally c x y z t)) (N.heldBy entries setup counts observations parameters (moved entries tally l x y z t))
+      moves : (t : Turned) (x y z : List ℕ) → Pair' (N.heldBy words setup counts parameters (moved words tally c x y z t)) (N.heldBy entries setup counts parameters (moved entries tally l x y z t))
       unfolding N.heldBy moved
       moves (On q) x y z = both-on (link q tally x y z)
       moves (Halt x') x y z = both-halt (link (x' .progress) (x' .tally) x y z)
 
-      turn-both : Pair' (N.turnHeld words setup counts observations h) (N.turnHeld entries setup counts observations g)
+      turn-both : Pair' (N.turnHeld words setup counts h) (N.turnHeld entries setup counts g)
       unfolding N.turnHeld turn turned served
       turn-both =
           let v = B.wantedBy fit p in
-          subst (λ (e : Ended). Pair' (N.heldBy words setup counts observations parameters (moved words tally c (pick (isOver (servedBy words fit counts p tally c work warm results v .turned)) (zeros (length (servedBy words fit counts p tally c work warm results v .work))) (servedBy words fit counts p tally c work warm results v .work)) (servedBy words fit counts p tally c work warm results v .warm) (servedBy words fit counts p tally c work warm results v .results) (servedBy words fit counts p tally c work warm results v .turned)))
-          (N.heldBy entries setup counts observations parameters (moved entries tally l (pick (isOver (e .turned)) (zeros (length (e .work))) (e .work)) (e .warm) (e .results) (e .turned))))
+          subst (λ (e : Ended). Pair' (N.heldBy words setup counts parameters (moved words tally c (pick (isOver (servedBy words fit counts p tally c work warm results v .turned)) (zeros (length (servedBy words fit counts p tally c work warm results v .work))) (servedBy words fit counts p tally c work warm results v .work)) (servedBy words fit counts p tally c work warm results v .warm) (servedBy words fit counts p tally c work warm results v .results) (servedBy words fit counts p tally c work warm results v .turned)))
+          (N.heldBy entries setup counts parameters (moved entries tally l (pick (isOver (e .turned)) (zeros (length (e .work))) (e .work)) (e .warm) (e .results) (e .turned))))
           (served-by v) (moves _ _ _ _)
 
       -- ---- entries
-      unaltered : (number : ℕ) (place : Place) → Pair' (N.unaltered words setup counts observations number place h) (N.unaltered entries setup counts observations number place g)
+      unaltered : (number : ℕ) (place : Place) → Pair' (N.unaltered words setup counts number place h) (N.unaltered entries setup counts number place g)
       unaltered number place = both-halt (link p tally work warm results)
 
-      admits : (q : Parameters) → N.admitted words setup counts observations q (h .whole) ≡ N.admitted entries setup counts observations q (g .whole)
+      admits : (q : Parameters) → N.admitted words setup counts (length observations) (N.allChecked setup counts observations) q (h .whole) ≡ N.admitted entries setup counts (length observations) (N.allChecked setup counts observations) q (g .whole)
       unfolding N.admitted withParameters
-      admits q = checks-same (withParameters setup q) (N.lentOf words setup counts (length observations) (h .whole)) (N.lentOf entries setup counts (length observations) (g .whole)) refl refl refl refl (st .good .long) (omega arith) counts _
+      admits q = checks-same (withParameters setup q) (N.lentOf words setup (length observations) (h .whole)) (N.lentOf entries setup (length observations) (g .whole)) refl refl refl refl (st .good .long) (omega arith) counts _
 
-      when-admitted : (x : Moved (Held words) Step) (y : Moved (Held entries) Step) → Pair' x y → (m : Admission) → Pair' (N.whenAdmitted words setup counts observations h x m) (N.whenAdmitted entries setup counts observations g y m)
+      when-admitted : (x : Moved (Held words) Step) (y : Moved (Held entries) Step) → Pair' x y → (m : Admission) → Pair' (N.whenAdmitted words setup counts h x m) (N.whenAdmitted entries setup counts g y m)
       unfolding N.whenAdmitted
       when-admitted x y b A.Accepted = b
       when-admitted x y b (A.Refused n) = unaltered n _
       when-admitted x y b (A.Unsound place) = unaltered 4 _
 
-      over : (number : ℕ) (place : Place) → Pair' (N.over words setup counts observations number place h) (N.over entries setup counts observations number place g)
+      over : (number : ℕ) (place : Place) → Pair' (N.over words setup counts number place h) (N.over entries setup counts number place g)
       unfolding N.over
       over number place = both-halt (link (B.idle p) tally (zeros (length work)) warm results)
 
       admitted-both : (q : Parameters) (x : Moved (Held words) Step) (y : Moved (Held entries) Step) → Pair' x y
-          → Pair' (N.whenAdmitted words setup counts observations h x (N.admitted words setup counts observations q (h .whole))) (N.whenAdmitted entries setup counts observations g y (N.admitted entries setup counts observations q (g .whole)))
-      admitted-both q x y b = subst (λ (m : Admission). Pair' (N.whenAdmitted words setup counts observations h x (N.admitted words setup counts observations q (h .whole))) (N.whenAdmitted entries setup counts observations g y m)) (admits q) (when-admitted x y b _)
+          → Pair' (N.whenAdmitted words setup counts h x (N.admitted words setup counts (length observations) (N.allChecked setup counts observations) q (h .whole))) (N.whenAdmitted entries setup counts g y (N.admitted entries setup counts (length observations) (N.allChecked setup counts observations) q (g .whole)))
+      admitted-both q x y b = subst (λ (m : Admission). Pair' (N.whenAdmitted words setup counts h x (N.admitted words setup counts (length observations) (N.allChecked setup counts observations) q (h .whole))) (N.whenAdmitted entries setup counts g y m)) (admits q) (when-admitted x y b _)
 
-      objective-both : (q : Parameters) → Pair' (N.enterObjective words setup counts observations q h) (N.enterObjective entries setup counts observations q g)
+      objective-both : (q : Parameters) → Pair' (N.enterObjective words setup counts (length observations) (N.allChecked setup counts observations) q h) (N.enterObjective entries setup counts (length observations) (N.allChecked setup counts observations) q g)
       unfolding N.enterObjective N.isStanding N.begun
       objective-both q =
           pick-both (setup .k) counts (p .awaits) (unaltered 19 _)
           (pick-both (setup .k) counts _ (admitted-both q _ _ (both-on (record { is = alike q _ tally c l work warm results st; own = own }))) (unaltered 19 _))
 
-      at-wanted : (x : Pair → Moved (Held words) Step) (y : Pair → Moved (Held entries) Step) (v : Wanted) → ((eta : Pair) → v ≡ Wants.Point eta → Pair' (x eta) (y eta)) → Pair' (N.atWanted words setup counts observations h x v) (N.atWanted entries setup counts observations g y v)
+      at-wanted : (x : Pair → Moved (Held words) Step) (y : Pair → Moved (Held entries) Step) (v : Wanted) → ((eta : Pair) → v ≡ Wants.Point eta → Pair' (x eta) (y eta)) → Pair' (N.atWanted words setup counts (length observations) (N.allChecked setup counts observations) h x v) (N.atWanted entries setup counts (length observations) (N.allChecked setup counts observations) g y v)
       unfolding N.atWanted
       at-wanted x y (Wants.Point eta) f = admitted-both parameters (x eta) (y eta) (f eta refl)
       at-wanted x y Wants.Mode f = unaltered 19 _
       at-wanted x y (Wants.Refused n) f = unaltered 19 _
 
       when-awaited : (x : Pair → Moved (Held words) Step) (y : Pair → Moved (Held entries) Step) → (p .awaits ≡ true → (eta : Pair) → B.wantedBy fit p ≡ Wants.Point eta → Pair' (x eta) (y eta))
-          → Pair' (N.whenAwaited words setup counts observations h x) (N.whenAwaited entries setup counts observations g y)
+          → Pair' (N.whenAwaited words setup counts (length observations) (N.allChecked setup counts observations) h x) (N.whenAwaited entries setup counts (length observations) (N.allChecked setup counts observations) g y)
       unfolding N.whenAwaited N.isStanding
       when-awaited x y f =
           pick-when (setup .k) counts (p .awaits) (λ t. pick-both (setup .k) counts _ (at-wanted x y (B.wantedBy fit p) (f t)) (unaltered 19 _)) (unaltered 19 _)
@@ -321,7 +320,7 @@ module _ (setup : Setup) (counts : List ℕ) (observations : List Observation) (
         low = let b = kept-few (setup .k) (room .some) (room .most) (s .count) c (s .trust) in let f = waits .fewer in omega (arith, b, f, s .limit, limit)
 
         long : length (ended' .work) ≡ length work
-        long = work-length (N.trialOf words setup counts observations fit p) said (setup .width) (setup .effects) (setup .«output_budget») (take rows (drop (p .first) observations)) work
+        long = work-length (N.trialOf words setup counts fit p) said (setup .width) (setup .effects) (setup .«output_budget») (take rows (drop (p .first) observations)) work
 
         abbrev tallyOf : ℕ → Tally
         tallyOf n = record { calls = tally .calls; «cached_rows» = record { 0 = n } }
@@ -343,7 +342,7 @@ module _ (setup : Setup) (counts : List ℕ) (observations : List Observation) (
               own = k .0 .1;
             }
 
-        received : (sums : Sums) → Pair' (N.replied words setup counts observations fit eta h (ended' .work) (E.Running sums)) (N.replied entries setup counts observations fit eta g (ended' .work) (E.Running sums))
+        received : (sums : Sums) → Pair' (N.replied words setup counts fit eta h (ended' .work) (E.Running sums)) (N.replied entries setup counts fit eta g (ended' .work) (E.Running sums))
         unfolding N.replied receive takes
         received sums =
             let q = B.advanceBy fit p eta sums .progress in
@@ -351,7 +350,7 @@ module _ (setup : Setup) (counts : List ℕ) (observations : List Observation) (
             both-on (subst (λ (k : ℕ). Link (held words parameters (wholeOf words q (tallyOf (words .rows (dW k sums))) (dW k sums) x warm results)) (held entries parameters (wholeOf entries q (tallyOf (entries .rows (dE k sums))) (dE k sums) x warm results)))
             (sym (fit-k setup parameters)) (kept-link sums q x warm results))
 
-        by-end : (x : Evaluation) → Pair' (N.replied words setup counts observations fit eta h (ended' .work) x) (N.replied entries setup counts observations fit eta g (ended' .work) x)
+        by-end : (x : Evaluation) → Pair' (N.replied words setup counts fit eta h (ended' .work) x) (N.replied entries setup counts fit eta g (ended' .work) x)
         by-end (E.Running sums) = received sums
         by-end (E.Refused n) = unfold N.replied in over n _
         by-end (E.RefusedAt n i) = unfold N.replied in over n _
@@ -372,10 +371,10 @@ module _ (setup : Setup) (counts : List ℕ) (observations : List Observation) (
     linked : Link (r .state) (q .state)
     stands : Standing' (r .state)
 
-  turn-of : (h : Held words) (g : Held entries) → Standing' h → Link h g → Pair' (N.turnHeld words setup counts observations h) (N.turnHeld entries setup counts observations g)
+  turn-of : (h : Held words) (g : Held entries) → Standing' h → Link h g → Pair' (N.turnHeld words setup counts h) (N.turnHeld entries setup counts g)
   turn-of h g s i = by-alike h g (i .is) (i .own) s
     where
-      by-alike : (h : Held words) (g : Held entries) → Alike (setup .k) h g → Every (OwnRows (setup .k) counts) (g .whole .kept) → Standing' h → Pair' (N.turnHeld words setup counts observations h) (N.turnHeld entries setup counts observations g)
+      by-alike : (h : Held words) (g : Held entries) → Alike (setup .k) h g → Every (OwnRows (setup .k) counts) (g .whole .kept) → Standing' h → Pair' (N.turnHeld words setup counts h) (N.turnHeld entries setup counts g)
       by-alike h g (alike parameters p tally c l work warm results st) own s = turn-both parameters p tally c l work warm results st own s
 
   enter-of : (x : Call) (h : Held words) (g : Held entries) → Standing' h → Link h g → Pair' (N.enter words setup counts observations x h) (N.enter entries setup counts observations x g)
@@ -390,17 +389,17 @@ module _ (setup : Setup) (counts : List ℕ) (observations : List Observation) (
   onward-both f f' (both-on {h} {g} i) s k = k h g s i
   onward-both f f' (both-halt i) s k = record { answer = refl; linked = i; stands = s }
 
-  loop-both : (n : ℕ) (h : Held words) (g : Held entries) → Standing' h → Link h g → BothRan (loop (N.turnHeld words setup counts observations) spent n h) (loop (N.turnHeld entries setup counts observations) spent n g)
+  loop-both : (n : ℕ) (h : Held words) (g : Held entries) → Standing' h → Link h g → BothRan (loop (N.turnHeld words setup counts) spent n h) (loop (N.turnHeld entries setup counts) spent n g)
   unfolding loop
   loop-both zero h g s i = record { answer = refl; linked = i; stands = s }
   loop-both (suc n) h g s i = onward-both _ _ (turn-of h g s i) (after-turn h (turns words setup counts observations I Q U bound (a .most) h s)) (loop-both n)
 
   call-both : (x : Call) (h : Held words) (g : Held entries) → Standing' h → Link h g → BothRan (call (session words setup counts observations) x h) (call (session entries setup counts observations) x g)
   unfolding call
-  call-both x h g s i = onward-both _ _ (enter-of x h g s i) (after-entry x h s (enters words setup counts observations I Q U bound (omega (arith, limit)) (a .some) rows-are x h s)) (loop-both (N.fuel words setup counts observations))
+  call-both x h g s i = onward-both _ _ (enter-of x h g s i) (after-entry x h s (enters words setup counts observations I Q U bound (omega (arith, limit)) (a .some) rows-are x h s)) (loop-both (N.fuel))
 
   -- the host sets the warm starts
-  set-both : (warm : List ℕ) (h : Held words) (g : Held entries) → Link h g → Link (N.setWarm words setup counts observations warm h) (N.setWarm entries setup counts observations warm g)
+  set-both : (warm : List ℕ) (h : Held words) (g : Held entries) → Link h g → Link (N.setWarm words setup counts warm h) (N.setWarm entries setup counts warm g)
   set-both warm h g i = by-alike h g (i .is) (i .own)
     where
       pick-link : (b : Bool) {x y : Held words} {x' y' : Held entries} → Link x x' → Link y y' → Link (pick b x y) (pick b x' y')
@@ -410,7 +409,7 @@ module _ (setup : Setup) (counts : List ℕ) (observations : List Observation) (
           by-cases true = unfold pick in p
           by-cases false = unfold pick in q
 
-      by-alike : (h : Held words) (g : Held entries) → Alike (setup .k) h g → Every (OwnRows (setup .k) counts) (g .whole .kept) → Link (N.setWarm words setup counts observations warm h) (N.setWarm entries setup counts observations warm g)
+      by-alike : (h : Held words) (g : Held entries) → Alike (setup .k) h g → Every (OwnRows (setup .k) counts) (g .whole .kept) → Link (N.setWarm words setup counts warm h) (N.setWarm entries setup counts warm g)
       by-alike h g (alike parameters p tally c l work old results st) own = unfold N.setWarm in
           pick-link _ (record { is = alike parameters p tally c l work warm results st; own = own }) (record { is = alike parameters p tally c l work old results st; own = own })
 
@@ -423,7 +422,7 @@ module _ (setup : Setup) (counts : List ℕ) (observations : List Observation) (
       alike-awaits : (h : Held words) (g : Held entries) → Alike (setup .k) h g → h .whole .progress .awaits ≡ g .whole .progress .awaits
       alike-awaits h g (alike parameters p tally c l work old results st) = refl
 
-      by-awaits : (b d : Bool) → b ≡ d → Standing' (pick b h (N.setWarm words setup counts observations warm h)) × Link (pick b h (N.setWarm words setup counts observations warm h)) (pick d g (N.setWarm entries setup counts observations warm g))
+      by-awaits : (b d : Bool) → b ≡ d → Standing' (pick b h (N.setWarm words setup counts warm h)) × Link (pick b h (N.setWarm words setup counts warm h)) (pick d g (N.setWarm entries setup counts warm g))
       by-awaits true true e = unfold pick in (s, i)
       by-awaits false false e = unfold pick in (sets words setup counts observations I Q U bound limit lent results a warm h s, set-both warm h g i)
       by-awaits true false e = absurd (subst T e tt)
@@ -437,7 +436,7 @@ module _ (setup : Setup) (counts : List ℕ) (observations : List Observation) (
   run-both results (does x ∷ ds) h g s i = let b = call-both x h g s i in run-both results ds _ _ (b .stands) (b .linked)
   run-both results (warms warm ∷ ds) h g s i = let b = sets-both results warm h g s i in run-both results ds _ _ (b .0) (b .1)
 
-  opened-link : (results : List ℕ) → Link (N.opened words setup counts observations lent results) (N.opened entries setup counts observations lent results)
+  opened-link : (results : List ℕ) → Link (N.opened words setup counts lent results) (N.opened entries setup counts lent results)
   opened-link results = record {
     is = alike _ _ _ _ [] _ _ results (refinement .cleared (zeros (lent .cache)) (setup .k) room (subst (λ (m : ℕ). 24 * setup .k ≤ m) (sym (zeros-length (lent .cache))) (a .cache-lent)) (λ j h. zeros-are (setup .k) (room .some) (room .most) (lent .cache) j));
     own = no-entry;
@@ -450,7 +449,7 @@ module _ (setup : Setup) (counts : List ℕ) (observations : List Observation) (
 
 pub over-the-list : OverTheList
 over-the-list setup counts observations effects bound limit lent results e deeds =
-    let a = accepts setup counts lent (checkObservations (setup .width) counts observations (N.firstCheck words setup counts observations)) e in
+    let a = accepts setup counts lent (N.allChecked setup counts observations) e in
     let room : Room (setup .k) = record { some = some-room setup (a .shape-in); most = shape-low {b = false} setup (sym (a .shape-in)) refl } in
     ⊎-elim (λ (one : setup .effects ≡ 1). holds-over setup counts observations inner1 (subst (Suits inner1) (sym one) suits1) bound limit lent a room results deeds)
     (λ (two : setup .effects ≡ 2). holds-over setup counts observations inner2 (subst (Suits inner2) (sym two) suits2) bound limit lent a room results deeds)

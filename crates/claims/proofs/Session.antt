@@ -8,7 +8,6 @@ use lib.Dec.{T, eqb}
 use lib.ListN.{length}
 use Rattle.float64.specs.Pick.{both, cases}
 use Rattle.likelihood.specs.declared.population_focei.Observation.{Observation}
-use Rattle.evaluation.specs.Observations.{checkObservations}
 use Rattle.admission.specs.Admission.{isNoOmega, isNoShape, withParameters}
 use Rattle.admission.specs.declared.Setup.{Setup}
 use Rattle.admission.specs.declared.Lent.{Lent}
@@ -34,7 +33,7 @@ use Rattle.claims.proofs.Stores.{Trusted, words-trusted}
 use Rattle.claims.proofs.Turns.{turns}
 
 -- the setup's own parameters are its own
-same-setup : (S : Store) (setup : Setup) (counts : List ℕ) (observations : List Observation) → withParameters setup (N.noParameters S setup counts observations) ≡ setup
+same-setup : (S : Store) (setup : Setup) (counts : List ℕ) (observations : List Observation) → withParameters setup (N.noParameters S setup counts) ≡ setup
 unfolding withParameters
 same-setup S setup counts observations = cases (λ (x : _). record {
   effects = setup .effects;
@@ -63,7 +62,7 @@ module _ (S : Store) (setup : Setup) (counts : List ℕ) (observations : List Ob
   rows-are i l = let e = a .each i l in (e .0, let f = e .1 in omega (arith, f, a .small))
 
   -- the host sets the warm starts
-  pub sets : (warm : List ℕ) (h : Held S) → Stands h → Stands (setWarm S setup counts observations warm h)
+  pub sets : (warm : List ℕ) (h : Held S) → Stands h → Stands (setWarm S setup counts warm h)
   unfolding setWarm
   sets warm h s = both Stands _ (record {
     subject = s .subject;
@@ -79,11 +78,11 @@ module _ (S : Store) (setup : Setup) (counts : List ℕ) (observations : List Ob
     waiting = λ t. let v = s .waiting t in record { eta = v .eta; wants = v .wants; passed = v .passed; missing = v .missing; fewer = v .fewer };
   }) s
 
-  sets-awaits : (warm : List ℕ) (h : Held S) → setWarm S setup counts observations warm h .whole .progress .awaits ≡ h .whole .progress .awaits
+  sets-awaits : (warm : List ℕ) (h : Held S) → setWarm S setup counts warm h .whole .progress .awaits ≡ h .whole .progress .awaits
   unfolding setWarm
   sets-awaits warm h = both (λ (x : Held S). x .whole .progress .awaits ≡ h .whole .progress .awaits) _ refl refl
 
-  sets-tally : (warm : List ℕ) (h : Held S) → setWarm S setup counts observations warm h .whole .tally .calls .0 ≡ h .whole .tally .calls .0
+  sets-tally : (warm : List ℕ) (h : Held S) → setWarm S setup counts warm h .whole .tally .calls .0 ≡ h .whole .tally .calls .0
   unfolding setWarm
   sets-tally warm h = both (λ (x : Held S). x .whole .tally .calls .0 ≡ h .whole .tally .calls .0) _ refl refl
 
@@ -98,7 +97,7 @@ module _ (S : Store) (setup : Setup) (counts : List ℕ) (observations : List Ob
     writes-tally = sets-tally;
   }
 
-  pub opens-standing : Stands (opened S setup counts observations lent results)
+  pub opens-standing : Stands (opened S setup counts lent results)
   unfolding B.beginSubject
   opens-standing =
       let e = sym (same-setup S setup counts observations) in
@@ -116,9 +115,9 @@ module _ (S : Store) (setup : Setup) (counts : List ℕ) (observations : List Ob
         waiting = λ t. absurd (subst T (sym t) tt);
       }
 
-  holds : (acts : List (Act M)) → Demand3 (I .rules) (I .claims) M (view S setup counts observations I) (opened S setup counts observations lent results) acts
+  holds : (acts : List (Act M)) → Demand3 (I .rules) (I .claims) M (view S setup counts observations I) (opened S setup counts lent results) acts
   unfolding B.beginSubject
-  holds acts = demand3 (I .rules) (I .claims) (Q .proved) M (view S setup counts observations I) Stands lawful (opened S setup counts observations lent results) opens-standing refl refl acts
+  holds acts = demand3 (I .rules) (I .claims) (Q .proved) M (view S setup counts observations I) Stands lawful (opened S setup counts lent results) opens-standing refl refl acts
 
 -- K is from 1 to 100,000
 pub some-room : (setup : Setup) → isNoShape setup ≡ false → 1 ≤ setup .k
@@ -137,7 +136,7 @@ some-room setup e =
 
 for-words : (setup : Setup) (counts : List ℕ) (observations : List Observation) (I : Inner) → Suits I (setup .effects) → Holds3 words setup counts observations I
 for-words setup counts observations I Q bound limit lent results e acts =
-    let a = accepts setup counts lent (checkObservations (setup .width) counts observations (N.firstCheck words setup counts observations)) e in
+    let a = accepts setup counts lent (N.allChecked setup counts observations) e in
     holds words setup counts observations I Q (words-trusted (setup .k) (some-room setup (a .shape-in)) (shape-low {b = false} setup (sym (a .shape-in)) refl)) bound limit lent results a acts
 
 pub every-session : EverySession

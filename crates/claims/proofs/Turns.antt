@@ -116,7 +116,7 @@ module _ (S : Store) (setup : Setup) (counts : List ℕ) (observations : List Ob
 
     -- what a turn makes of the end of a request
     abbrev closeTurn : Ended → Moved (Held S) Step
-    closeTurn e = heldBy S setup counts observations (h .parameters) (moved S (w .tally) (w .kept) (pick (isOver (e .turned)) (zeros (length (e .work))) (e .work)) (e .warm) (e .results) (e .turned))
+    closeTurn e = heldBy S setup counts (h .parameters) (moved S (w .tally) (w .kept) (pick (isOver (e .turned)) (zeros (length (e .work))) (e .work)) (e .warm) (e .results) (e .turned))
 
     goes-on : (q : Progress) (work warm results : List ℕ) → closeTurn (ended (On q) work warm results) ≡ on (held S (h .parameters) (wholeOf S q (w .tally) (w .kept) work warm results))
     unfolding heldBy moved isOver pick
@@ -320,6 +320,6 @@ module _ (S : Store) (setup : Setup) (counts : List ℕ) (observations : List Ob
     by-wanted Wants.Mode e = at-mode e
     by-wanted (Wants.Refused n) e = at-refusal n e
 
-    pub turns : Goes h (turnHeld S setup counts observations h)
+    pub turns : Goes h (turnHeld S setup counts h)
     unfolding turnHeld turn turned served
     turns = by-wanted (B.wantedBy fit p) refl

@@ -19,7 +19,7 @@ module _ (S : Store) (setup : Setup) (counts : List ℕ) (observations : List Ob
   abbrev pub Holds3 : Inner → Type 0
   Holds3 I = T (fits binary64 (setup .«eta_bound»)) → setup .«max_evaluations» < 4294967296 → (lent : Lent) (results : List ℕ) → opens S setup counts observations lent ≡ Accepted
       → (acts : List (Act (session S setup counts observations)))
-      → Demand3 (I .rules) (I .claims) (session S setup counts observations) (view S setup counts observations I) (opened S setup counts observations lent results) acts
+      → Demand3 (I .rules) (I .claims) (session S setup counts observations) (view S setup counts observations I) (opened S setup counts lent results) acts
 
 -- with one effect, and with two, for the kept evaluations in lent words
 abbrev pub EverySession : Type 0

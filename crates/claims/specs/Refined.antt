@@ -41,11 +41,11 @@ pub data Alike (k : ℕ) : Held words → Held entries → Type 0 where
 
 -- after any list of deeds the two are alike, and one call more has the same answer
 pub record SameAnswers (setup : Setup) (counts : List ℕ) (observations : List Observation) (lent : Lent) (results : List ℕ) (deeds : List Deed) : Type 0 where
-  pub stays : Alike (setup .k) (run (session words setup counts observations) (opened words setup counts observations lent results) (actsOf words setup counts observations deeds))
-      (run (session entries setup counts observations) (opened entries setup counts observations lent results) (actsOf entries setup counts observations deeds))
+  pub stays : Alike (setup .k) (run (session words setup counts observations) (opened words setup counts lent results) (actsOf words setup counts observations deeds))
+      (run (session entries setup counts observations) (opened entries setup counts lent results) (actsOf entries setup counts observations deeds))
   pub answers : (c : Call)
-      → call (session words setup counts observations) c (run (session words setup counts observations) (opened words setup counts observations lent results) (actsOf words setup counts observations deeds)) .answer
-      ≡ call (session entries setup counts observations) c (run (session entries setup counts observations) (opened entries setup counts observations lent results) (actsOf entries setup counts observations deeds)) .answer
+      → call (session words setup counts observations) c (run (session words setup counts observations) (opened words setup counts lent results) (actsOf words setup counts observations deeds)) .answer
+      ≡ call (session entries setup counts observations) c (run (session entries setup counts observations) (opened entries setup counts lent results) (actsOf entries setup counts observations deeds)) .answer
 
 abbrev pub OverTheList : Type 0
 OverTheList = (setup : Setup) (counts : List ℕ) (observations : List Observation) → (setup .effects ≡ 1) ⊎ (setup .effects ≡ 2) → T (fits binary64 (setup .«eta_bound»)) → setup .«max_evaluations» < 4294967296

@@ -77,30 +77,32 @@ isPlaced effects counts observations p =
     (pick (eqb effects 2) (searchWithin2 (p .«search_2d»)) (searchWithin (p .search))))
     false
 
--- and kept rows at most K; n observations are lent
-module _ (S : Store) (setup : Setup) (counts : List ℕ) (n : ℕ) where
-  unfoldable pub isStanding : Whole S → Bool
-  isStanding w = pick (ltb (setup .k) (w .tally .«cached_rows» .0)) false (isPlaced (setup .effects) counts n (w .progress))
+-- and kept rows at most K, with n observations lent
+unfoldable pub isStanding : Setup → List ℕ → ℕ → Tally → Progress → Bool
+isStanding setup counts n tally p = pick (ltb (setup .k) (tally .«cached_rows» .0)) false (isPlaced (setup .effects) counts n p)
 
-  abbrev pub lentOf : Whole S → Lent
-  lentOf w = record {
-    observations = n;
-    work = length (w .work);
-    cache = S .lent (w .kept) (setup .k);
-    warm = length (w .warm);
-    results = length (w .results);
-  }
+abbrev pub lentOf : (S : Store) → Setup → ℕ → Whole S → Lent
+lentOf S setup n w = record {
+  observations = n;
+  work = length (w .work);
+  cache = S .lent (w .kept) (setup .k);
+  warm = length (w .warm);
+  results = length (w .results);
+}
 
-module _ (S : Store) (setup : Setup) (counts : List ℕ) (observations : List Observation) where
-  -- ---- 1 to 5 of what is lent
+abbrev pub firstCheck : Check
+firstCheck = Sound (record { subject = 0; observation = 0 })
 
-  abbrev pub firstCheck : Check
-  firstCheck = Sound (record { subject = 0; observation = 0 })
+abbrev pub noTally : Tally
+noTally = record { calls = record { 0 = 0 }; «cached_rows» = record { 0 = 0 } }
 
-  unfoldable pub admitted : Parameters → Whole S → Admission
-  admitted parameters w =
-      checks (withParameters setup parameters) counts (lentOf S setup counts (length observations) w) (checkObservations (setup .width) counts observations firstCheck)
+-- the requests that a call may make: 4,096 subjects, each with a search of at most 6,343 points and its end
+abbrev pub fuel : ℕ
+fuel = 25985024
 
+-- ---- what an entry may do
+
+module _ (S : Store) (setup : Setup) (counts : List ℕ) where
   -- a refusal that alters nothing
   abbrev pub unaltered : ℕ → Place → Held S → Moved (Held S) Step
   unaltered number place h = halt (Refused number place) h
@@ -110,11 +112,7 @@ module _ (S : Store) (setup : Setup) (counts : List ℕ) (observations : List Ob
   whenAdmitted h go (A.Refused number) = unaltered number At.Nowhere h
   whenAdmitted h go (A.Unsound place) = unaltered 4 (At.Observation (place .subject) (place .observation)) h
 
-  -- ---- setup: where 1 to 5 pass, tally, kept, work and warm words are zeroed; n words are lent for the kept evaluations
-
-  abbrev pub noTally : Tally
-  noTally = record { calls = record { 0 = 0 }; «cached_rows» = record { 0 = 0 } }
-
+  -- setup: tally, kept, work and warm words are zeroed
   abbrev pub noParameters : Parameters
   noParameters = record { theta = record { first = word 0; second = word 0 }; omega = setup .omega00; «additive_sd» = setup .«additive_sd» }
 
@@ -123,23 +121,11 @@ module _ (S : Store) (setup : Setup) (counts : List ℕ) (observations : List Ob
       held S noParameters
       (wholeOf S (beginSubject 0 0 (record { first = word 0; second = word 0 }) (word 0) (word 0)) noTally (S .cleared (lent .cache)) (zeros (lent .work)) (zeros (lent .warm)) results)
 
-  abbrev pub opens : Lent → Admission
-  opens lent = checks setup counts lent (checkObservations (setup .width) counts observations firstCheck)
-
-  -- ---- a new objective
-
+  -- a new objective
   unfoldable pub begun : Parameters → Whole S → Held S
   begun parameters w =
       let start = beginSubject 0 0 (warmOf (w .warm) (setup .effects) 0) (word 0) (word 0) in
       held S parameters (wholeOf S start (w .tally) (w .kept) (w .work) (w .warm) (w .results))
-
-  unfoldable pub enterObjective : Parameters → Held S → Moved (Held S) Step
-  enterObjective parameters h =
-      pick (h .whole .progress .awaits) (unaltered 19 At.Nowhere h)
-      (pick (isStanding S setup counts (length observations) (h .whole)) (whenAdmitted h (on (begun parameters (h .whole))) (admitted parameters (h .whole)))
-      (unaltered 19 At.Nowhere h))
-
-  -- ---- a reply
 
   -- a refusal that ends the objective
   unfoldable pub over : ℕ → Place → Held S → Moved (Held S) Step
@@ -156,12 +142,7 @@ module _ (S : Store) (setup : Setup) (counts : List ℕ) (observations : List Ob
     block = block (rowsOf counts (p .subject)) 3;
   }
 
-  abbrev pub evaluated : Fit → List ℕ → Progress → List ℕ → Evaluating
-  evaluated fit words p work =
-      addObservations (trialOf fit p) words (take (rowsOf counts (p .subject)) (drop (p .first) observations))
-      (evaluating (begin words (setup .width) (setup .effects) (setup .«output_budget»)) work)
-
-  -- the end of the evaluation of the point eta, with the work words that it has written
+  -- a reply: the end of the evaluation of the point eta, with the work words that it has written
   unfoldable pub replied : Fit → Pair → Held S → List ℕ → Evaluation → Moved (Held S) Step
   replied fit eta h work (E.Running sums) =
       let w = h .whole in
@@ -169,38 +150,6 @@ module _ (S : Store) (setup : Setup) (counts : List ℕ) (observations : List Ob
       on (held S (h .parameters) (wholeOf S (r .progress) (r .tally) (r .kept) (r .work) (w .warm) (w .results)))
   replied fit eta h work (E.Refused number) = over number (At.Subject (h .whole .progress .subject)) h
   replied fit eta h work (E.RefusedAt number n) = over number (At.Observation (h .whole .progress .subject) n) h
-
-  unfoldable pub answered : List ℕ → Pair → Held S → Moved (Held S) Step
-  answered words eta h =
-      let fit = fitOf setup (h .parameters) in
-      let e = evaluated fit words (h .whole .progress) (h .whole .work) in
-      replied fit eta h (e .work) (finish (e .evaluation))
-
-  -- 19: a point is awaited; then 1 to 5; and then what the call does with it
-  unfoldable pub atWanted : Held S → (Pair → Moved (Held S) Step) → Wanted → Moved (Held S) Step
-  atWanted h go (Wants.Point eta) = whenAdmitted h (go eta) (admitted (h .parameters) (h .whole))
-  atWanted h go Wants.Mode = unaltered 19 At.Nowhere h
-  atWanted h go (Wants.Refused number) = unaltered 19 At.Nowhere h
-
-  unfoldable pub whenAwaited : Held S → (Pair → Moved (Held S) Step) → Moved (Held S) Step
-  whenAwaited h go =
-      pick (h .whole .progress .awaits)
-      (pick (isStanding S setup counts (length observations) (h .whole)) (atWanted h go (wantedBy (fitOf setup (h .parameters)) (h .whole .progress))) (unaltered 19 At.Nowhere h))
-      (unaltered 19 At.Nowhere h)
-
-  unfoldable pub enterReply : List ℕ → Held S → Moved (Held S) Step
-  enterReply words h = whenAwaited h (λ eta. answered words eta h)
-
-  -- the simulator failed: 8
-  unfoldable pub enterFailure : Held S → Moved (Held S) Step
-  enterFailure h = whenAwaited h (λ eta. over 8 (At.Subject (h .whole .progress .subject)) h)
-
-  -- ---- the machine
-
-  unfoldable pub enter : Call → Held S → Moved (Held S) Step
-  enter (objective parameters) h = enterObjective parameters h
-  enter (reply words) h = enterReply words h
-  enter failure h = enterFailure h
 
   unfoldable pub heldBy : Parameters → Moved (Whole S) Step → Moved (Held S) Step
   heldBy parameters (on w) = on (held S parameters w)
@@ -216,20 +165,73 @@ module _ (S : Store) (setup : Setup) (counts : List ℕ) (observations : List Ob
       let w = h .whole in
       pick (eqb (length warm) (length (w .warm))) (held S (h .parameters) (wholeOf S (w .progress) (w .tally) (w .kept) (w .work) warm (w .results))) h
 
-  -- 4,096 subjects, each with a search of at most 6,343 points and its end
-  abbrev pub fuel : ℕ
-  fuel = 25985024
+-- ---- 19, and 1 to 5 of what is lent: n observations, of which `check` was found
+
+module _ (S : Store) (setup : Setup) (counts : List ℕ) (n : ℕ) (check : Check) where
+  unfoldable pub admitted : Parameters → Whole S → Admission
+  admitted parameters w = checks (withParameters setup parameters) counts (lentOf S setup n w) check
+
+  unfoldable pub enterObjective : Parameters → Held S → Moved (Held S) Step
+  enterObjective parameters h =
+      pick (h .whole .progress .awaits) (unaltered S setup counts 19 At.Nowhere h)
+      (pick (isStanding setup counts n (h .whole .tally) (h .whole .progress)) (whenAdmitted S setup counts h (on (begun S setup counts parameters (h .whole))) (admitted parameters (h .whole)))
+      (unaltered S setup counts 19 At.Nowhere h))
+
+  -- 19: a point is awaited; then 1 to 5; and then what the call does with it
+  unfoldable pub atWanted : Held S → (Pair → Moved (Held S) Step) → Wanted → Moved (Held S) Step
+  atWanted h go (Wants.Point eta) = whenAdmitted S setup counts h (go eta) (admitted (h .parameters) (h .whole))
+  atWanted h go Wants.Mode = unaltered S setup counts 19 At.Nowhere h
+  atWanted h go (Wants.Refused number) = unaltered S setup counts 19 At.Nowhere h
+
+  unfoldable pub whenAwaited : Held S → (Pair → Moved (Held S) Step) → Moved (Held S) Step
+  whenAwaited h go =
+      pick (h .whole .progress .awaits)
+      (pick (isStanding setup counts n (h .whole .tally) (h .whole .progress)) (atWanted h go (wantedBy (fitOf setup (h .parameters)) (h .whole .progress))) (unaltered S setup counts 19 At.Nowhere h))
+      (unaltered S setup counts 19 At.Nowhere h)
+
+  -- the simulator failed: 8
+  unfoldable pub enterFailure : Held S → Moved (Held S) Step
+  enterFailure h = whenAwaited h (λ eta. over S setup counts 8 (At.Subject (h .whole .progress .subject)) h)
+
+-- ---- a session
+
+abbrev pub allChecked : Setup → List ℕ → List Observation → Check
+allChecked setup counts observations = checkObservations (setup .width) counts observations firstCheck
+
+module _ (S : Store) (setup : Setup) (counts : List ℕ) (observations : List Observation) where
+  -- where 1 to 5 pass, the session is open
+  abbrev pub opens : Lent → Admission
+  opens lent = checks setup counts lent (allChecked setup counts observations)
+
+  abbrev pub evaluated : Fit → List ℕ → Progress → List ℕ → Evaluating
+  evaluated fit words p work =
+      addObservations (trialOf S setup counts fit p) words (take (rowsOf counts (p .subject)) (drop (p .first) observations))
+      (evaluating (begin words (setup .width) (setup .effects) (setup .«output_budget»)) work)
+
+  unfoldable pub answered : List ℕ → Pair → Held S → Moved (Held S) Step
+  answered words eta h =
+      let fit = fitOf setup (h .parameters) in
+      let e = evaluated fit words (h .whole .progress) (h .whole .work) in
+      replied S setup counts fit eta h (e .work) (finish (e .evaluation))
+
+  unfoldable pub enterReply : List ℕ → Held S → Moved (Held S) Step
+  enterReply words h = whenAwaited S setup counts (length observations) (allChecked setup counts observations) h (λ eta. answered words eta h)
+
+  unfoldable pub enter : Call → Held S → Moved (Held S) Step
+  enter (objective parameters) h = enterObjective S setup counts (length observations) (allChecked setup counts observations) parameters h
+  enter (reply words) h = enterReply words h
+  enter failure h = enterFailure S setup counts (length observations) (allChecked setup counts observations) h
 
   abbrev pub session : Machine
   session = record {
     State = Held S;
     Answer = Step;
-    turn = turnHeld;
+    turn = turnHeld S setup counts;
     fuel = fuel;
     spent = spent;
     Call = Call;
     enter = enter;
     awaits = λ h. h .whole .progress .awaits;
     Host = List ℕ;
-    write = setWarm;
+    write = setWarm S setup counts;
   }
