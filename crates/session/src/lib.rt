@@ -1,14 +1,20 @@
-// A session's calls, over lent words. Here are what the calls share: check 19's positions, and the run of an
-// objective from where it stands. Each function is defined for all values and words.
+// A session's calls, over lent words. The tally goes by value here, and of the observations what was found
+// of them: how many there are, and their check. Each function is defined for all values and words.
 ghost use mathlib.Core.Path.{_≡_};
-ghost use Rattle.session.specs.Calls.{called, heldOf, run};
-ghost use Rattle.session.specs.Session.{countWithin, searchWithin, searchWithin2, isPlaced, isStanding};
+ghost use lib.ListN.{length};
+ghost use Rattle.population.specs.Kept.{words};
+ghost use Rattle.session.specs.Calls.{called, heldOf, run, entered, lentBy, refusedAs, startOf};
+ghost use Rattle.session.specs.Session.{countWithin, searchWithin, searchWithin2, isPlaced, isStanding, enterObjective};
+use admission::Admission;
+use admission::Lent;
 use admission::Parameters;
 use admission::Setup;
 use cache::CacheOrder;
+use evaluation::Check;
 use mode::population_focei::Search;
 use mode::population_focei::Stage;
 use mode_2d::population_focei_2d::Search2;
+use subjects::Place;
 use subjects::Progress;
 use subjects::Step;
 use subjects::Tally;
@@ -144,4 +150,80 @@ pub fn run(
         tally: counted,
         step,
     }
+}
+
+// ---- a new objective
+
+fn lent_by(observations: usize, cache: &[u64], work: &[u64], warm: &[u64], results: &[u64]) -> Lent
+    ensures { λ r. ⌜ r ≡ lentBy observations (length (now (cache .entry))) (length (now (work .entry))) (length (now (warm .entry))) (length (now (results .entry))) ⌝ }
+{
+    Lent {
+        observations,
+        work: work.len(),
+        cache: cache.len(),
+        warm: warm.len(),
+        results: results.len(),
+    }
+}
+
+// A refusal that alters nothing.
+fn refused_as(state: State, tally: Tally, number: u32, place: Place) -> Called
+    ensures { λ r. ⌜ r ≡ refusedAs state tally number place ⌝ }
+{
+    Called {
+        state,
+        tally,
+        step: Step::Refused(number, place),
+    }
+}
+
+fn start_of(parameters: Parameters, warm: &[u64], effects: u32, order: CacheOrder) -> State
+    ensures { λ r. ⌜ r ≡ startOf parameters (now (warm .entry)) effects order ⌝ }
+{
+    let first = population::warm_of(warm, effects, 0);
+    State {
+        parameters,
+        progress: subjects::begin_subject(0, 0, first, 0.0, 0.0),
+        order,
+    }
+}
+
+// 19, then 1 to 5, then the searches of all the subjects.
+pub fn begin_objective(
+    setup: Setup,
+    parameters: Parameters,
+    state: State,
+    tally: Tally,
+    check: Check,
+    observations: usize,
+    counts: &[u64],
+    cache: &[u64],
+    work: &mut [u64],
+    warm: &mut [u64],
+    results: &mut [u64],
+) -> Called
+    ensures { λ r. ⌜ called r (now (cache .entry)) (now (work .exit)) (now (warm .exit)) (now (results .exit)) ≡ entered setup (now (counts .entry)) (enterObjective words setup (now (counts .entry)) observations check parameters (heldOf state tally (now (cache .entry)) (now (work .entry)) (now (warm .entry)) (now (results .entry)))) ⌝ }
+{
+    let progress = state.progress;
+    if progress.awaits {
+        return refused_as(state, tally, 19, Place::Nowhere);
+    }
+    if is_standing(setup, counts, observations, tally, progress) {
+        let own = admission::with_parameters(setup, parameters);
+        let lent = lent_by(observations, cache, work, warm, results);
+        match admission::checks(own, counts, lent, check) {
+            Admission::Accepted => {
+                let start = start_of(parameters, warm, setup.effects, state.order);
+                return run(setup, start, tally, counts, cache, work, warm, results);
+            }
+            Admission::Refused(number) => {
+                return refused_as(state, tally, number, Place::Nowhere);
+            }
+            Admission::Unsound(at) => {
+                let place = Place::Observation(at.subject, at.observation);
+                return refused_as(state, tally, 4, place);
+            }
+        }
+    }
+    refused_as(state, tally, 19, Place::Nowhere)
 }
