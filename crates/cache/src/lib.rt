@@ -76,7 +76,7 @@ fn word(number: usize) -> u64
 }
 
 // Word i, or 0 beyond the end.
-fn read(words: &[u64], i: usize) -> u64
+pub fn read(words: &[u64], i: usize) -> u64
     ensures { λ r. ⌜ r ≡ getD (now (words .entry)) i 0 ⌝ }
 {
     if i < words.len() {
@@ -86,7 +86,7 @@ fn read(words: &[u64], i: usize) -> u64
 }
 
 // Writes word i, and nothing beyond the end.
-fn put(words: &mut [u64], i: usize, value: u64)
+pub fn put(words: &mut [u64], i: usize, value: u64)
     ensures { λ _. ⌜ now (words .exit) ≡ set (now (words .entry)) i value ⌝ }
 {
     if i < words.len() {

@@ -125,25 +125,6 @@ pub fn individual_values(theta: Pair, eta: Pair, effects: u32) -> IndividualValu
 
 // ---- a reply's rows
 
-// Word i, or 0 beyond the end.
-fn read(words: &[u64], i: usize) -> u64
-    ensures { λ r. ⌜ r ≡ getD (now (words .entry)) i 0 ⌝ }
-{
-    if i < words.len() {
-        return words[i];
-    }
-    0
-}
-
-// Writes word i, and nothing beyond the end.
-fn put(words: &mut [u64], i: usize, value: u64)
-    ensures { λ _. ⌜ now (words .exit) ≡ set (now (words .entry)) i value ⌝ }
-{
-    if i < words.len() {
-        words[i] = value;
-    }
-}
-
 // The number of a row's values and derivatives, and of all its words.
 fn output_values(width: u32, effects: u32) -> usize
     ensures { λ r. ⌜ r ≡ outputValues width effects ⌝ }
@@ -179,7 +160,7 @@ fn column(reply: &[u64], at: usize, width: u32, block: u32, output: usize) -> u6
     requires { ⌜ output < width ⌝ }
     ensures { λ r. ⌜ r ≡ column (now (reply .entry)) at width block output ⌝ }
 {
-    read(reply, at + 2 + width as usize * block as usize + output)
+    cache::read(reply, at + 2 + width as usize * block as usize + output)
 }
 
 // What is kept of the row at `at`. A side of any word but 0 is post.
@@ -189,9 +170,9 @@ fn prediction_row(reply: &[u64], at: usize, width: u32, output: usize) -> Predic
     ensures { λ r. ⌜ r ≡ predictionRow (now (reply .entry)) at width output ⌝ }
 {
     let prediction = column(reply, at, width, 0, output);
-    let time = read(reply, at);
+    let time = cache::read(reply, at);
     let mut side = 1;
-    if read(reply, at + 1) == 0 {
+    if cache::read(reply, at + 1) == 0 {
         side = 0;
     }
     PredictionRow {
@@ -213,9 +194,9 @@ fn write_row(work: &mut [u64], block: usize, observation: usize, row: Prediction
         return;
     }
     let at = block + ROW_WORDS * observation;
-    put(work, at, row.prediction);
-    put(work, at + 1, row.time);
-    put(work, at + 2, row.side);
+    cache::put(work, at, row.prediction);
+    cache::put(work, at + 1, row.time);
+    cache::put(work, at + 2, row.side);
 }
 
 // ---- the sums
@@ -544,7 +525,7 @@ fn check_at(place: Position, observation: Observation, width: u32, counts: &[u64
     ensures { λ r. ⌜ r ≡ checkAt width (now (counts .entry)) observation place ⌝ }
 {
     if is_sound(observation, width) {
-        let count = read(counts, place.subject);
+        let count = cache::read(counts, place.subject);
         return Check::Sound(next_place(place, count));
     }
     Check::Unsound(place)

@@ -110,25 +110,16 @@ fn beginning(question: Question, reply: &[u64]) -> Begun
     }
 }
 
-// Writes word i, and nothing beyond the end.
-fn put(words: &mut [u64], i: usize, value: u64)
-    ensures { λ _. ⌜ now (words .exit) ≡ set (now (words .entry)) i value ⌝ }
-{
-    if i < words.len() {
-        words[i] = value;
-    }
-}
-
 fn write_sums(sums: Sums, out: &mut [u64])
     ensures { λ _. ⌜ now (out .exit) ≡ sumsWritten sums (now (out .entry)) ⌝ }
 {
-    put(out, 0, float64::to_word(sums.nll));
-    put(out, 1, float64::to_word(sums.score.first));
-    put(out, 2, float64::to_word(sums.score.second));
-    put(out, 3, float64::to_word(sums.i00));
-    put(out, 4, float64::to_word(sums.i01));
-    put(out, 5, float64::to_word(sums.i10));
-    put(out, 6, float64::to_word(sums.i11));
+    cache::put(out, 0, float64::to_word(sums.nll));
+    cache::put(out, 1, float64::to_word(sums.score.first));
+    cache::put(out, 2, float64::to_word(sums.score.second));
+    cache::put(out, 3, float64::to_word(sums.i00));
+    cache::put(out, 4, float64::to_word(sums.i01));
+    cache::put(out, 5, float64::to_word(sums.i10));
+    cache::put(out, 6, float64::to_word(sums.i11));
 }
 
 // The end of an evaluation as a number and words: 0 and the sums' seven words, or document 01's number,
@@ -142,11 +133,11 @@ fn told(evaluation: Evaluation, out: &mut [u64]) -> u32
             0
         }
         Evaluation::Refused(number) => {
-            put(out, 7, 0);
+            cache::put(out, 7, 0);
             number
         }
         Evaluation::RefusedAt(number, observation) => {
-            put(out, 7, std::num::wrapping_add_u64(observation as u64, 1));
+            cache::put(out, 7, std::num::wrapping_add_u64(observation as u64, 1));
             number
         }
     }
@@ -192,8 +183,8 @@ fn told_check(check: Check, place: &mut [u64]) -> u32
     match check {
         Check::Sound(_) => 0,
         Check::Unsound(at) => {
-            put(place, 0, at.subject as u64);
-            put(place, 1, at.observation as u64);
+            cache::put(place, 0, at.subject as u64);
+            cache::put(place, 1, at.observation as u64);
             4
         }
     }

@@ -37,28 +37,11 @@ pub struct Received {
 
 // ---- lent words
 
-fn read(words: &[u64], i: usize) -> u64
-    ensures { λ r. ⌜ r ≡ getD (now (words .entry)) i 0 ⌝ }
-{
-    if i < words.len() {
-        return words[i];
-    }
-    0
-}
-
-fn put(words: &mut [u64], i: usize, value: u64)
-    ensures { λ _. ⌜ now (words .exit) ≡ set (now (words .entry)) i value ⌝ }
-{
-    if i < words.len() {
-        words[i] = value;
-    }
-}
-
 // A subject's number of observations, at most the domain's largest.
 pub fn rows_of(counts: &[u64], subject: usize) -> usize
     ensures { λ r. ⌜ r ≡ rowsOf (now (counts .entry)) subject ⌝ }
 {
-    let count = read(counts, subject) as usize;
+    let count = cache::read(counts, subject) as usize;
     if count < work::MOST_ROWS {
         return count;
     }
@@ -77,12 +60,12 @@ pub fn warm_of(warm: &[u64], effects: u32, subject: usize) -> Pair
             };
         }
         return Pair {
-            first: float64::from_word(read(warm, 2 * subject)),
-            second: float64::from_word(read(warm, 2 * subject + 1)),
+            first: float64::from_word(cache::read(warm, 2 * subject)),
+            second: float64::from_word(cache::read(warm, 2 * subject + 1)),
         };
     }
     Pair {
-        first: float64::from_word(read(warm, subject)),
+        first: float64::from_word(cache::read(warm, subject)),
         second: 0.0,
     }
 }
@@ -94,11 +77,11 @@ fn store_warm(warm: &mut [u64], effects: u32, subject: usize, eta: Pair)
         if warm.len() <= subject {
             return;
         }
-        put(warm, 2 * subject, float64::to_word(eta.first));
-        put(warm, 2 * subject + 1, float64::to_word(eta.second));
+        cache::put(warm, 2 * subject, float64::to_word(eta.first));
+        cache::put(warm, 2 * subject + 1, float64::to_word(eta.second));
         return;
     }
-    put(warm, subject, float64::to_word(eta.first));
+    cache::put(warm, subject, float64::to_word(eta.first));
 }
 
 // ---- a point

@@ -32,23 +32,6 @@ pub struct Sources {
     pub latest: usize,
 }
 
-fn read(words: &[u64], i: usize) -> u64
-    ensures { λ r. ⌜ r ≡ getD (now (words .entry)) i 0 ⌝ }
-{
-    if i < words.len() {
-        return words[i];
-    }
-    0
-}
-
-fn put(words: &mut [u64], i: usize, value: u64)
-    ensures { λ _. ⌜ now (words .exit) ≡ set (now (words .entry)) i value ⌝ }
-{
-    if i < words.len() {
-        words[i] = value;
-    }
-}
-
 fn smaller(a: usize, b: usize) -> usize
     ensures { λ r. ⌜ r ≡ smaller a b ⌝ }
 {
@@ -93,8 +76,8 @@ fn copy_words(work: &mut [u64], n: usize, from: usize, to: usize)
 {
     let mut i = 0;
     while i < n {
-        let word = read(work, from + i);
-        put(work, to + i, word);
+        let word = cache::read(work, from + i);
+        cache::put(work, to + i, word);
         i += 1;
     }
 }
@@ -128,10 +111,10 @@ fn is_same_row(work: &[u64], a: usize, b: usize) -> bool
     requires { ⌜ (a ≤ 900000) × (b ≤ 900000) ⌝ }
     ensures { λ r. ⌜ r ≡ isSameRow (now (work .entry)) a b ⌝ }
 {
-    let time = float64::from_word(read(work, a + 1));
-    let other = float64::from_word(read(work, b + 1));
+    let time = float64::from_word(cache::read(work, a + 1));
+    let other = float64::from_word(cache::read(work, b + 1));
     if time == other {
-        return read(work, a + 2) == read(work, b + 2);
+        return cache::read(work, a + 2) == cache::read(work, b + 2);
     }
     false
 }
@@ -164,9 +147,9 @@ pub fn write_result(results: &mut [u64], subject: usize, eta: Pair, nll: f64)
         return;
     }
     let at = 3 * subject;
-    put(results, at, float64::to_word(eta.first));
-    put(results, at + 1, float64::to_word(eta.second));
-    put(results, at + 2, float64::to_word(nll));
+    cache::put(results, at, float64::to_word(eta.first));
+    cache::put(results, at + 1, float64::to_word(eta.second));
+    cache::put(results, at + 2, float64::to_word(nll));
 }
 
 // Where the fitted rows begin, of the subject whose first observation has this number among all.
@@ -186,8 +169,16 @@ pub fn write_fitted(results: &mut [u64], subjects: usize, first: usize, work: &[
     let best = block(rows, BEST);
     let mut i = 0;
     while i < n {
-        put(results, at + 2 * i, read(work, population + ROW_WORDS * i));
-        put(results, at + 2 * i + 1, read(work, best + ROW_WORDS * i));
+        cache::put(
+            results,
+            at + 2 * i,
+            cache::read(work, population + ROW_WORDS * i),
+        );
+        cache::put(
+            results,
+            at + 2 * i + 1,
+            cache::read(work, best + ROW_WORDS * i),
+        );
         i += 1;
     }
 }
