@@ -1,12 +1,12 @@
 -- What holds of a setup, its counts and what is lent, where checks 1 to 5 have passed. Assumes nothing.
-use mathlib.Core.Path.{_≡_, refl, sym, subst}
+use mathlib.Core.Path.{_≡_, refl, sym}
 use mathlib.Core.Bool.{true, false}
 use mathlib.Core.List.{List, [], _∷_}
 use Prim.Native.Nat.{ℕ, zero, suc, _+_, _-_, _*_, _≤_, _<_}
 use native.Mathlib.Nat.{not-suc-le-zero, le-of-suc-le-suc}
 use native.Mathlib.Omega.{arith}
 use borrow.Author.Tests.{ltb-true, ltb-false}
-use lib.Dec.{T, ltb, eqb}
+use lib.Dec.{ltb, eqb}
 use lib.ListN.{getD, length}
 use Rattle.float64.specs.Pick.{cases}
 use Rattle.matrix.specs.Matrix.{some}
@@ -22,16 +22,7 @@ use Rattle.admission.specs.declared.Admission.{Admission}
 use Rattle.admission.specs.declared.Admission.the-variants as A
 use Rattle.admission.proofs.Bounds.{not-first, counts-low, cohort-low}
 use Rattle.population.specs.Population.{rowsOf}
-
-true-not-false : true ≡ false → ⊥
-true-not-false e = subst T e tt
-
-false-not-true : false ≡ true → ⊥
-false-not-true e = subst T (sym e) tt
-
-positive : (n : ℕ) → eqb n 0 ≡ false → 1 ≤ n
-positive zero q = absurd (true-not-false q)
-positive (suc n) q = omega arith
+use Rattle.claims.proofs.Plain.{true-not-false, false-not-true, positive}
 
 some-subject : (effects subjects total observations : ℕ) → isCohort effects subjects total observations ≡ true → 1 ≤ subjects
 unfolding isCohort

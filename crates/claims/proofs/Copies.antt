@@ -1,12 +1,9 @@
 -- The rows of a kept evaluation come to the work words alike, from its slot in the cache's words or from its entry in the list. Assumes nothing.
 use mathlib.Core.Path.{_≡_, refl, sym, ap, subst, _∙_}
-use mathlib.Core.Bool.{Bool, true, false}
 use mathlib.Core.List.{List, [], _∷_}
 use mathlib.Core.Logic.{_⊎_, inl, inr, ⊎-elim}
 use Prim.Native.Nat.{ℕ, zero, suc, _+_, _-_, _*_, _≤_, _<_}
 use native.Mathlib.Omega.{arith}
-use borrow.Author.Tests.{ltb-true, ltb-false}
-use lib.Dec.{ltb}
 use lib.ListN.{getD, set, length, length-set}
 use lib.Seq.{getD-set-same, getD-set-other}
 use Rattle.cache.specs.Cache.{rowWords, copied}
@@ -14,6 +11,7 @@ use Rattle.cache.specs.Claim.{Room}
 use Rattle.cache.specs.Kept.{entryOf}
 use Rattle.cache.proofs.Run.{refinement}
 use Rattle.population.specs.Kept.{copyTo}
+use Rattle.claims.proofs.Plain.{split}
 use Rattle.claims.proofs.Lengths.{AsLong, copied-length}
 
 -- lists of the same words are the same
@@ -22,13 +20,6 @@ same-list [] [] l f = refl
 same-list [] (y ∷ b) l f = absurd (omega (arith, l))
 same-list (x ∷ a) [] l f = absurd (omega (arith, l))
 same-list (x ∷ a) (y ∷ b) l f = let h : x ≡ y = f 0 in let t = same-list a b (let m : suc (length a) ≡ suc (length b) = l in omega (arith, m)) (λ j. f (suc j)) in cc
-
-by : (b : Bool) (a c : ℕ) → ltb a c ≡ b → (a < c) ⊎ (c ≤ a)
-by true a c e = inl (ltb-true _ _ e)
-by false a c e = inr (ltb-false _ _ e)
-
-pub split : (a c : ℕ) → (a < c) ⊎ (c ≤ a)
-split a c = by (ltb a c) a c refl
 
 -- ---- the copy of an entry's words
 copy-length : (n : ℕ) (v : List ℕ) (i : ℕ) (out : List ℕ) (to : ℕ) → AsLong out (copyTo n v i out to)

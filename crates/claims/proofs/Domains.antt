@@ -1,6 +1,6 @@
 -- An objective whose parameters passed the checks gives its searches settings of document 01's domain. Assumes nothing.
 use mathlib.Core.Path.{_≡_, refl, sym, ap, subst, _∙_}
-use mathlib.Core.Bool.{Bool, true, false, not}
+use mathlib.Core.Bool.{Bool, true, false}
 use mathlib.Core.List.{List}
 use Prim.Native.Nat.{ℕ}
 use native.Mathlib.Omega.{arith}
@@ -23,9 +23,7 @@ use Rattle.admission.proofs.Bounds.{not-first}
 use Rattle.subjects.specs.Subjects as B
 use Rattle.subjects.specs.declared.Fit.{Fit}
 use Rattle.subjects.specs.declared.Progress.{Progress}
-
-true-not-false : true ≡ false → ⊥
-true-not-false e = subst T e tt
+use Rattle.claims.proofs.Plain.{true-not-false, not-not}
 
 -- ---- ranges
 within : (x low high : Float) → isBeyond x low high ≡ false → T (le low x) × T (le x high)
@@ -45,11 +43,7 @@ unfolding isNoShape isNoTolerance
 shape setup e =
     let b = not-first _ _ true-not-false e in
     let t = not-first (isNoTolerance (setup .«gradient_tolerance»)) _ true-not-false (b .1) in
-    (within _ _ _ (b .0), finite-of (finite (setup .«gradient_tolerance»)) (not-first (nonfinite (setup .«gradient_tolerance»)) _ true-not-false (t .0) .0))
-  where
-    finite-of : (b : Bool) → not b ≡ false → T b
-    finite-of true q = tt
-    finite-of false q = subst T q tt
+    (within _ _ _ (b .0), not-not (finite (setup .«gradient_tolerance»)) (not-first (nonfinite (setup .«gradient_tolerance»)) _ true-not-false (t .0) .0))
 
 first-omega : (setup : Setup) → isNoOmega setup ≡ false → isNoVariance (setup .omega00) ≡ false
 unfolding isNoOmega
@@ -104,11 +98,7 @@ two-omega setup e o =
 
 eq-of : (x y : Float) → ne x y ≡ false → T (eq x y)
 unfolding ne
-eq-of x y e = by (eq x y) e
-  where
-    by : (b : Bool) → not b ≡ false → T b
-    by true q = tt
-    by false q = subst T q tt
+eq-of x y e = not-not (eq x y) e
 
 pub domain2 : (setup : Setup) (parameters : Parameters) (p : Progress) → setup .effects ≡ 2 → isNoOmega (withParameters setup parameters) ≡ false
     → (omega : List (List Float)) × H2.Accepted omega (B.settings2 (B.fitOf setup parameters) p)

@@ -53,7 +53,8 @@ use Rattle.population.specs.declared.Turned.the-variants.{On, Halt}
 use Rattle.session.specs.Session as N
 use Rattle.session.specs.Session.{Held, held, Call, objective, reply, failure, session}
 use Rattle.claims.specs.Refined.{Deed, does, warms, actsOf, Alike, alike, SameAnswers, OverTheList}
-use Rattle.claims.proofs.Copies.{same-copy, split}
+use Rattle.claims.proofs.Copies.{same-copy}
+use Rattle.claims.proofs.Plain.{split}
 use Rattle.claims.specs.Inner.{Inner, inner1, inner2, view}
 use Rattle.claims.proofs.Accepted.{Accepts, accepts}
 use Rattle.claims.proofs.Entries.{block-end, enters}

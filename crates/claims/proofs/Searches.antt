@@ -1,6 +1,6 @@
 -- A subject's search within an objective is a search of the rules, with one effect and with two: what `Suits` asks of an `Inner`. Assumes nothing.
 use mathlib.Core.Path.{_≡_, refl, sym, ap, subst, _∙_}
-use mathlib.Core.Bool.{Bool, true, false, not}
+use mathlib.Core.Bool.{Bool, true, false}
 use Prim.Native.Nat.{ℕ, suc, _+_, _*_, _≤_, _<_}
 use native.Mathlib.Omega.{arith}
 use lib.Dec.{T, eqb}
@@ -31,6 +31,7 @@ use Rattle.subjects.specs.declared.Wanted.{Wanted}
 use Rattle.subjects.specs.declared.Wanted.the-variants as Wants
 use Rattle.sessions.specs.Rules.{Rules, Proved, point, mode, refusal, wanted, after}
 use Rattle.sessions.specs.Rules as Rules
+use Rattle.claims.proofs.Plain.{not-not}
 use Rattle.claims.specs.Inner.{Inner, inner1, inner2, rules1, claims1, rules2, claims2, wants1, wants2}
 use Rattle.admission.specs.Admission.{isNoOmega, isNoShape, withParameters}
 use Rattle.admission.specs.declared.Parameters.{Parameters}
@@ -81,12 +82,8 @@ unfolding hasNonfiniteSum
 all-finite sums h =
     cases (λ (b : Bool). b ≡ false → T (finite (sums .nll)) × T (finite (sums .score .first))) (nonfinite (sums .nll)) (λ t e. absurd (subst T e tt))
     (λ t. cases (λ (b : Bool). b ≡ false → T (finite (sums .nll)) × T (finite (sums .score .first))) (nonfinite (sums .score .first)) (λ u e. absurd (subst T e tt))
-    (λ u e. (is-finite (finite (sums .nll)) t, is-finite (finite (sums .score .first)) u)))
+    (λ u e. (not-not (finite (sums .nll)) t, not-not (finite (sums .score .first)) u)))
     h
-  where
-    is-finite : (b : Bool) → not b ≡ false → T b
-    is-finite true e = tt
-    is-finite false e = subst T e tt
 
 -- ---- one effect
 module _ (fit : Fit) (e : fit .effects ≡ 1) where

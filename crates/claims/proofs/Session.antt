@@ -2,7 +2,7 @@
 use mathlib.Core.Path.{_≡_, refl, sym, subst}
 use mathlib.Core.Bool.{true, false}
 use mathlib.Core.List.{List}
-use Prim.Native.Nat.{ℕ, suc, _*_, _≤_, _<_}
+use Prim.Native.Nat.{ℕ, _*_, _≤_, _<_}
 use native.Mathlib.Omega.{arith}
 use lib.Dec.{T, eqb}
 use lib.ListN.{length}
@@ -21,6 +21,7 @@ use Rattle.population.specs.Kept.{Store, words}
 use Rattle.population.specs.Population.{rowsOf}
 use Rattle.session.specs.Session as N
 use Rattle.session.specs.Session.{Held, session, setWarm, opened, opens}
+use Rattle.claims.proofs.Plain.{positive}
 use Rattle.claims.specs.Claim.{Holds3, EverySession}
 use Rattle.claims.specs.Inner.{Inner, inner1, inner2, view}
 use Rattle.claims.proofs.Accepted.{Accepts, accepts}
@@ -129,10 +130,6 @@ some-room setup e =
     let v = not-first _ _ no (t .1) in
     let n = not-first _ _ no (v .1) in
     positive (setup .k) (not-first _ _ no (n .1) .0)
-  where
-    positive : (n : ℕ) → eqb n 0 ≡ false → 1 ≤ n
-    positive Prim.Native.Nat.zero q = absurd (subst T q tt)
-    positive (suc n) q = omega arith
 
 for-words : (setup : Setup) (counts : List ℕ) (observations : List Observation) (I : Inner) → Suits I (setup .effects) → Holds3 words setup counts observations I
 for-words setup counts observations I Q bound limit lent results e acts =

@@ -1,14 +1,13 @@
 -- What an objective needs of its kept evaluations, and that those in lent words have it: each was made at a point that passed 7, and its sums are finite. Assumes nothing.
 use mathlib.Core.Path.{_≡_, refl, sym, ap, subst, _∙_}
-use mathlib.Core.Bool.{Bool, true, false}
+use mathlib.Core.Bool.{false}
 use mathlib.Core.List.{List, [], _∷_, _++_}
-use mathlib.Core.Logic.{_⊎_, inl, inr, ⊎-elim}
+use mathlib.Core.Logic.{_⊎_, ⊎-elim}
 use mathlib.Core.Option.{Option, none, some}
 use Prim.Native.Nat.{ℕ, zero, suc, _+_, _-_, _*_, _≤_, _<_}
 use native.Mathlib.Omega.{arith}
 use lib.Dec.{ltb}
 use lib.ListN.{getD, length}
-use borrow.Author.Tests.{ltb-true, ltb-false}
 use Rattle.float64.specs.Arithmetic.{word}
 use Rattle.float64.specs.Pick.{cases}
 use Rattle.evaluation.specs.Subject.{hasNonfiniteSum}
@@ -25,6 +24,7 @@ use Rattle.subjects.specs.Subjects.{sumsOf}
 use Rattle.sessions.specs.Log.{Every, none as no-entry, more}
 use Rattle.work.specs.Work.{zeros}
 use Rattle.population.specs.Kept.{Recalled, Store, recallAt, words}
+use Rattle.claims.proofs.Plain.{split}
 use Rattle.claims.proofs.Lengths.{AsLong, zeros-length, copied-length}
 use Rattle.claims.proofs.Points.{In16}
 
@@ -116,13 +116,6 @@ module _ (k : ℕ) (some-room : 1 ≤ k) (most : k ≤ 100000) where
         fine = every-append FineEntry (dropTo (k - rows) (s .list)) (entryFor x) (every-drop FineEntry (k - rows) (s .list) (s .fine)) fine;
       })
       (split k rows)
-    where
-      by : (b : Bool) (a c : ℕ) → ltb a c ≡ b → (a < c) ⊎ (c ≤ a)
-      by true a c e = inl (ltb-true _ _ e)
-      by false a c e = inr (ltb-false _ _ e)
-
-      split : (a c : ℕ) → (a < c) ⊎ (c ≤ a)
-      split a c = by (ltb a c) a c refl
 
   pub words-trusted : Trusted words k
   words-trusted = record {

@@ -1,0 +1,29 @@
+-- Small facts that the other files share: of tests, and of numbers. Assumes nothing.
+use mathlib.Core.Path.{_≡_, refl, sym, subst}
+use mathlib.Core.Bool.{Bool, true, false, not}
+use mathlib.Core.Logic.{_⊎_, inl, inr}
+use Prim.Native.Nat.{ℕ, zero, suc, _≤_, _<_}
+use native.Mathlib.Omega.{arith}
+use borrow.Author.Tests.{ltb-true, ltb-false}
+use lib.Dec.{T, ltb, eqb}
+
+pub true-not-false : true ≡ false → ⊥
+true-not-false e = subst T e tt
+
+pub false-not-true : false ≡ true → ⊥
+false-not-true e = subst T (sym e) tt
+
+pub not-not : (b : Bool) → not b ≡ false → T b
+not-not true e = tt
+not-not false e = subst T e tt
+
+pub positive : (n : ℕ) → eqb n 0 ≡ false → 1 ≤ n
+positive zero e = absurd (true-not-false e)
+positive (suc n) e = omega arith
+
+by : (b : Bool) (a c : ℕ) → ltb a c ≡ b → (a < c) ⊎ (c ≤ a)
+by true a c e = inl (ltb-true _ _ e)
+by false a c e = inr (ltb-false _ _ e)
+
+pub split : (a c : ℕ) → (a < c) ⊎ (c ≤ a)
+split a c = by (ltb a c) a c refl
