@@ -107,6 +107,9 @@ module _ (w : List ℕ) (width : ℕ) (counts : List ℕ) where
   abbrev pub checkedFrom : ℕ → ℕ → Check → Check
   checkedFrom n i check = checkObservations width counts (observationsFrom n i w) check
 
+  pub check-first : (n : ℕ) → checkedFrom (n - 0) 0 firstCheck ≡ checkedFrom n 0 firstCheck
+  check-first n = ap (λ (m : ℕ). checkedFrom m 0 firstCheck) (all n)
+
   pub check-next : {o : Observation} {check' : Check} (n i : ℕ) (check : Check) → i < n → o ≡ observationIn w i → check' ≡ checkObservation width counts o check → checkedFrom (n - (i + 1)) (i + 1) check' ≡ checkedFrom (n - i) i check
   check-next n i check h eo e =
       ap (checkedFrom (n - (i + 1)) (i + 1)) (e ∙ ap (λ (o : Observation). checkObservation width counts o check) eo)
@@ -115,9 +118,9 @@ module _ (w : List ℕ) (width : ℕ) (counts : List ℕ) where
   pub check-end : (n i : ℕ) (check : Check) → n ≤ i → check ≡ checkedFrom (n - i) i check
   check-end n i check h = ap (λ (l : List Observation). checkObservations width counts l check) (none-of w n i h)
 
-  pub check-all : {r : Check} → r ≡ checkedFrom (length w / 5) 0 firstCheck → r ≡ checkObservations width counts (observationsOf w) firstCheck
+  pub check-all : {r : Check} {n : ℕ} → n ≡ length (observationsOf w) → r ≡ checkedFrom n 0 firstCheck → r ≡ checkObservations width counts (observationsOf w) firstCheck
   unfolding observationsOf
-  check-all q = q
+  check-all en q = q ∙ ap (λ (m : ℕ). checkedFrom m 0 firstCheck) (en ∙ sym (counted w))
 
 -- ---- the sums over a part
 
@@ -133,6 +136,6 @@ module _ (w : List ℕ) (trial : Trial) (reply : List ℕ) where
   pub add-end : (n i : ℕ) (x : Evaluating) → n ≤ i → x ≡ addedFrom (n - i) i x
   add-end n i x h = ap (λ (l : List Observation). addObservations trial reply l x) (none-of w n i h)
 
-  pub add-part : {r : Evaluating} {e : ℕ} (f t : ℕ) (x : Evaluating) → e ≡ smaller t (length w / 5) → r ≡ addedFrom (e - f) f x → r ≡ addObservations trial reply (take (t - f) (drop f (observationsOf w))) x
-  add-part f t x ee q =
-      q ∙ ap (λ (m : ℕ). addedFrom (m - f) f x) ee ∙ ap (λ (l : List Observation). addObservations trial reply l x) (sym (part-of w f t))
+  pub add-part : {r : Evaluating} {e n : ℕ} (f t : ℕ) (x : Evaluating) → n ≡ length (observationsOf w) → e ≡ smaller t n → r ≡ addedFrom (e - f) f x → r ≡ addObservations trial reply (take (t - f) (drop f (observationsOf w))) x
+  add-part f t x en ee q =
+      q ∙ ap (λ (m : ℕ). addedFrom (m - f) f x) (ee ∙ ap (smaller t) (en ∙ sym (counted w))) ∙ ap (λ (l : List Observation). addObservations trial reply l x) (sym (part-of w f t))

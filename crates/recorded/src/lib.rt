@@ -63,7 +63,7 @@ pub fn observation_at(words: &[u64], i: usize) -> Observation
 pub fn check_words(words: &[u64], width: u32, counts: &[u64]) -> Check
     ensures { λ r. ⌜ r ≡ checkObservations width (now (counts .entry)) (observationsOf (now (words .entry))) firstCheck ⌝ }
 {
-    let n = words.len() / OBSERVATION_WORDS;
+    let n = count_of(words);
     let mut check = Check::Sound(Position {
         subject: 0,
         observation: 0,
@@ -99,7 +99,7 @@ pub fn add_words(
 ) -> Evaluation
     ensures { λ r. ⌜ evaluating r (now (work .exit)) ≡ addObservations trial (now (reply .entry)) (take (to - from) (drop from (observationsOf (now (words .entry))))) (evaluating evaluation (now (work .entry))) ⌝ }
 {
-    let end = smaller(to, words.len() / OBSERVATION_WORDS);
+    let end = smaller(to, count_of(words));
     let mut sums = evaluation;
     let mut i = from;
     while i < end {

@@ -40,8 +40,8 @@ same-length c = c .before .loop .inv .1
 returns : tie.Need-returns Inv-loop μ-loop
 returns c =
     let so-far = c .before .loop .inv in
-    add-part _ _ _ _ _ _ (c .before .before .smaller .ensures) (add-end _ _ _ _ _ _ (c .loop-test .left) ∙ so-far .0)
+    add-part _ _ _ _ _ _ (c .before .before .before .count-of .ensures) (c .before .before .smaller .ensures) (add-end _ _ _ _ _ _ (c .loop-test .left) ∙ so-far .0)
 
 pub add-words-spec : {M : Type 1} → statement M
 add-words-spec =
-    tie.close (tie.spec Inv-loop μ-loop free loop-holds free free add-i loop-less loop-again same-length returns)
+    tie.close (tie.spec Inv-loop μ-loop free free loop-holds free free add-i loop-less loop-again same-length returns)
