@@ -1,2 +1,3 @@
--- Paths: the ways through the code, for its proofs.
+-- Paths: the ways through the code, for its proofs. Back: what was saved is there.
 pub mod Paths
+pub mod Back
