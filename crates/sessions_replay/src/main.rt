@@ -19,8 +19,10 @@ mod digests;
 mod reading;
 
 ghost use Prim.Native.Nat.{_≤_};
+use admission::Parameters;
 use admission::Setup;
 use answers::Answer;
+use session::Begun;
 use session::Called;
 use session::Opening;
 use session::State;
@@ -53,7 +55,9 @@ struct Lengths {
     results: usize,
 }
 
-// What a session's host has besides its words.
+// What a session's host has besides its words: the session's own, how many words are lent, how many
+// subjects and observations there are, and the operands of the call that is made, the parameters of an
+// objective or the number of words of a reply.
 struct Host {
     setup: Setup,
     state: State,
@@ -61,6 +65,8 @@ struct Host {
     lengths: Lengths,
     subjects: usize,
     observations: usize,
+    parameters: Parameters,
+    replied: usize,
 }
 
 // What a call gave back.
@@ -128,6 +134,23 @@ fn told(setup: Setup, called: Called, counts: &[u64]) -> Given {
     }
 }
 
+fn began(begun: Begun, state: State) -> Given {
+    let opening = begun.opening;
+    let tally = begun.tally;
+    match opening {
+        Opening::Opened(first) => Given {
+            answer: answers::opened(),
+            state: first,
+            tally,
+        },
+        Opening::Refused(number, place) => Given {
+            answer: answers::refused(number, place),
+            state,
+            tally,
+        },
+    }
+}
+
 fn open(
     host: Host,
     observations: &[u64],
@@ -138,6 +161,7 @@ fn open(
     results: &[u64],
 ) -> Given {
     let setup = host.setup;
+    let state = host.state;
     let tally = host.tally;
     let begun = recorded::open(
         setup,
@@ -149,28 +173,11 @@ fn open(
         warm,
         results,
     );
-    let opening = begun.opening;
-    let tally = begun.tally;
-    match opening {
-        Opening::Opened(state) => Given {
-            answer: answers::opened(),
-            state,
-            tally,
-        },
-        Opening::Refused(number, place) => {
-            let state = host.state;
-            Given {
-                answer: answers::refused(number, place),
-                state,
-                tally,
-            }
-        }
-    }
+    began(begun, state)
 }
 
 fn objective(
     host: Host,
-    left: &mut u64,
     observations: &[u64],
     counts: &[u64],
     cache: &[u64],
@@ -181,7 +188,7 @@ fn objective(
     let setup = host.setup;
     let state = host.state;
     let tally = host.tally;
-    let parameters = reading::parameters(left);
+    let parameters = host.parameters;
     let called = recorded::objective(
         setup,
         parameters,
@@ -197,13 +204,11 @@ fn objective(
     told(setup, called, counts)
 }
 
-// A reply of the first n of these words.
 fn reply(
     host: Host,
-    n: usize,
     observations: &[u64],
     counts: &[u64],
-    words: &[u64],
+    reply: &[u64],
     cache: &mut [u64],
     work: &mut [u64],
     warm: &mut [u64],
@@ -212,14 +217,13 @@ fn reply(
     let setup = host.setup;
     let state = host.state;
     let tally = host.tally;
-    let end = reading::at_most(n, words.len());
     let called = recorded::reply(
         setup,
         state,
         tally,
         observations,
         counts,
-        &words[0..end],
+        reply,
         cache,
         work,
         warm,
@@ -257,10 +261,9 @@ fn failure(
 fn dispatched(
     kind: u64,
     host: Host,
-    left: &mut u64,
     observations: &[u64],
     counts: &[u64],
-    words: &mut [u64],
+    words: &[u64],
     cache: &mut [u64],
     work: &mut [u64],
     warm: &mut [u64],
@@ -270,13 +273,11 @@ fn dispatched(
         return open(host, observations, counts, cache, work, warm, results);
     }
     if kind == 1 {
-        return objective(host, left, observations, counts, cache, work, warm, results);
+        return objective(host, observations, counts, cache, work, warm, results);
     }
     if kind == 2 {
-        let n = read_words(words, left);
         return reply(
             host,
-            n,
             observations,
             counts,
             words,
@@ -309,10 +310,9 @@ fn seen(cache: &[u64], work: &[u64], is_changed: bool) -> u64 {
 fn call(
     kind: u64,
     host: Host,
-    left: &mut u64,
     observations: &[u64],
     counts: &[u64],
-    words: &mut [u64],
+    words: &[u64],
     cache: &mut [u64],
     work: &mut [u64],
     warm: &mut [u64],
@@ -322,7 +322,6 @@ fn call(
     let given = dispatched(
         kind,
         host,
-        left,
         observations,
         counts,
         words,
@@ -344,76 +343,28 @@ fn call(
     given
 }
 
-// ---- the host's own acts
-
-// What is no word of the program's own. Any other number changes nothing.
-fn change_values(kind: u64, host: Host, left: &mut u64) -> Host {
-    let mut next = host;
-    if kind == 5 {
-        next.lengths = read_lengths(left);
-    }
-    if kind == 6 {
-        next.setup = reading::setup(left);
-    }
-    if kind == 9 {
-        next.tally = read_tally(left);
-    }
-    next
-}
-
-fn change(
+// A call over as many of the program's own words as are lent.
+fn lend(
     kind: u64,
     host: Host,
-    left: &mut u64,
-    observations: &mut [u64],
-    counts: &mut [u64],
-    warm: &mut [u64],
-) -> Host {
-    let mut next = host;
-    if kind == 4 {
-        read_words(warm, left);
-        return next;
-    }
-    if kind == 7 {
-        next.subjects = read_words(counts, left);
-        return next;
-    }
-    if kind == 8 {
-        next.observations = read_observations(observations, left);
-        return next;
-    }
-    change_values(kind, next, left)
-}
-
-// The next act, over the program's own words.
-fn act_on(
-    host: Host,
-    left: &mut u64,
-    observations: &mut [u64],
-    counts: &mut [u64],
-    words: &mut [u64],
+    observations: &[u64],
+    counts: &[u64],
+    words: &[u64],
     cache: &mut [u64],
     work: &mut [u64],
     warm: &mut [u64],
     results: &mut [u64],
 ) -> Host {
-    let kind = reading::next(left);
-    if 3 < kind {
-        return change(kind, host, left, observations, counts, warm);
-    }
     let lengths = host.lengths;
     let cache_end = reading::at_most(lengths.cache, cache.len());
     let work_end = reading::at_most(lengths.work, work.len());
     let warm_end = reading::at_most(lengths.warm, warm.len());
     let results_end = reading::at_most(lengths.results, results.len());
-    let subjects = reading::at_most(host.subjects, counts.len());
-    let end = 5 * reading::at_most(host.observations, observations.len() / 5);
     let given = call(
         kind,
         host,
-        left,
-        &observations[0..end],
-        &counts[0..subjects],
+        observations,
+        counts,
         words,
         &mut cache[0..cache_end],
         &mut work[0..work_end],
@@ -426,6 +377,86 @@ fn act_on(
     next.state = state;
     next.tally = tally;
     next
+}
+
+// ---- an act's own words
+
+// What is read and is no word of the program's own. An act of any other number has none.
+fn read_values(kind: u64, host: Host, left: &mut u64) -> Host {
+    let mut next = host;
+    if kind == 1 {
+        next.parameters = reading::parameters(left);
+    }
+    if kind == 5 {
+        next.lengths = read_lengths(left);
+    }
+    if kind == 6 {
+        next.setup = reading::setup(left);
+    }
+    if kind == 9 {
+        next.tally = read_tally(left);
+    }
+    next
+}
+
+fn read_act(
+    kind: u64,
+    host: Host,
+    left: &mut u64,
+    observations: &mut [u64],
+    counts: &mut [u64],
+    words: &mut [u64],
+    warm: &mut [u64],
+) -> Host {
+    let mut next = host;
+    if kind == 2 {
+        next.replied = read_words(words, left);
+        return next;
+    }
+    if kind == 4 {
+        read_words(warm, left);
+        return next;
+    }
+    if kind == 7 {
+        next.subjects = read_words(counts, left);
+        return next;
+    }
+    if kind == 8 {
+        next.observations = read_observations(observations, left);
+        return next;
+    }
+    read_values(kind, next, left)
+}
+
+// The next act, over the program's own words.
+fn act_on(
+    kind: u64,
+    host: Host,
+    observations: &[u64],
+    counts: &[u64],
+    words: &[u64],
+    cache: &mut [u64],
+    work: &mut [u64],
+    warm: &mut [u64],
+    results: &mut [u64],
+) -> Host {
+    if 3 < kind {
+        return host;
+    }
+    let end = 5 * reading::at_most(host.observations, observations.len() / 5);
+    let subjects = reading::at_most(host.subjects, counts.len());
+    let replied = reading::at_most(host.replied, words.len());
+    lend(
+        kind,
+        host,
+        &observations[0..end],
+        &counts[0..subjects],
+        &words[0..replied],
+        cache,
+        work,
+        warm,
+        results,
+    )
 }
 
 // ---- a session
@@ -441,9 +472,11 @@ fn act(
     warm: &mut [u64; WARM],
     results: &mut [u64; RESULTS],
 ) -> Host {
+    let kind = reading::next(left);
+    let read = read_act(kind, host, left, observations, counts, words, warm);
     act_on(
-        host,
-        left,
+        kind,
+        read,
         observations,
         counts,
         words,
@@ -459,9 +492,11 @@ fn begin(left: &mut u64, observations: &mut [u64], counts: &mut [u64]) -> Host {
     let lengths = read_lengths(left);
     let subjects = read_words(counts, left);
     let number = read_observations(observations, left);
+    let state = session::first_state(setup);
+    let parameters = state.parameters;
     Host {
         setup,
-        state: session::first_state(setup),
+        state,
         tally: Tally {
             calls: Calls(77),
             cached_rows: CachedRows(7),
@@ -469,6 +504,8 @@ fn begin(left: &mut u64, observations: &mut [u64], counts: &mut [u64]) -> Host {
         lengths,
         subjects,
         observations: number,
+        parameters,
+        replied: 0,
     }
 }
 
