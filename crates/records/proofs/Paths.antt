@@ -12,7 +12,7 @@ use lib.ListN.{length}
 use Rattle.float64.specs.Arithmetic.{_+ᶠ_, _*ᶠ_, word}
 use Rattle.float64.specs.Pick.{pick, yes, no}
 use Rattle.writing.specs.Writing.{Written, written, write}
-use Rattle.writing.specs.Claim.{write-append}
+use Rattle.writing.proofs.Front.{write-append}
 use Rattle.records.specs.declared.Cohort.{Cohort}
 use Rattle.records.specs.declared.Cohort.the-variants.{Subjects, Refused}
 use Rattle.records.specs.Records.{records, subjectAt, reservedAt, floatAt, cohortFrom, cohort, countFrom, countsFrom, counts, observationAt, observationsFrom, observations, rowAt, repliedFrom, reply}

@@ -10,7 +10,7 @@ use lib.Ieee.{Float, binary64, toBits}
 use lib.ListN.{getD, length}
 use Rattle.float64.specs.Pick.{pick, yes, no, cases}
 use Rattle.writing.specs.Writing.{Written, written, write, decimal, hexadecimal}
-use Rattle.writing.specs.Claim.{write-append}
+use Rattle.writing.proofs.Front.{write-append}
 use Rattle.work.specs.Work.{mostRows, mostSubjects}
 use Rattle.population.specs.Population.{rowsOf}
 use Rattle.subjects.specs.declared.Place.{Place}

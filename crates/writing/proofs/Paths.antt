@@ -7,7 +7,7 @@ use borrow.Author.Tests.{lt-ltb, le-ltb}
 use lib.ListN.{set, length}
 use Rattle.float64.specs.Pick.{yes, no}
 use Rattle.writing.specs.Writing.{Written, written, put, write, glyph, hexFrom, hexadecimal, digits, decimal}
-use Rattle.writing.specs.Claim.{write-append}
+use Rattle.writing.proofs.Front.{write-append}
 
 -- ---- one byte or word
 module _ (x at : ℕ) (lent : List ℕ) where
