@@ -1,0 +1,15 @@
+use borrow.Author.Needs.{needs}
+use Rattle.fitting.specs.Output.{firstParameters}
+use mathlib.Core.Path.{refl}
+use Rattle.fitting.proofs.first_parameters.Statement.{statement}
+use Rattle.fitting.proofs.first_parameters.Tie as tie
+use Rattle.fitting.proofs.first_parameters.Reads as reads
+use Rattle.fitting.proofs.first_parameters.Lts as lts
+
+-- src/lib.rt:46:1
+returns : tie.Need-returns
+unfolding firstParameters
+returns c = refl
+
+pub first-parameters-spec : {M : Type 1} → statement M
+first-parameters-spec = tie.close (tie.spec returns)
