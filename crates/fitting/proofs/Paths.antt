@@ -128,6 +128,9 @@ module _ (input counts observations cache work warm results : List ℕ) (t : Wri
 pub whole-counts : {r : ℕ} {w' : List ℕ} (input w : List ℕ) (n : ℕ) → n ≤ 256 → length w ≡ 256 → written r w' ≡ write (countsIn input n) (written 0 w) → take r w' ≡ countsIn input n
 whole-counts input w n h j e = let as-many = counts-length input n in front (countsIn input n) w (omega arith) e
 
+pub few-counts : {l : List ℕ} (input : List ℕ) (n : ℕ) → l ≡ countsIn input n → n ≤ 256 → length l ≤ 256
+few-counts input n e h = let as-many = ap length e ∙ counts-length input n in omega arith
+
 pub whole-observations : {r : ℕ} {w' : List ℕ} (input w : List ℕ) → length input ≤ 12288 → length w ≡ 1280 → written r w' ≡ write (observationsIn input) (written 0 w) → take r w' ≡ observationsIn input
 whole-observations input w h j e = let as-many = observations-length input in front (observationsIn input) w (omega arith) e
 

@@ -150,15 +150,7 @@ fn told(at: Called, counts: &[u64], results: &[u64], out: &mut [u8]) -> usize
         Step::Asked(_, _) => report::refused(out, 0, 19, Place::Nowhere),
         Step::Finished(objective) => {
             let shrinkage = session::shrinkage(state, counts.len() as u32);
-            report::finished(
-                out,
-                0,
-                objective,
-                tally.calls.0,
-                shrinkage,
-                counts,
-                results,
-            )
+            report::finished(out, 0, objective, tally.calls.0, shrinkage, counts, results)
         }
         Step::Refused(number, place) => report::refused(out, 0, number, place),
     }
@@ -259,3 +251,39 @@ fn fit(
     }
 }
 
+// With words of its own, enough for 256 records.
+fn lend(input: &[u8], subjects: usize, out: &mut [u8]) -> usize
+    requires { ⌜ (length (now input) ≤ 12288) × (subjects ≤ 256) ⌝ }
+    ensures { λ r. ⌜ written r (now (out .exit)) ≡ write (lent (now (input .entry)) subjects) (written 0 (now (out .entry))) ⌝ }
+{
+    let mut counts = [0u64; 256];
+    let mut observations = [0u64; 1280];
+    let mut reply = [0u64; 1024];
+    let mut cache = [0u64; 1536];
+    let mut work = [0u64; 3072];
+    let mut warm = [0u64; 256];
+    let mut results = [0u64; 1280];
+    let n = records::counts(input, subjects, &mut counts);
+    let m = records::observations(input, &mut observations);
+    fit(
+        input,
+        &observations[..m],
+        &counts[..n],
+        &mut reply,
+        &mut cache,
+        &mut work,
+        &mut warm,
+        &mut results,
+        out,
+    )
+}
+
+// What the program prints of its input, and how long it is: as much of it as `out` has room for.
+pub fn focei(input: &[u8], out: &mut [u8]) -> usize
+    ensures { λ r. ⌜ written r (now (out .exit)) ≡ write (output (now (input .entry))) (written 0 (now (out .entry))) ⌝ }
+{
+    match records::cohort_of(input) {
+        Cohort::Subjects(subjects) => lend(input, subjects, out),
+        Cohort::Refused => report::refused(out, 0, 20, Place::Nowhere),
+    }
+}

@@ -1,3 +1,4 @@
+-- `answer` meets its contract. Assumes nothing.
 use Rattle.session.specs.Calls.{heldOf}
 use Rattle.fitting.proofs.Paths.{answers, whole-reply}
 use Rattle.writing.proofs.Front.{within}
@@ -6,58 +7,41 @@ use mathlib.Core.Path.{sym}
 use borrow.Author.Needs.{needs}
 use Rattle.fitting.proofs.answer.Statement.{statement}
 use Rattle.fitting.proofs.answer.Tie as tie
-use Rattle.fitting.proofs.answer.Reads as reads
-use Rattle.fitting.proofs.answer.Lts as lts
-use Rattle.fitting.proofs.settings.Reads as settings-reads
-use Rattle.population.proofs.rows_of.Reads as rows-of-reads
-use Rattle.recorded.proofs.reply.Reads as reply-reads
 use Rattle.records.proofs.reply.Reads as reply-reads′
 
--- src/lib.rt:78:9
 rows-of-requires : tie.Need-rows-of-requires
 rows-of-requires c κs = search needs
 
--- src/lib.rt:79:9
 reply-requires : tie.Need-reply-requires
 reply-requires c κs = search needs
 
--- src/lib.rt:80:9
 settings-requires : tie.Need-settings-requires
 settings-requires c κs = search needs
 
--- src/lib.rt:87:9
 slice-reshare-prefix-reply : tie.Need-slice-reshare-prefix-reply
 slice-reshare-prefix-reply c = within _ _ (c .before .before .before .reply .ensures)
 
--- src/lib.rt:87:9
 slice-aggregate-reply : tie.Need-slice-aggregate-reply
 slice-aggregate-reply c = sym (length-take-le _ _ (within _ _ (c .before .before .before .before .reply .ensures)))
 
--- src/lib.rt:81:5
 reply-requires-2 : tie.Need-reply-requires-2
 reply-requires-2 c κs = search needs
 
--- src/lib.rt:60:1
 same-length : tie.Need-same-length
 same-length c = search needs
 
--- src/lib.rt:60:1
 same-length-2 : tie.Need-same-length-2
 same-length-2 c = search needs
 
--- src/lib.rt:60:1
 same-length-3 : tie.Need-same-length-3
 same-length-3 c = search needs
 
--- src/lib.rt:60:1
 same-length-4 : tie.Need-same-length-4
 same-length-4 c = search needs
 
--- src/lib.rt:60:1
 same-length-5 : tie.Need-same-length-5
 same-length-5 c = search needs
 
--- src/lib.rt:60:1
 returns : tie.Need-returns
 returns c = let d = c .before .before .before .before .before .before .before .before .before .before .before .before .before .before .before .before .before .before .before .before .before .before .before .before .before .before .before .before .before .before .before in let a = d .args in answers (a .input .now) (a .counts .now) (a .observations .now) (heldOf (a .at .state) (a .at .tally) (a .cache .now) (a .work .now) (a .warm .now) (a .results .now)) (a .individual) (c .before .before .before .before .before .before .before .before .before .before .before .before .before .before .settings .ensures) (c .before .before .before .before .before .before .before .before .before .before .before .before .before .before .before .before .before .before .before .rows-of .ensures) (whole-reply (a .input .now) (a .reply .now) (a .at .state .progress .first) (c .before .before .before .before .before .before .before .before .before .before .before .before .before .before .before .before .before .before .before .rows-of .result) (a .individual .first) (d .pre .0) (d .pre .1) (c .before .before .before .before .before .before .before .before .before .before .before .before .before .before .before .before .before .reply .ensures)) (c .before .before .before .before .before .before .before .before .reply3 .ensures)
 

@@ -1,12 +1,10 @@
+-- `first_parameters` meets its contract. Assumes nothing.
 use borrow.Author.Needs.{needs}
 use Rattle.fitting.specs.Output.{firstParameters}
 use mathlib.Core.Path.{refl}
 use Rattle.fitting.proofs.first_parameters.Statement.{statement}
 use Rattle.fitting.proofs.first_parameters.Tie as tie
-use Rattle.fitting.proofs.first_parameters.Reads as reads
-use Rattle.fitting.proofs.first_parameters.Lts as lts
 
--- src/lib.rt:46:1
 returns : tie.Need-returns
 unfolding firstParameters
 returns c = refl
