@@ -4,14 +4,14 @@ use mathlib.Core.Bool.{Bool, true, false}
 use mathlib.Core.List.{List, [], _∷_, _++_}
 use Prim.Native.Nat.{ℕ, zero, suc, _+_, _-_, _*_, _/_, _%_, _≤_, _<_}
 use native.Mathlib.Omega.{arith}
-use borrow.Author.Tests.{ltb-true, ltb-false, eqb-true}
+use borrow.Author.Tests.{ltb-true, ltb-false, eqb-true, ne-eqb}
 use lib.Dec.{eqb, ltb}
 use lib.Ieee.{Float}
 use lib.ListN.{length, length-append}
-use Rattle.float64.specs.Pick.{pick, cases}
+use Rattle.float64.specs.Pick.{pick, cases, pick-no}
 use Rattle.records.specs.declared.Cohort.{Cohort}
 use Rattle.records.specs.declared.Cohort.the-variants.{Subjects, Refused}
-use Rattle.records.specs.Records.{records, subjectAt, reservedAt, cohortFrom, cohort, countsFrom, counts, observationAt, observationsFrom, observations, rowAt, repliedFrom, reply}
+use Rattle.records.specs.Records.{records, subjectAt, reservedAt, cohortFrom, cohort, countFrom, countsFrom, counts, observationAt, observationsFrom, observations, rowAt, repliedFrom, reply}
 
 -- ---- the counts: one for each subject
 counts-from : (left : ℕ) (input : List ℕ) (s : ℕ) → length (countsFrom left input s) ≡ left
@@ -80,3 +80,62 @@ few-records input {n} e =
   where
     refuses : Refused ≡ Subjects n → (length input ≤ 12288) × (n ≤ 256)
     refuses q = let z : _≡_ {A = ℕ} 0 1 = cc in absurd (omega arith)
+
+-- ---- the counts add up to no more than the records: each record is of one subject
+unfoldable pub sum : List ℕ → ℕ
+sum [] = 0
+sum (x ∷ l) = x + sum l
+
+-- how many of m subjects from a on are the subject x
+hits : ℕ → ℕ → ℕ → ℕ
+hits zero a x = 0
+hits (suc m) a x = pick (eqb x a) 1 0 + hits m (a + 1) x
+
+no-hits : (m a x : ℕ) → x < a → hits m a x ≡ 0
+unfolding hits
+no-hits zero a x h = refl
+no-hits (suc m) a x h =
+    let other : x ≡ a → ⊥ = λ e. omega arith in
+    let here : _≡_ {A = ℕ} (pick (eqb x a) 1 0) 0 = pick-no (eqb x a) 1 0 (ne-eqb x a other) in
+    let later = no-hits m (a + 1) x (omega arith) in
+    omega arith
+
+one-hit : (m a x : ℕ) → hits m a x ≤ 1
+unfolding hits
+one-hit zero a x = omega arith
+one-hit (suc m) a x =
+    cases (λ (k : ℕ). k + hits m (a + 1) x ≤ 1) (eqb x a)
+    (λ q. let same : x ≡ a = eqb-true _ _ q in let none = no-hits m (a + 1) x (omega arith) in omega arith)
+    (λ q. let later = one-hit m (a + 1) x in omega arith)
+
+-- the records of m subjects from a on, among so many records from i on
+ofSubjects : ℕ → ℕ → ℕ → List ℕ → ℕ → ℕ
+ofSubjects zero a left input i = 0
+ofSubjects (suc m) a left input i = countFrom left input i a + ofSubjects m (a + 1) left input i
+
+none-of : (m a : ℕ) (input : List ℕ) (i : ℕ) → ofSubjects m a 0 input i ≡ 0
+unfolding countFrom ofSubjects
+none-of zero a input i = refl
+none-of (suc m) a input i = let later = none-of m (a + 1) input i in omega arith
+
+one-more-of : (m a left : ℕ) (input : List ℕ) (i : ℕ) → ofSubjects m a (suc left) input i ≡ hits m a (subjectAt input i) + ofSubjects m a left input (i + 1)
+unfolding countFrom ofSubjects hits
+one-more-of zero a left input i = refl
+one-more-of (suc m) a left input i = let later = one-more-of m (a + 1) left input i in omega arith
+
+few-of : (m a left : ℕ) (input : List ℕ) (i : ℕ) → ofSubjects m a left input i ≤ left
+few-of m a zero input i = let none = none-of m a input i in omega arith
+few-of m a (suc left) input i =
+    let step = one-more-of m a left input i in
+    let here = one-hit m a (subjectAt input i) in
+    let later = few-of m a left input (i + 1) in
+    omega arith
+
+counts-sum : (m a : ℕ) (input : List ℕ) → sum (countsFrom m input a) ≡ ofSubjects m a (records input) input 0
+unfolding countsFrom sum ofSubjects
+counts-sum zero a input = refl
+counts-sum (suc m) a input = ap (λ (k : ℕ). countFrom (records input) input 0 a + k) (counts-sum m (a + 1) input)
+
+pub few-counted : (input : List ℕ) (n : ℕ) → sum (counts input n) ≤ records input
+unfolding counts
+few-counted input n = let same = counts-sum n 0 input in let few = few-of n 0 (records input) input 0 in omega arith
