@@ -34,15 +34,15 @@ use Rattle.writing.proofs.Front.{front, within}
 use Rattle.fitting.specs.Output.{settings, firstParameters, begun, replied, whenAsked, play, ended, endOf, whenOpened, fitted, lent, whenRecords, output}
 
 -- ---- the calls; `taken` are the words of the reply
-module _ (input counts observations : List ℕ) (h : Held words) where
-  pub begins : {setup : Setup} {p : Parameters} {r : Ran (Held words) Step} → setup ≡ settings → p ≡ firstParameters → r ≡ callOf setup counts observations (objective p) h → r ≡ begun input counts observations h
+module _ (counts observations : List ℕ) (h : Held words) where
+  pub begins : {setup : Setup} {p : Parameters} {r : Ran (Held words) Step} → setup ≡ settings → p ≡ firstParameters → r ≡ callOf setup counts observations (objective p) h → r ≡ begun counts observations h
   unfolding begun
   begins e f q = q ∙ (λ i. callOf (e i) counts observations (objective (f i)) h)
 
-  pub answers : {setup : Setup} {n : ℕ} {taken : List ℕ} {r : Ran (Held words) Step} (individual : Pair) → setup ≡ settings → n ≡ rowsOf counts (h .whole .progress .subject)
+  pub answers : {setup : Setup} {n : ℕ} {taken : List ℕ} {r : Ran (Held words) Step} (input : List ℕ) (individual : Pair) → setup ≡ settings → n ≡ rowsOf counts (h .whole .progress .subject)
       → taken ≡ reply input (h .whole .progress .first) n (individual .first) → r ≡ callOf setup counts observations (rows taken) h → r ≡ replied input counts observations h individual
   unfolding replied
-  answers individual e f g q =
+  answers input individual e f g q =
       q
       ∙ (λ i. callOf (e i) counts observations (rows (g i)) h)
       ∙ ap (λ (n : ℕ). callOf settings counts observations (rows (reply input (h .whole .progress .first) n (individual .first))) h) f
@@ -63,27 +63,27 @@ module _ (input counts observations : List ℕ) (left : ℕ) (r : Ran (Held word
   play-asked {r'} h e q =
       let more : suc (left - 1) ≡ left = omega arith in
       ap (play input counts observations (left - 1)) q
-      ∙ ap (whenAsked input counts observations (λ individual. play input counts observations (left - 1) (replied input counts observations (r .state) individual)) r) (sym e)
+      ∙ ap (whenAsked (λ individual. play input counts observations (left - 1) (replied input counts observations (r .state) individual)) r) (sym e)
       ∙ ap (λ (m : ℕ). play input counts observations m r) more
 
-  over : (go : Pair → Ran (Held words) Step) → 0 < left → ((go : Pair → Ran (Held words) Step) → r ≡ whenAsked input counts observations go r (r .answer)) → r ≡ play input counts observations left r
+  over : 0 < left → ((go : Pair → Ran (Held words) Step) → r ≡ whenAsked go r (r .answer)) → r ≡ play input counts observations left r
   unfolding play
-  over go h e =
+  over h e =
       let more : suc (left - 1) ≡ left = omega arith in
       e (λ individual. play input counts observations (left - 1) (replied input counts observations (r .state) individual)) ∙ ap (λ (m : ℕ). play input counts observations m r) more
 
   pub play-finished : {x : Float} → 0 < left → r .answer ≡ Finished x → r ≡ play input counts observations left r
   unfolding whenAsked
-  play-finished h e = over (λ _. r) h (λ go. ap (whenAsked input counts observations go r) (sym e))
+  play-finished h e = over h (λ go. ap (whenAsked go r) (sym e))
 
   pub play-refused : {number : ℕ} {place : Place} → 0 < left → r .answer ≡ Refused number place → r ≡ play input counts observations left r
   unfolding whenAsked
-  play-refused h e = over (λ _. r) h (λ go. ap (whenAsked input counts observations go r) (sym e))
+  play-refused h e = over h (λ go. ap (whenAsked go r) (sym e))
 
 -- the objective to its end, from where it begins
 pub plays : {setup : Setup} {p : Parameters} {first r : Ran (Held words) Step} (input counts observations : List ℕ) (h : Held words) → setup ≡ settings → p ≡ firstParameters → first ≡ callOf setup counts observations (objective p) h
-    → r ≡ play input counts observations 10001 first → r ≡ play input counts observations 10001 (begun input counts observations h)
-plays input counts observations h e f g q = q ∙ ap (play input counts observations 10001) (begins input counts observations h e f g)
+    → r ≡ play input counts observations 10001 first → r ≡ play input counts observations 10001 (begun counts observations h)
+plays input counts observations h e f g q = q ∙ ap (play input counts observations 10001) (begins counts observations h e f g)
 
 -- ---- what is printed of the end
 module _ (counts : List ℕ) (state : State) (tally : Tally) (results : List ℕ) (step : Step) (t : Written) where
@@ -119,7 +119,7 @@ module _ (input counts observations cache work warm results : List ℕ) (t : Wri
   not-opened f g = g ∙ ap (λ (l : List ℕ). write l t) (opened-as _ f)
 
   pub is-opened : {state : State} {last : Called} {cache₂ work₂ warm₂ results₂ : List ℕ} {t' : Written} → b .opening ≡ Opens.Opened state
-      → called last cache₂ work₂ warm₂ results₂ ≡ play input counts observations 10001 (begun input counts observations (heldOf state (b .tally) cache₁ work₁ warm₁ results))
+      → called last cache₂ work₂ warm₂ results₂ ≡ play input counts observations 10001 (begun counts observations (heldOf state (b .tally) cache₁ work₁ warm₁ results))
       → t' ≡ write (ended counts (last .state) (last .tally) results₂ (last .step)) t → t' ≡ write (fitted input counts observations cache work warm results) t
   unfolding whenOpened endOf
   is-opened f p g = g ∙ ap (λ (r : Ran (Held words) Step). write (endOf counts r) t) p ∙ ap (λ (l : List ℕ). write l t) (opened-as _ f)

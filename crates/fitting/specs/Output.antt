@@ -49,21 +49,21 @@ firstParameters = record { theta = record { first = one; second = word 0 }; omeg
 
 -- ---- a session of these records, whose counts and observations are in words
 
-module _ (input counts observations : List ℕ) where
-  -- the objective begins
-  unfoldable pub begun : Held words → Ran (Held words) Step
-  begun h = callOf settings counts observations (objective firstParameters) h
+-- the objective begins
+unfoldable pub begun : List ℕ → List ℕ → Held words → Ran (Held words) Step
+begun counts observations h = callOf settings counts observations (objective firstParameters) h
 
+unfoldable pub whenAsked : (Pair → Ran (Held words) Step) → Ran (Held words) Step → Step → Ran (Held words) Step
+whenAsked go r (Asked eta individual) = go individual
+whenAsked go r (Finished x) = r
+whenAsked go r (Refused number place) = r
+
+module _ (input counts observations : List ℕ) where
   -- a question is answered with the simulator's rows of the subject that is searched
   unfoldable pub replied : Held words → Pair → Ran (Held words) Step
   replied h individual =
       let at = h .whole .progress in
       callOf settings counts observations (rows (reply input (at .first) (rowsOf counts (at .subject)) (individual .first))) h
-
-  unfoldable pub whenAsked : (Pair → Ran (Held words) Step) → Ran (Held words) Step → Step → Ran (Held words) Step
-  whenAsked go r (Asked eta individual) = go individual
-  whenAsked go r (Finished x) = r
-  whenAsked go r (Refused number place) = r
 
   -- question and answer, at most so many times
   unfoldable pub play : ℕ → Ran (Held words) Step → Ran (Held words) Step
@@ -83,7 +83,7 @@ endOf counts r = ended counts (stateOf (r .state)) (r .state .whole .tally) (r .
 
 unfoldable pub whenOpened : List ℕ → List ℕ → List ℕ → List ℕ → Setting → Opening → List ℕ
 whenOpened input counts observations results s (Opens.Opened state) =
-    endOf counts (play input counts observations 10001 (begun input counts observations (heldOf state (s .begun .tally) (s .cache) (s .work) (s .warm) results)))
+    endOf counts (play input counts observations 10001 (begun counts observations (heldOf state (s .begun .tally) (s .cache) (s .work) (s .warm) results)))
 whenOpened input counts observations results s (Opens.Refused number place) = refusalLine number place
 
 -- with the session's words as they are lent to setup

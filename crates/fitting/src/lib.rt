@@ -1,12 +1,11 @@
 // Document 01's program, from the bytes of its records to the bytes that it prints: theta 1, omega 1,
 // eta_bound 4, tolerance 1e-4, 10,000 evaluations, K 64, output budget 10,000, width 1, one effect.
 ghost use mathlib.Core.Path.{_≡_};
-ghost use mathlib.Core.List.{List};
 ghost use Prim.Native.Nat.{_≤_};
 ghost use lib.ListN.{length};
 ghost use Rattle.session.specs.Calls.{called, heldOf};
 ghost use Rattle.writing.specs.Writing.{written, write};
-ghost use Rattle.fitting.specs.Output.{settings, firstParameters, replied, play, begun, ended, whenOpened, fitted, lent, output};
+ghost use Rattle.fitting.specs.Output.{settings, firstParameters, replied, play, begun, ended, fitted, lent, output};
 use admission::Parameters;
 use admission::Setup;
 use evaluation::AdditiveSd;
@@ -170,7 +169,7 @@ fn run(
     results: &mut [u64],
 ) -> Called
     requires { ⌜ (length (now input) ≤ 12288) × (1024 ≤ length (now reply)) ⌝ }
-    ensures { λ r. ⌜ called r (now (cache .exit)) (now (work .exit)) (now (warm .exit)) (now (results .exit)) ≡ play (now (input .entry)) (now (counts .entry)) (now (observations .entry)) 10001 (begun (now (input .entry)) (now (counts .entry)) (now (observations .entry)) (heldOf state tally (now (cache .entry)) (now (work .entry)) (now (warm .entry)) (now (results .entry)))) ⌝ }
+    ensures { λ r. ⌜ called r (now (cache .exit)) (now (work .exit)) (now (warm .exit)) (now (results .exit)) ≡ play (now (input .entry)) (now (counts .entry)) (now (observations .entry)) 10001 (begun (now (counts .entry)) (now (observations .entry)) (heldOf state tally (now (cache .entry)) (now (work .entry)) (now (warm .entry)) (now (results .entry)))) ⌝ }
 {
     let setup = settings();
     let parameters = first_parameters();

@@ -6,7 +6,7 @@ ghost use mathlib.Core.Path.{_≡_};
 ghost use Prim.Native.Nat.{_+_, _*_, _/_, _≤_, _<_};
 ghost use lib.ListN.{length};
 ghost use Rattle.writing.specs.Writing.{written, write};
-ghost use Rattle.records.specs.Records.{halfAt, wordAt, subjectAt, reservedAt, floatAt, countFrom, countsFrom, counts, observationAt, observationsFrom, observations, cohortFrom, cohort, rowAt, repliedFrom, reply};
+ghost use Rattle.records.specs.Records.{halfAt, wordAt, subjectAt, reservedAt, floatAt, countFrom, counts, observationAt, observations, cohortFrom, cohort, rowAt, reply};
 
 // The bytes of a record, and the most records that the program takes.
 pub const RECORD_BYTES: usize = 48;

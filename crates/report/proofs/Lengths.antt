@@ -165,11 +165,11 @@ finished-length x n y counts results =
     let m = subjectsOf counts in
     let o = objective-length x n in
     let s = subjects-length m 0 results in
-    let f = all-length m 0 (m + m + m) counts results in
+    let f = all-length m 0 (3 * m) counts results in
     let h = shrinkage-length y in
     let a = length-append (objectiveLine x n) (subjectLines m 0 results) in
-    let b = length-append (objectiveLine x n ++ subjectLines m 0 results) (allFitted m 0 (m + m + m) counts results) in
-    let c = length-append (objectiveLine x n ++ subjectLines m 0 results ++ allFitted m 0 (m + m + m) counts results) (shrinkageLine y) in
+    let b = length-append (objectiveLine x n ++ subjectLines m 0 results) (allFitted m 0 (3 * m) counts results) in
+    let c = length-append (objectiveLine x n ++ subjectLines m 0 results ++ allFitted m 0 (3 * m) counts results) (shrinkageLine y) in
     omega arith
 
 pub rows-at-most : (counts : List ℕ) (s : ℕ) → rowsOf counts s ≤ getD counts s 0

@@ -137,13 +137,13 @@ module _ (counts : List ℕ) where
       omega arith
 
 pub all-told : {n : ℕ} {t₁ t₂ t₃ t₄ : Written} (objective : Float) (evaluations : ℕ) (shrinkage : Float) (counts results : List ℕ) (t : Written) → n ≡ subjectsOf counts → t₁ ≡ write (objectiveLine objective evaluations) t
-    → t₂ ≡ write (subjectLines n 0 results) t₁ → t₃ ≡ write (allFitted n 0 (n + n + n) counts results) t₂ → t₄ ≡ write (shrinkageLine shrinkage) t₃ → t₄ ≡ write (finished objective evaluations shrinkage counts results) t
+    → t₂ ≡ write (subjectLines n 0 results) t₁ → t₃ ≡ write (allFitted n 0 (3 * n) counts results) t₂ → t₄ ≡ write (shrinkageLine shrinkage) t₃ → t₄ ≡ write (finished objective evaluations shrinkage counts results) t
 unfolding finished
 all-told {t₁ = t₁} {t₂ = t₂} objective evaluations shrinkage counts results t e e₁ e₂ e₃ e₄ =
     after _ _ t
     (after _ _ t
     (after _ _ t e₁ (e₂ ∙ ap (λ (m : ℕ). write (subjectLines m 0 results) t₁) e))
-    (e₃ ∙ ap (λ (m : ℕ). write (allFitted m 0 (m + m + m) counts results) t₂) e))
+    (e₃ ∙ ap (λ (m : ℕ). write (allFitted m 0 (3 * m) counts results) t₂) e))
     e₄
 
 -- ---- the fields of a place

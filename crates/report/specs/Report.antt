@@ -78,4 +78,4 @@ subjectsOf counts = pick (ltb (length counts) mostSubjects) (length counts) most
 unfoldable pub finished : Float → ℕ → Float → List ℕ → List ℕ → List ℕ
 finished objective evaluations shrinkage counts results =
     let n = subjectsOf counts in
-    objectiveLine objective evaluations ++ subjectLines n 0 results ++ allFitted n 0 (n + n + n) counts results ++ shrinkageLine shrinkage
+    objectiveLine objective evaluations ++ subjectLines n 0 results ++ allFitted n 0 (3 * n) counts results ++ shrinkageLine shrinkage

@@ -3,8 +3,7 @@
 // gives back the place after it; each is defined for all values and words.
 ghost use mathlib.Core.Path.{_≡_};
 ghost use mathlib.Core.List.{_∷_};
-ghost use Prim.Native.Nat.{_+_, _≤_};
-ghost use Rattle.population.specs.Population.{rowsOf};
+ghost use Prim.Native.Nat.{_*_, _≤_};
 ghost use Rattle.writing.specs.Writing.{written, write, decimal, hexadecimal};
 ghost use Rattle.report.specs.Report.{none, subjectField, observationField, objectiveLine, subjectLine, fittedLine, shrinkageLine, refusalLine, subjectLines, fittedLines, allFitted, subjectsOf, finished};
 use subjects::Place;
@@ -152,11 +151,11 @@ fn fitted_lines(
 // Those of all subjects.
 fn all_fitted(out: &mut [u8], at: usize, subjects: usize, counts: &[u64], results: &[u64]) -> usize
     requires { ⌜ subjects ≤ 4096 ⌝ }
-    ensures { λ r. ⌜ written r (now (out .exit)) ≡ write (allFitted subjects 0 (subjects + subjects + subjects) (now (counts .entry)) (now (results .entry))) (written at (now (out .entry))) ⌝ }
+    ensures { λ r. ⌜ written r (now (out .exit)) ≡ write (allFitted subjects 0 (3 * subjects) (now (counts .entry)) (now (results .entry))) (written at (now (out .entry))) ⌝ }
 {
     let mut end = at;
     let mut subject = 0;
-    let mut word = subjects + subjects + subjects;
+    let mut word = 3 * subjects;
     while subject < subjects {
         let rows = population::rows_of(counts, subject);
         end = fitted_lines(out, end, rows, subject, word, results);

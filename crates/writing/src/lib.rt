@@ -4,7 +4,7 @@
 ghost use mathlib.Core.Path.{_≡_};
 ghost use mathlib.Core.List.{[], _∷_};
 ghost use Prim.Native.Nat.{_<_};
-ghost use Rattle.writing.specs.Writing.{written, write, glyph, hexFrom, hexadecimal, digits, decimal};
+ghost use Rattle.writing.specs.Writing.{written, write, glyph, hexadecimal, digits, decimal};
 
 pub fn byte(out: &mut [u8], at: usize, value: u8) -> usize
     ensures { λ r. ⌜ written r (now (out .exit)) ≡ write (value ∷ []) (written at (now (out .entry))) ⌝ }

@@ -12,16 +12,13 @@ use Rattle.report.proofs.all_fitted.Statement.{statement}
 use Rattle.report.proofs.all_fitted.Tie as tie
 
 abbrev Inv-loop : tie.InvT-loop
-Inv-loop out₀ at subjects counts results end₀ subject₀ word₀ out end subject word = (write (allFitted (subjects - subject) subject word counts results) (written end out) ≡ write (allFitted subjects 0 (subjects + subjects + subjects) counts results) (written at out₀)) × (length out ≡ length out₀) × (word ≤ 12288 + 200000 * subject)
+Inv-loop out₀ at subjects counts results end₀ subject₀ word₀ out end subject word = (write (allFitted (subjects - subject) subject word counts results) (written end out) ≡ write (allFitted subjects 0 (3 * subjects) counts results) (written at out₀)) × (length out ≡ length out₀) × (word ≤ 12288 + 200000 * subject)
 
 abbrev μ-loop : tie.MeasureT-loop
 μ-loop out₀ at subjects counts results end₀ subject₀ word₀ out end subject word = subjects - subject
 
-add-word : tie.Need-add-word Inv-loop μ-loop
-add-word c = search needs
-
-add-word-2 : tie.Need-add-word-2 Inv-loop μ-loop
-add-word-2 c = search needs
+mul-word : tie.Need-mul-word Inv-loop μ-loop
+mul-word c = search needs
 
 loop-holds : tie.Need-loop-holds Inv-loop μ-loop
 loop-holds c = (simp sub-zero, refl, omega arith)
@@ -35,11 +32,11 @@ fitted-lines-requires c κs = let low = few-rows _ _ (c .before .rows-of .ensure
 add-subject : tie.Need-add-subject Inv-loop μ-loop
 add-subject c = search needs
 
-mul-word : tie.Need-mul-word Inv-loop μ-loop
-mul-word c = let low = few-rows _ _ (c .before .before .before .before .rows-of .ensures) in search needs
+mul-word-2 : tie.Need-mul-word-2 Inv-loop μ-loop
+mul-word-2 c = let low = few-rows _ _ (c .before .before .before .before .rows-of .ensures) in search needs
 
-add-word-3 : tie.Need-add-word-3 Inv-loop μ-loop
-add-word-3 c = let low = few-rows _ _ (c .before .before .before .before .rows-of .ensures) in search needs
+add-word : tie.Need-add-word Inv-loop μ-loop
+add-word c = let low = few-rows _ _ (c .before .before .before .before .rows-of .ensures) in search needs
 
 loop-less : tie.Need-loop-less Inv-loop μ-loop
 loop-less c = search needs
@@ -59,14 +56,13 @@ all-fitted-spec =
     (tie.spec
     Inv-loop
     μ-loop
-    add-word
-    add-word-2
+    mul-word
     loop-holds
     rows-of-requires
     fitted-lines-requires
     add-subject
-    mul-word
-    add-word-3
+    mul-word-2
+    add-word
     loop-less
     loop-again
     same-length
