@@ -29,6 +29,23 @@ pub mod rules_evaluation;
 pub mod searches;
 #[cfg(source_at_hand)]
 pub mod searches_2d;
+#[cfg(source_at_hand)]
+pub mod session_draws;
+pub mod session_memory;
+pub mod session_met;
+#[cfg(source_at_hand)]
+pub mod session_model;
+#[cfg(source_at_hand)]
+pub mod session_original;
+#[cfg(source_at_hand)]
+pub mod session_plan;
+#[cfg(source_at_hand)]
+pub mod session_replay;
+#[cfg(source_at_hand)]
+pub mod session_rules;
+#[cfg(source_at_hand)]
+pub mod session_strays;
+pub mod session_words;
 pub mod simulators;
 pub mod simulators_2d;
 #[cfg(source_at_hand)]
