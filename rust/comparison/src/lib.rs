@@ -15,6 +15,10 @@ pub mod evaluation_draws;
 pub mod evaluation_met;
 pub mod evaluations;
 pub mod floats;
+#[cfg(source_at_hand)]
+pub mod focei;
+#[cfg(source_at_hand)]
+pub mod focei_draws;
 pub mod guarded;
 pub mod kept;
 pub mod leaves;
