@@ -2,34 +2,39 @@
 use mathlib.Core.Path.{_≡_, refl, sym, ap, subst, _∙_}
 use mathlib.Core.Bool.{Bool, true, false}
 use mathlib.Core.List.{List}
-use Prim.Native.Nat.{ℕ, zero, suc, _+_, _≤_, _<_}
+use Prim.Native.Nat.{ℕ, _+_, _≤_, _<_}
 use borrow.Author.Tests.{lt-ltb, le-ltb, eq-eqb, ne-eqb}
 use lib.ListN.{length}
-use Rattle.float64.specs.Pick.{yes, no, pick-yes, pick-no}
+use Rattle.float64.specs.Pick.{yes, no, yesOf, noOf}
+use Rattle.float64.specs.Arithmetic.{word}
+use Rattle.work.specs.Work.{block}
+use Rattle.cache.specs.Cache.{order}
+use Rattle.matrix.specs.declared.Pair.{Pair}
+use Rattle.mode.specs.declared.population_focei.Stage.{Stage}
+use Rattle.evaluation.specs.Observations.{smaller}
+use Rattle.evaluation.specs.Subject.{begin}
 use Rattle.evaluation.specs.declared.Check.{Check}
+use Rattle.evaluation.specs.declared.Evaluation.{Evaluation}
 use Rattle.evaluation.specs.declared.Position.{Position}
+use Rattle.evaluation.specs.declared.Trial.{Trial}
 use Rattle.admission.specs.Admission.{checks, withParameters}
-use Rattle.admission.specs.declared.Lent.{Lent}
 use Rattle.admission.specs.declared.Admission.{Admission}
 use Rattle.admission.specs.declared.Admission.the-variants as A
-use Rattle.subjects.specs.declared.Place.{Place}
-use Rattle.subjects.specs.declared.Place.the-variants as At
-use Rattle.subjects.specs.declared.Tally.{Tally}
-use Rattle.session.specs.Calls.{heldOf, called, run, entered, refusedAs, startOf}
-use Rattle.session.specs.declared.Called.{Called}
-use Rattle.session.specs.declared.State.{State}
-use Rattle.mode.specs.declared.population_focei.Stage.{Stage}
+use Rattle.admission.specs.declared.Lent.{Lent}
 use Rattle.admission.specs.declared.Parameters.{Parameters}
 use Rattle.admission.specs.declared.Setup.{Setup}
-use Rattle.subjects.specs.Subjects.{fitOf}
+use Rattle.subjects.specs.Subjects.{fitOf, wantedBy, beginSubject}
 use Rattle.subjects.specs.declared.Fit.{Fit}
 use Rattle.subjects.specs.declared.Progress.{Progress}
-use Rattle.subjects.specs.declared.Step.{Step}
-use Rattle.subjects.specs.declared.Step.the-variants.{Refused}
-use Rattle.sessions.specs.Machine.{Moved, on, halt, Ran, ran, onward, loop}
-use Rattle.population.specs.Kept.{words}
-use Rattle.population.specs.Population.{rowsOf, Whole, turn, spent}
-use Rattle.session.specs.Session.{Held, held, countWithin, searchWithin, searchWithin2, isPlaced, isStanding, lentOf, whenAdmitted, begun, admitted, enterObjective, heldBy, turnHeld}
+use Rattle.subjects.specs.declared.Tally.{Tally}
+use Rattle.subjects.specs.declared.Wanted.{Wanted}
+use Rattle.subjects.specs.declared.Wanted.the-variants as Wants
+use Rattle.population.specs.Population.{rowsOf}
+use Rattle.session.specs.Calls.{firstState, admitObjective, unawaited, awaitedAt, admitAwaited, trialBy, nothingAdmitted, admittedBy, admitReply}
+use Rattle.session.specs.Session.{countWithin, searchWithin, searchWithin2, isPlaced, isStanding}
+use Rattle.session.specs.declared.Admitted.{Admitted}
+use Rattle.session.specs.declared.Awaited.{Awaited}
+use Rattle.session.specs.declared.State.{State}
 
 -- ---- a stage by its count
 pub counted-at : {st v : Stage} (n : ℕ) → st ≡ v → countWithin v n ≡ countWithin st n
@@ -57,73 +62,92 @@ module _ (effects : ℕ) (counts : List ℕ) (n : ℕ) (p : Progress) where
     unfolding isPlaced
     placed l one q = yes _ (lt-ltb _ _ inside) (no _ (le-ltb _ _ (fit l)) (no _ (ne-eqb _ _ one) q))
 
--- ---- the run: the machine's loop is the step's, with the parameters held
-module _ (setup : Setup) (counts : List ℕ) (parameters : Parameters) where
-  heldRan : Ran (Whole words) Step → Ran (Held words) Step
-  heldRan r = ran (r .answer) (held words parameters (r .state))
+-- ---- the first state; p is what `begin_subject` answered
+pub first-made : (setup : Setup) {p : Progress} → p ≡ beginSubject 0 0 (record { first = word 0; second = word 0 }) (word 0) (word 0)
+    → record { parameters = record { theta = record { first = word 0; second = word 0 }; omega = setup .omega00; «additive_sd» = setup .«additive_sd» }; progress = p; order = order 1 1 0 0 } ≡ firstState setup
+first-made setup e =
+    ap (λ (p : Progress). record { parameters = record { theta = record { first = word 0; second = word 0 }; omega = setup .omega00; «additive_sd» = setup .«additive_sd» }; progress = p; order = order 1 1 0 0 }) e
 
-  onward-held : (m : Moved (Whole words) Step) (f : Whole words → Ran (Whole words) Step) (g : Held words → Ran (Held words) Step) → ((w : Whole words) → g (held words parameters w) ≡ heldRan (f w))
-      → onward (heldBy words setup counts parameters m) g ≡ heldRan (onward m f)
-  unfolding onward heldBy heldRan
-  onward-held (on w) f g h = h w
-  onward-held (halt a w) f g h = refl
+-- ---- what lets a new objective in: 19, then 1 to 5; b is what `is_standing` answered
+module _ (setup : Setup) (counts : List ℕ) (lent : Lent) (check : Check) (parameters : Parameters) (progress : Progress) (tally : Tally) where
+  pub objective-awaits : progress .awaits ≡ true → A.Refused 19 ≡ admitObjective setup counts lent check parameters progress tally
+  unfolding admitObjective
+  objective-awaits e = yes _ e refl
 
-  held-loop : (n : ℕ) (w : Whole words) → loop (turnHeld words setup counts) spent n (held words parameters w) ≡ heldRan (loop (turn words (fitOf setup parameters) counts) spent n w)
-  unfolding loop turnHeld heldRan
-  held-loop zero w = refl
-  held-loop (suc n) w = onward-held (turn words (fitOf setup parameters) counts w) _ _ (held-loop n)
+  module _ {b : Bool} (e : progress .awaits ≡ false) (q : b ≡ isStanding setup counts (lent .observations) tally progress) where
+    pub objective-checked : {own : Setup} {a : Admission} → b ≡ true → own ≡ withParameters setup parameters → a ≡ checks own counts lent check → a ≡ admitObjective setup counts lent check parameters progress tally
+    unfolding admitObjective
+    objective-checked t o d = no _ e (yesOf _ q t (d ∙ ap (λ (s : Setup). checks s counts lent check) o))
 
-  pub ran-held : (n : ℕ) (w : Whole words) {fit : Fit} {r : Ran (Whole words) Step} → fit ≡ fitOf setup parameters → r ≡ loop (turn words fit counts) spent n w
-      → ran (r .answer) (held words parameters (r .state)) ≡ loop (turnHeld words setup counts) spent n (held words parameters w)
-  unfolding heldRan
-  ran-held n w {fit} {r} e q = ap heldRan (q ∙ ap (λ (x : Fit). loop (turn words x counts) spent n w) e) ∙ sym (held-loop n w)
+    pub objective-unplaced : b ≡ false → A.Refused 19 ≡ admitObjective setup counts lent check parameters progress tally
+    unfolding admitObjective
+    objective-unplaced f = no _ e (noOf _ q f refl)
 
--- ---- a new objective; a is what `checks` answered
-module _ (setup : Setup) (counts : List ℕ) (n : ℕ) (check : Check) (parameters : Parameters) (h : Held words) where
-  abbrev Begins : Ran (Held words) Step → Type 0
-  Begins r = r ≡ entered setup counts (enterObjective words setup counts n check parameters h)
+-- ---- what lets a reply in
+module _ (setup : Setup) (counts : List ℕ) (lent : Lent) (check : Check) (parameters : Parameters) {wanted : Wanted} where
+  pub point-awaited : {eta : Pair} {own : Setup} {a : Admission} → wanted ≡ Wants.Point eta → own ≡ withParameters setup parameters → a ≡ checks own counts lent check
+      → record { admission = a; eta = eta } ≡ awaitedAt setup counts lent check parameters wanted
+  unfolding awaitedAt
+  point-awaited {eta} t o d =
+      (λ i. record { admission = (d ∙ ap (λ (s : Setup). checks s counts lent check) o) i; eta = eta }) ∙ ap (awaitedAt setup counts lent check parameters) (sym t)
 
-  pub objective-awaits : h .whole .progress .awaits ≡ true → Begins (ran (Refused 19 At.Nowhere) h)
-  unfolding enterObjective onward
-  objective-awaits e = sym (ap (entered setup counts) (pick-yes _ _ _ e))
+  pub mode-unawaited : {r : Awaited} → wanted ≡ Wants.Mode → r ≡ unawaited → r ≡ awaitedAt setup counts lent check parameters wanted
+  unfolding awaitedAt
+  mode-unawaited t e = e ∙ ap (awaitedAt setup counts lent check parameters) (sym t)
 
-  module _ (e : h .whole .progress .awaits ≡ false) where
-    pub objective-unplaced : {b : Bool} → b ≡ isStanding setup counts n (h .whole .tally) (h .whole .progress) → b ≡ false → Begins (ran (Refused 19 At.Nowhere) h)
-    unfolding enterObjective onward
-    objective-unplaced q f = sym (ap (entered setup counts) (pick-no _ _ _ e ∙ pick-no _ _ _ (sym q ∙ f)))
+  pub refusal-unawaited : {r : Awaited} {number : ℕ} → wanted ≡ Wants.Refused number → r ≡ unawaited → r ≡ awaitedAt setup counts lent check parameters wanted
+  unfolding awaitedAt
+  refusal-unawaited t e = e ∙ ap (awaitedAt setup counts lent check parameters) (sym t)
 
-    module _ {b : Bool} {own : Setup} {l : Lent} {a : Admission} (q : b ≡ isStanding setup counts n (h .whole .tally) (h .whole .progress)) (t : b ≡ true) (o : own ≡ withParameters setup parameters)
-        (k : l ≡ lentOf words setup n (h .whole)) (d : a ≡ checks own counts l check) where
-      admitted-is : a ≡ admitted words setup counts n check parameters (h .whole)
-      unfolding admitted
-      admitted-is = d ∙ ap (λ (x : Lent). checks own counts x check) k ∙ ap (λ (s : Setup). checks s counts (lentOf words setup n (h .whole)) check) o
+module _ (setup : Setup) (counts : List ℕ) (lent : Lent) (check : Check) (state : State) (tally : Tally) {r : Awaited} where
+  pub awaits-none : state .progress .awaits ≡ false → r ≡ unawaited → r ≡ admitAwaited setup counts lent check state tally
+  unfolding admitAwaited
+  awaits-none e q = no _ e q
 
-      placed-objective : entered setup counts (enterObjective words setup counts n check parameters h) ≡ entered setup counts (whenAdmitted words setup counts h (on (begun words setup counts parameters (h .whole))) a)
-      unfolding enterObjective
-      placed-objective = ap (entered setup counts) (pick-no _ _ _ e ∙ pick-yes _ _ _ (sym q ∙ t) ∙ ap (whenAdmitted words setup counts h (on (begun words setup counts parameters (h .whole)))) (sym admitted-is))
+  module _ {b : Bool} (e : state .progress .awaits ≡ true) (q : b ≡ isStanding setup counts (lent .observations) tally (state .progress)) where
+    pub awaits-unplaced : b ≡ false → r ≡ unawaited → r ≡ admitAwaited setup counts lent check state tally
+    unfolding admitAwaited
+    awaits-unplaced f u = yes _ e (noOf _ q f u)
 
-      answered-by : {v : Admission} {r : Ran (Held words) Step} → a ≡ v → r ≡ entered setup counts (whenAdmitted words setup counts h (on (begun words setup counts parameters (h .whole))) v) → Begins r
-      answered-by p x = x ∙ ap (λ (z : Admission). entered setup counts (whenAdmitted words setup counts h (on (begun words setup counts parameters (h .whole))) z)) (sym p) ∙ sym placed-objective
+    pub awaits-point : {fit : Fit} {wanted : Wanted} → b ≡ true → fit ≡ fitOf setup (state .parameters) → wanted ≡ wantedBy fit (state .progress) → r ≡ awaitedAt setup counts lent check (state .parameters) wanted
+        → r ≡ admitAwaited setup counts lent check state tally
+    unfolding admitAwaited
+    awaits-point t f w a =
+        yes _ e (yesOf _ q t (a ∙ ap (awaitedAt setup counts lent check (state .parameters)) (w ∙ ap (λ (x : Fit). wantedBy x (state .progress)) f)))
 
-      pub objective-refused : (number : ℕ) → a ≡ A.Refused number → Begins (ran (Refused number At.Nowhere) h)
-      unfolding whenAdmitted onward
-      objective-refused number p = answered-by p refl
+pub trial-made : (setup : Setup) (state : State) (rows : ℕ) {n : ℕ} → n ≡ block rows 3
+    → record { individual = state .progress .individual; «additive_sd» = state .parameters .«additive_sd»; width = setup .width; effects = setup .effects; block = n } ≡ trialBy setup state rows
+trial-made setup state rows e =
+    ap (λ (n : ℕ). record { individual = state .progress .individual; «additive_sd» = state .parameters .«additive_sd»; width = setup .width; effects = setup .effects; block = n }) e
 
-      pub objective-unsound : (place : Position) → a ≡ A.Unsound place → Begins (ran (Refused 4 (At.Observation (place .subject) (place .observation))) h)
-      unfolding whenAdmitted onward
-      objective-unsound place p = answered-by p refl
+pub trial-is : (setup : Setup) (state : State) (rows : ℕ) {n : ℕ} {trial : Trial} → trial ≡ trialBy setup state rows → rows ≡ n → trial ≡ trialBy setup state n
+trial-is setup state rows t e = t ∙ ap (trialBy setup state) e
 
-      pub objective-begins : {r : Ran (Held words) Step} → a ≡ A.Accepted → r ≡ run setup counts (begun words setup counts parameters (h .whole)) → Begins r
-      unfolding whenAdmitted onward
-      objective-begins p x = answered-by p x
+-- w is what `admit_awaited` answered
+module _ (setup : Setup) (counts : List ℕ) (lent : Lent) (check : Check) (state : State) (tally : Tally) (reply : List ℕ) {w : Awaited} {rows : ℕ} {trial : Trial} (ew : w ≡ admitAwaited setup counts lent check state tally)
+    (er : rows ≡ rowsOf counts (state .progress .subject)) (et : trial ≡ trialBy setup state rows) where
+  admitted-by : {v : Admission} {r : Admitted} → w .admission ≡ v → r ≡ admittedBy setup counts (lent .observations) state reply w v → r ≡ admitReply setup counts lent check state tally reply
+  unfolding admitReply
+  admitted-by t q =
+      q ∙ ap (admittedBy setup counts (lent .observations) state reply w) (sym t) ∙ ap (λ (x : Awaited). admittedBy setup counts (lent .observations) state reply x (x .admission)) ew
 
--- the start, as the code makes it
-pub begun-is : (setup : Setup) (counts : List ℕ) (parameters : Parameters) (state s : State) (tally : Tally) (cache work warm results : List ℕ) → s ≡ startOf parameters warm (setup .effects) (state .order)
-    → heldOf s tally cache work warm results ≡ begun words setup counts parameters (heldOf state tally cache work warm results .whole)
-unfolding begun startOf
-begun-is setup counts parameters state s tally cache work warm results e = ap (λ (x : State). heldOf x tally cache work warm results) e
+  pub reply-admitted : {e : Evaluation} {to : ℕ} → w .admission ≡ A.Accepted → e ≡ begin reply (setup .width) (setup .effects) (setup .«output_budget») → to ≡ smaller (state .progress .first + rows) (lent .observations)
+      → record { awaited = w; from = state .progress .first; to = to; evaluation = e; trial = trial } ≡ admitReply setup counts lent check state tally reply
+  unfolding admittedBy
+  reply-admitted t b l =
+      admitted-by t
+      (λ i. record {
+        awaited = w;
+        from = state .progress .first;
+        to = (l ∙ ap (λ (n : ℕ). smaller (state .progress .first + n) (lent .observations)) er) i;
+        evaluation = b i;
+        trial = trial-is setup state rows et er i;
+      })
 
--- a refusal that alters nothing, as the code makes it
-pub refused-called : (state : State) (tally : Tally) (number : ℕ) (place : Place) (cache work warm results : List ℕ) {r : Called} {z : Ran (Held words) Step} → r ≡ refusedAs state tally number place
-    → ran (Refused number place) (heldOf state tally cache work warm results) ≡ z → called r cache work warm results ≡ z
-refused-called state tally number place cache work warm results e q = ap (λ (x : Called). called x cache work warm results) e ∙ q
+  pub reply-refused : {number : ℕ} {r : Admitted} → w .admission ≡ A.Refused number → r ≡ nothingAdmitted w trial number → r ≡ admitReply setup counts lent check state tally reply
+  unfolding admittedBy
+  reply-refused {number} t q = admitted-by t (q ∙ ap (λ (x : Trial). nothingAdmitted w x number) (trial-is setup state rows et er))
+
+  pub reply-unsound : {at : Position} {r : Admitted} → w .admission ≡ A.Unsound at → r ≡ nothingAdmitted w trial 4 → r ≡ admitReply setup counts lent check state tally reply
+  unfolding admittedBy
+  reply-unsound t q = admitted-by t (q ∙ ap (λ (x : Trial). nothingAdmitted w x 4) (trial-is setup state rows et er))

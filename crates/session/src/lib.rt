@@ -1,16 +1,21 @@
-// A session's calls, over lent words. The tally goes by value here, and of the observations what was found
-// of them: how many there are, and their check. Each function is defined for all values and words.
+// What a session's calls stand on, by value: what is handed from call to call, check 19, and what is let
+// in. Of the observations there is what was found of them: how many there are, and their check. Each
+// function is defined for all values and words.
 ghost use mathlib.Core.Path.{_≡_};
+ghost use Prim.Native.Nat.{_+_};
 ghost use lib.ListN.{length};
-ghost use Rattle.population.specs.Kept.{words};
-ghost use Rattle.session.specs.Calls.{called, heldOf, run, entered, lentBy, refusedAs, startOf};
-ghost use Rattle.session.specs.Session.{countWithin, searchWithin, searchWithin2, isPlaced, isStanding, enterObjective};
+ghost use Rattle.evaluation.specs.Observations.{smaller};
+ghost use Rattle.session.specs.Calls.{lentBy, refusedAs, startOf, firstState, admitObjective, unawaited, awaitedAt, admitAwaited, trialBy, nothingAdmitted, admitReply, shrinkage};
+ghost use Rattle.session.specs.Session.{countWithin, searchWithin, searchWithin2, isPlaced, isStanding};
 use admission::Admission;
 use admission::Lent;
 use admission::Parameters;
 use admission::Setup;
 use cache::CacheOrder;
 use evaluation::Check;
+use evaluation::Evaluation;
+use evaluation::Trial;
+use matrix::Pair;
 use mode::population_focei::Search;
 use mode::population_focei::Stage;
 use mode_2d::population_focei_2d::Search2;
@@ -18,6 +23,7 @@ use subjects::Place;
 use subjects::Progress;
 use subjects::Step;
 use subjects::Tally;
+use subjects::Wanted;
 
 // What a host hands from call to call: the objective's parameters, where it stands, and the positions of
 // the kept evaluations.
@@ -34,8 +40,33 @@ pub struct Called {
     pub step: Step,
 }
 
-// The requests that a call may make: 4,096 subjects, each with a search of at most 6,343 points and its end.
-pub const FUEL: usize = 25985024;
+// What setup answers: the state of the session that it opened, or a refusal, which alters nothing.
+pub enum Opening {
+    Opened(State),
+    Refused(u32, Place),
+}
+
+// What setup gives back.
+pub struct Begun {
+    pub opening: Opening,
+    pub tally: Tally,
+}
+
+// Whether a reply or a failure is let in: 19 and 1 to 5, and the point that was asked for.
+pub struct Awaited {
+    pub admission: Admission,
+    pub eta: Pair,
+}
+
+// A reply that is let in, or not: the evaluation that begins with it, and the numbers of the observations
+// that it is over, from `from` up to, but without, `to`. Where it is not let in there are none.
+pub struct Admitted {
+    pub awaited: Awaited,
+    pub from: usize,
+    pub to: usize,
+    pub evaluation: Evaluation,
+    pub trial: Trial,
+}
 
 // ---- 19
 
@@ -107,54 +138,15 @@ pub fn is_standing(
     is_placed(setup.effects, counts, observations, progress)
 }
 
-// ---- the run of an objective
+// ---- what is lent, and refusals
 
-// From where it stands, until there is a question or an end.
-pub fn run(
-    setup: Setup,
-    state: State,
-    tally: Tally,
-    counts: &[u64],
+pub fn lent_by(
+    observations: usize,
     cache: &[u64],
-    work: &mut [u64],
-    warm: &mut [u64],
-    results: &mut [u64],
-) -> Called
-    ensures { λ r. ⌜ called r (now (cache .entry)) (now (work .exit)) (now (warm .exit)) (now (results .exit)) ≡ run setup (now (counts .entry)) (heldOf state tally (now (cache .entry)) (now (work .entry)) (now (warm .entry)) (now (results .entry))) ⌝ }
-{
-    let parameters = state.parameters;
-    let progress = state.progress;
-    let order = state.order;
-    let fit = subjects::fit_of(setup, parameters);
-    let halted = population::requests(
-        fit,
-        counts,
-        order,
-        progress,
-        tally,
-        FUEL,
-        cache,
-        work,
-        warm,
-        results,
-    );
-    let reached = halted.progress;
-    let counted = halted.tally;
-    let step = halted.step;
-    Called {
-        state: State {
-            parameters,
-            progress: reached,
-            order,
-        },
-        tally: counted,
-        step,
-    }
-}
-
-// ---- a new objective
-
-fn lent_by(observations: usize, cache: &[u64], work: &[u64], warm: &[u64], results: &[u64]) -> Lent
+    work: &[u64],
+    warm: &[u64],
+    results: &[u64],
+) -> Lent
     ensures { λ r. ⌜ r ≡ lentBy observations (length (now (cache .entry))) (length (now (work .entry))) (length (now (warm .entry))) (length (now (results .entry))) ⌝ }
 {
     Lent {
@@ -167,7 +159,7 @@ fn lent_by(observations: usize, cache: &[u64], work: &[u64], warm: &[u64], resul
 }
 
 // A refusal that alters nothing.
-fn refused_as(state: State, tally: Tally, number: u32, place: Place) -> Called
+pub fn refused_as(state: State, tally: Tally, number: u32, place: Place) -> Called
     ensures { λ r. ⌜ r ≡ refusedAs state tally number place ⌝ }
 {
     Called {
@@ -177,7 +169,36 @@ fn refused_as(state: State, tally: Tally, number: u32, place: Place) -> Called
     }
 }
 
-fn start_of(parameters: Parameters, warm: &[u64], effects: u32, order: CacheOrder) -> State
+// ---- setup
+
+// Nothing is asked yet, nothing is kept, and every warm start is zero.
+pub fn first_state(setup: Setup) -> State
+    ensures { λ r. ⌜ r ≡ firstState setup ⌝ }
+{
+    let additive_sd = setup.additive_sd;
+    let zero = Pair {
+        first: 0.0,
+        second: 0.0,
+    };
+    State {
+        parameters: Parameters {
+            theta: zero,
+            omega: setup.omega00,
+            additive_sd,
+        },
+        progress: subjects::begin_subject(0, 0, zero, 0.0, 0.0),
+        order: CacheOrder {
+            oldest: 1,
+            next: 1,
+            first_row: 0,
+            next_row: 0,
+        },
+    }
+}
+
+// ---- a new objective
+
+pub fn start_of(parameters: Parameters, warm: &[u64], effects: u32, order: CacheOrder) -> State
     ensures { λ r. ⌜ r ≡ startOf parameters (now (warm .entry)) effects order ⌝ }
 {
     let first = population::warm_of(warm, effects, 0);
@@ -188,42 +209,176 @@ fn start_of(parameters: Parameters, warm: &[u64], effects: u32, order: CacheOrde
     }
 }
 
-// 19, then 1 to 5, then the searches of all the subjects.
-pub fn begin_objective(
+// 19, then 1 to 5.
+pub fn admit_objective(
     setup: Setup,
     parameters: Parameters,
+    progress: Progress,
+    tally: Tally,
+    check: Check,
+    lent: Lent,
+    counts: &[u64],
+) -> Admission
+    ensures { λ r. ⌜ r ≡ admitObjective setup (now (counts .entry)) lent check parameters progress tally ⌝ }
+{
+    if progress.awaits {
+        return Admission::Refused(19);
+    }
+    if is_standing(setup, counts, lent.observations, tally, progress) {
+        let own = admission::with_parameters(setup, parameters);
+        return admission::checks(own, counts, lent, check);
+    }
+    Admission::Refused(19)
+}
+
+// ---- a reply, and its failure
+
+// 1 to 5, for the point that is wanted; 19 where none is.
+fn awaited_at(
+    setup: Setup,
+    parameters: Parameters,
+    wanted: Wanted,
+    check: Check,
+    lent: Lent,
+    counts: &[u64],
+) -> Awaited
+    ensures { λ r. ⌜ r ≡ awaitedAt setup (now (counts .entry)) lent check parameters wanted ⌝ }
+{
+    match wanted {
+        Wanted::Point(eta) => {
+            let own = admission::with_parameters(setup, parameters);
+            Awaited {
+                admission: admission::checks(own, counts, lent, check),
+                eta,
+            }
+        }
+        Wanted::Mode => unawaited(),
+        Wanted::Refused(_) => unawaited(),
+    }
+}
+
+fn unawaited() -> Awaited
+    ensures { λ r. ⌜ r ≡ unawaited ⌝ }
+{
+    Awaited {
+        admission: Admission::Refused(19),
+        eta: Pair {
+            first: 0.0,
+            second: 0.0,
+        },
+    }
+}
+
+// 19, then 1 to 5.
+pub fn admit_awaited(
+    setup: Setup,
     state: State,
     tally: Tally,
     check: Check,
-    observations: usize,
+    lent: Lent,
     counts: &[u64],
-    cache: &[u64],
-    work: &mut [u64],
-    warm: &mut [u64],
-    results: &mut [u64],
-) -> Called
-    ensures { λ r. ⌜ called r (now (cache .entry)) (now (work .exit)) (now (warm .exit)) (now (results .exit)) ≡ entered setup (now (counts .entry)) (enterObjective words setup (now (counts .entry)) observations check parameters (heldOf state tally (now (cache .entry)) (now (work .entry)) (now (warm .entry)) (now (results .entry)))) ⌝ }
+) -> Awaited
+    ensures { λ r. ⌜ r ≡ admitAwaited setup (now (counts .entry)) lent check state tally ⌝ }
 {
     let progress = state.progress;
     if progress.awaits {
-        return refused_as(state, tally, 19, Place::Nowhere);
+        if is_standing(setup, counts, lent.observations, tally, progress) {
+            let parameters = state.parameters;
+            let fit = subjects::fit_of(setup, parameters);
+            let wanted = subjects::wanted_by(fit, progress);
+            return awaited_at(setup, parameters, wanted, check, lent, counts);
+        }
+        return unawaited();
     }
-    if is_standing(setup, counts, observations, tally, progress) {
-        let own = admission::with_parameters(setup, parameters);
-        let lent = lent_by(observations, cache, work, warm, results);
-        match admission::checks(own, counts, lent, check) {
-            Admission::Accepted => {
-                let start = start_of(parameters, warm, setup.effects, state.order);
-                return run(setup, start, tally, counts, cache, work, warm, results);
-            }
-            Admission::Refused(number) => {
-                return refused_as(state, tally, number, Place::Nowhere);
-            }
-            Admission::Unsound(at) => {
-                let place = Place::Observation(at.subject, at.observation);
-                return refused_as(state, tally, 4, place);
+    unawaited()
+}
+
+// The trial block of the subject's rows, and what its rows are computed with.
+fn trial_by(setup: Setup, state: State, rows: usize) -> Trial
+    ensures { λ r. ⌜ r ≡ trialBy setup state rows ⌝ }
+{
+    let parameters = state.parameters;
+    let additive_sd = parameters.additive_sd;
+    let progress = state.progress;
+    let individual = progress.individual;
+    Trial {
+        individual,
+        additive_sd,
+        width: setup.width,
+        effects: setup.effects,
+        block: work::block(rows, work::TRIAL),
+    }
+}
+
+// The number after the last of the subject's observations, among those lent.
+fn end_of(first: usize, rows: usize, observations: usize) -> usize
+    ensures { λ r. ⌜ r ≡ smaller (first + rows) observations ⌝ }
+{
+    if observations < rows {
+        return observations;
+    }
+    if observations - rows < first {
+        return observations;
+    }
+    first + rows
+}
+
+// The first part of a reply: 19, 1 to 5, then 8 and 9. The observations are added to the evaluation after
+// it, one after the other.
+pub fn admit_reply(
+    setup: Setup,
+    state: State,
+    tally: Tally,
+    check: Check,
+    lent: Lent,
+    counts: &[u64],
+    reply: &[u64],
+) -> Admitted
+    ensures { λ r. ⌜ r ≡ admitReply setup (now (counts .entry)) lent check state tally (now (reply .entry)) ⌝ }
+{
+    let awaited = admit_awaited(setup, state, tally, check, lent, counts);
+    let admission = awaited.admission;
+    let progress = state.progress;
+    let rows = population::rows_of(counts, progress.subject);
+    let trial = trial_by(setup, state, rows);
+    match admission {
+        Admission::Accepted => {
+            let evaluation = evaluation::begin(
+                reply,
+                setup.width,
+                setup.effects,
+                setup.output_budget,
+            );
+            Admitted {
+                awaited,
+                from: progress.first,
+                to: end_of(progress.first, rows, lent.observations),
+                evaluation,
+                trial,
             }
         }
+        Admission::Refused(number) => nothing_admitted(awaited, trial, number),
+        Admission::Unsound(_) => nothing_admitted(awaited, trial, 4),
     }
-    refused_as(state, tally, 19, Place::Nowhere)
+}
+
+fn nothing_admitted(awaited: Awaited, trial: Trial, number: u32) -> Admitted
+    ensures { λ r. ⌜ r ≡ nothingAdmitted awaited trial number ⌝ }
+{
+    Admitted {
+        awaited,
+        from: 0,
+        to: 0,
+        evaluation: Evaluation::Refused(number),
+        trial,
+    }
+}
+
+// ---- a finished objective
+
+// With one effect: 1 - ((sum of eta²) / n) / omega, over n subjects.
+pub fn shrinkage(state: State, subjects: u32) -> f64
+    ensures { λ r. ⌜ r ≡ shrinkage state subjects ⌝ }
+{
+    1.0 - state.progress.eta_squares / subjects as f64 / state.parameters.omega
 }

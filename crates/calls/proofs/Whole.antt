@@ -1,0 +1,1 @@
+-- The calls over a list of observations, put together from their parts. Assumes nothing.
