@@ -33,8 +33,8 @@ pub fn draw(random: &mut Random) -> Plan {
         _ => two_effects(random),
     };
     let mut setup = drawn.setup;
-    setup.width = random.pick(&[1, 1, 1, 1, 2, 3, 5]);
-    if random.below(200) == 0 {
+    setup.width = random.pick(&[1, 1, 1, 1, 1, 2, 3]);
+    if random.below(300) == 0 {
         setup.width = 64;
     }
     let width = setup.width as usize;
@@ -106,7 +106,7 @@ fn kind_2d(random: &mut Random, wildness: u64) -> Kind2 {
 }
 
 fn number_of_subjects(random: &mut Random) -> usize {
-    random.pick(&[1, 1, 1, 1, 2, 2, 3, 4])
+    random.pick(&[1, 1, 1, 1, 1, 2, 2, 3, 4])
 }
 
 fn one_effect(random: &mut Random) -> Drawn {
@@ -248,11 +248,10 @@ fn clock(random: &mut Random) -> Clock {
 /// Few, or enough for most of what an objective has.
 fn kept_rows(random: &mut Random, subjects: &[Subject]) -> u64 {
     let rows: usize = subjects.iter().map(|one| one.observations.len()).sum();
-    let most = ROOM.cache / 24;
-    match random.below(4) {
-        0 => random.pick(&[1, 2, 3, 5]),
-        1 => 1 + random.below(most as u64),
-        _ => (30 * rows).min(most) as u64,
+    match random.below(8) {
+        0 | 1 => random.pick(&[1, 2, 3, 5]),
+        2..6 => 1 + random.below(30),
+        _ => (30 * rows).min(ROOM.cache / 24) as u64,
     }
 }
 

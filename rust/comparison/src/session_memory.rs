@@ -2,9 +2,7 @@
 //! has it. Of work and kept words it says only when they are zero.
 
 use crate::compare::word_of;
-use crate::session_words::{
-    Expected, Lengths, ANSWER, CACHE_IS_ZERO, CHANGED, WORK_IS_ZERO,
-};
+use crate::session_words::{Expected, Lengths, ANSWER, CACHE_IS_ZERO, CHANGED, WORK_IS_ZERO};
 use oracle::session::Mode;
 use std::collections::VecDeque;
 
@@ -167,7 +165,10 @@ impl Memory {
 /// Of words, where any NaN counts as any other.
 pub fn digest(words: &[u64]) -> u64 {
     let word = |word: &u64| word_of(f64::from_bits(*word));
-    words.iter().map(word).fold(14695981039346656037, |h, word| {
-        u64::wrapping_mul(u64::wrapping_add(h, word), 1099511628211)
-    })
+    words
+        .iter()
+        .map(word)
+        .fold(14695981039346656037, |h, word| {
+            u64::wrapping_mul(u64::wrapping_add(h, word), 1099511628211)
+        })
 }

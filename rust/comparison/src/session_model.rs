@@ -4,7 +4,7 @@
 
 use crate::session_memory::Memory;
 use crate::session_met::Met;
-use crate::session_original::{Original, Ran};
+use crate::session_original::{won_later, Original, Ran};
 use crate::session_plan::{Objective, Plan, Reply, Step, Stray};
 use crate::session_rules::{self, Standing};
 use crate::session_words::{refused, Call, Change, Expected, Lent, Script};
@@ -50,7 +50,10 @@ struct Telling {
 
 impl Telling {
     fn new(plan: &Plan) -> Self {
-        let observations = plan.subjects.iter().flat_map(|one| one.observations.clone());
+        let observations = plan
+            .subjects
+            .iter()
+            .flat_map(|one| one.observations.clone());
         let lent = Lent {
             setup: plan.setup.clone(),
             lengths: plan.lengths,
@@ -110,8 +113,10 @@ impl Telling {
             return;
         }
         self.met.count_if(again, "sessions begun anew");
-        self.met
-            .count_if(self.standing.awaits, "sessions begun anew amid an objective");
+        self.met.count_if(
+            self.standing.awaits,
+            "sessions begun anew amid an objective",
+        );
         self.script.call(&Call::Setup);
         self.memory.open(self.lent.lengths);
         self.standing = Standing::default();
@@ -125,6 +130,9 @@ impl Telling {
         let largest = lent.counts.iter().max().map_or(0, |count| *count as usize);
         met.count_if(setup.eta_bound == 16., "the largest bound of eta");
         met.count_if(setup.eta_bound == 1. / 1024., "the least bound of eta");
+        let omega = setup.omega[0];
+        met.count_if(omega == 1048576., "the largest omega");
+        met.count_if(omega == 1. / 1048576., "the least omega");
         met.count_if(setup.width == 1, "width 1");
         met.count_if(setup.width == 64, "width 64");
         met.count_if(setup.k == 1, "K 1");
@@ -201,6 +209,7 @@ impl Telling {
             return;
         };
         let subjects = self.plan.subjects.len();
+        let warm: Vec<[f64; 2]> = (0..subjects).map(|one| original.now().warm(one)).collect();
         let ran = original.run(objective, subjects);
         self.script.call(&call);
         self.standing = Standing {
@@ -225,6 +234,10 @@ impl Telling {
         self.end(&ran, &original);
         self.met.add_to("evictions", evicted as u64);
         self.count_objective(&ran);
+        if self.plan.effects() == 2 {
+            let later = won_later(&self.plan, &ran, &warm, objective.parameters.theta);
+            self.met.add_to("modes won by a later start", later as u64);
+        }
         self.calls.push(original.now().calls());
         self.original = Some(original);
     }
@@ -264,6 +277,7 @@ impl Telling {
             Reply::Failure => Call::Failure,
         };
         self.script.call(&call);
+        self.count_reply(reply);
         let is_last = number + 1 == ran.asked.len();
         let refused = matches!(&ran.end, Err(refusal) if (8..=12).contains(&refusal.number));
         if is_last && refused {
@@ -272,6 +286,23 @@ impl Telling {
         let rows = self.plan.subjects[self.standing.subject].observations.len();
         let k = self.plan.setup.k as usize;
         self.memory.keep(rows, k, self.lent.lengths)
+    }
+
+    fn count_reply(&mut self, reply: &Reply) {
+        let Reply::Words(words) = reply else {
+            self.met.count("failures");
+            return;
+        };
+        let (row_words, budget) = (self.plan.row_words(), self.plan.setup.output_budget);
+        let (rows, rest) = (words.len() / row_words, words.len() % row_words);
+        self.met
+            .count_if(rest > 0, "replies that are not whole rows");
+        self.met.count_if(words.is_empty(), "empty replies");
+        let values = (rows * (row_words - 2)) as u64;
+        self.met
+            .count_if(values == budget, "replies just within the budget");
+        let by_a_row = values > budget && values - row_words as u64 + 2 <= budget;
+        self.met.count_if(by_a_row, "replies a row over the budget");
     }
 
     fn end(&mut self, ran: &Ran, original: &Original) {
@@ -290,7 +321,8 @@ impl Telling {
                 self.met.refused[refusal.number as usize] += 1;
                 if refusal.number == 17 {
                     let warm = original.now().warm(ran.passed);
-                    self.memory.store_warm(self.plan.effects(), ran.passed, warm);
+                    self.memory
+                        .store_warm(self.plan.effects(), ran.passed, warm);
                 }
                 self.memory.calls += (refusal.number == 7) as usize;
                 refused(*refusal)
@@ -317,8 +349,14 @@ impl Telling {
         met.count_if(ran.end.is_ok(), name);
         let without = ran.end.is_ok() && ran.asked.is_empty();
         met.count_if(without, "finished without a question");
-        met.count_if(without && calls == most, "finished without a question at the limit");
-        met.count_if(ran.end.is_ok() && calls == most, "finished with the last evaluation");
+        met.count_if(
+            without && calls == most,
+            "finished without a question at the limit",
+        );
+        met.count_if(
+            ran.end.is_ok() && calls == most,
+            "finished with the last evaluation",
+        );
         let first_grid = if self.plan.setup.effects == 1 { 17 } else { 7 };
         for subject in 0..ran.passed {
             let asked = ran.asked.iter().filter(|asked| asked.0.subject == subject);
@@ -337,7 +375,11 @@ impl Telling {
             let pairs = mode.population_rows.iter().zip(&mode.best.rows);
             let unlike = |(a, b): &(&Predicted, &Predicted)| a.time != b.time || a.pre != b.pre;
             let (a, b) = pairs.clone().find(unlike).expect("17 has its cause");
-            met.count(if a.time != b.time { "17 by a time" } else { "17 by a side" });
+            met.count(if a.time != b.time {
+                "17 by a time"
+            } else {
+                "17 by a side"
+            });
         }
     }
 }

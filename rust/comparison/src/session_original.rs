@@ -8,6 +8,7 @@ use crate::session_words::Parameters;
 use oracle::session::{self, Mode, Observed, Question, Refusal, Settings, Simulator};
 use oracle::{OneEffect, TwoEffects};
 use std::cell::RefCell;
+use std::collections::HashMap;
 use std::rc::Rc;
 
 /// A question and what it was answered.
@@ -188,6 +189,33 @@ impl Original {
             }
         }
     }
+}
+
+/// With two effects, in how many subjects that passed the mode is not the warm
+/// start's candidate, as far as this objective's replies tell: the candidate is
+/// sought once more among them.
+pub fn won_later(plan: &Rc<Plan>, ran: &Ran, warm: &[[f64; 2]], theta: [f64; 2]) -> usize {
+    let key = |question: &Question| (question.subject, question.eta.map(f64::to_bits));
+    let replies: HashMap<_, _> = ran
+        .asked
+        .iter()
+        .map(|(question, reply)| (key(question), reply.clone()))
+        .collect();
+    let mut ample = Plan::clone(plan);
+    ample.setup.k = 100_000;
+    ample.setup.max_evaluations = u32::MAX as u64;
+    let (width, effects) = (plan.setup.width as usize, plan.effects());
+    let again: Simulator = Box::new(move |question: &Question| {
+        samples_of(replies.get(&key(question))?, width, effects)
+    });
+    let Evaluator::Two(mut session) = Evaluator::new(&ample, again) else {
+        return 0;
+    };
+    let mut won_later = |subject: &usize| {
+        let first = session.mode_from_seed(*subject, theta, warm[*subject]);
+        first.is_ok_and(|first| first.eta != ran.modes[*subject].best.eta)
+    };
+    (0..ran.passed).filter(|subject| won_later(subject)).count()
 }
 
 /// Answers by the plan, and writes it down.

@@ -6,7 +6,7 @@ use crate::session_draws::draw;
 use crate::session_met::Met;
 use crate::session_model::{tell, Told};
 use crate::session_plan::{Plan, Step};
-use crate::session_words::ANSWER;
+use crate::session_words::{Expected, ANSWER};
 use std::fmt::Write as _;
 use std::io::{Read, Write};
 use std::path::{Path, PathBuf};
@@ -72,6 +72,26 @@ fn difference(told: &Told, answers: &[u64]) -> Option<(usize, Vec<u64>)> {
     Some((told.expected.len(), more.to_vec()))
 }
 
+/// The expected answers, with the program's in what they leave free; or nothing
+/// where it answers otherwise.
+pub fn answered(program: &Path, told: &Told) -> Option<Vec<u64>> {
+    let answers = answers(program, &[&told.script]);
+    if difference(told, &answers).is_some() {
+        return None;
+    }
+    let free = |at: usize, expected: &Expected| answers[at] & !expected.said;
+    let words = told
+        .expected
+        .iter()
+        .enumerate()
+        .flat_map(|(call, expected)| {
+            let mut words = expected.words;
+            words[ANSWER - 1] |= free(ANSWER * call + ANSWER - 1, expected);
+            words
+        });
+    Some(words.collect())
+}
+
 fn differs(program: &Path, plan: &Plan) -> bool {
     let told = tell(plan);
     difference(&told, &answers(program, &[&told.script])).is_some()
@@ -83,7 +103,9 @@ pub fn over_seeds(program: &Path, seeds: std::ops::Range<u64>) -> Met {
     let mut seed = seeds.start;
     while seed < seeds.end {
         let next = (seed + 400).min(seeds.end);
-        let plans: Vec<Plan> = (seed..next).map(|seed| draw(&mut Random::new(seed))).collect();
+        let plans: Vec<Plan> = (seed..next)
+            .map(|seed| draw(&mut Random::new(seed)))
+            .collect();
         compare(program, &plans, seed, &mut met);
         seed = next;
     }

@@ -113,7 +113,10 @@ fn counts(random: &mut Random, plan: &Plan) -> Vec<u64> {
 }
 
 fn observations(random: &mut Random, plan: &Plan) -> Vec<Observed> {
-    let all = plan.subjects.iter().flat_map(|one| one.observations.clone());
+    let all = plan
+        .subjects
+        .iter()
+        .flat_map(|one| one.observations.clone());
     let mut all: Vec<Observed> = all.collect();
     let number = random.below(all.len() as u64) as usize;
     let not_finite = random.pick(&[f64::NAN, f64::INFINITY, f64::NEG_INFINITY]);

@@ -53,7 +53,11 @@ fn the_program_prints_the_examples() {
 fn compare(program: &Path, bytes: &[u8], met: &mut Met) {
     let printed = focei(bytes);
     if differs(program, bytes) {
-        let bytes = simplest(&bytes.to_vec(), shorter, |bytes| differs(program, bytes));
+        let bytes = simplest(
+            &bytes.to_vec(),
+            |bytes| shorter(bytes),
+            |bytes| differs(program, bytes),
+        );
         let ours = run(program, bytes.clone());
         panic!(
             "records {bytes:02x?}\nthe program prints\n{}\nthe original\n{}",
@@ -84,9 +88,9 @@ fn differs(program: &Path, bytes: &[u8]) -> bool {
 }
 
 /// Without one of the records.
-fn shorter(bytes: &Vec<u8>) -> Simpler<'_, Vec<u8>> {
+fn shorter(bytes: &[u8]) -> Simpler<'_, Vec<u8>> {
     Box::new((0..bytes.len() / RECORD).map(|number| {
-        let mut shorter = bytes.clone();
+        let mut shorter = bytes.to_vec();
         shorter.drain(RECORD * number..RECORD * (number + 1));
         shorter
     }))
@@ -102,7 +106,10 @@ fn files_of_records() {
         let kind = KINDS[seed as usize % KINDS.len()];
         compare(&program, &draw(random, kind), &mut met);
     }
-    comparison::say(&format!("files of records: {met:?}, {:.1?}", begun.elapsed()));
+    comparison::say(&format!(
+        "files of records: {met:?}, {:.1?}",
+        begun.elapsed()
+    ));
     hold(&met);
 }
 

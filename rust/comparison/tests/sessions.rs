@@ -7,6 +7,7 @@ use comparison::session_draws::draw;
 use comparison::session_met::Met;
 use comparison::session_model::tell;
 use comparison::session_plan::{AnyModel, Clock, Objective, Plan, Step, Subject};
+use comparison::session_replay::{over_seeds, program};
 use comparison::session_words::{Lengths, Parameters, Setup};
 use comparison::simulators::{Kind, Model};
 use oracle::session::Observed;
@@ -81,16 +82,131 @@ fn the_printed_example_is_told() {
     assert_eq!(told.expected[17].words[..7], [2, 6, 1, 0, 0, 16, 16]);
 }
 
-#[test]
-fn told_alone() {
-    let begun = Instant::now();
-    let mut met = Met::default();
-    let mut words = 0;
-    for seed in 0..20_000 {
-        let plan = draw(&mut Random::new(seed));
-        let told = tell(&plan);
-        words += told.script.len();
-        met.add(&told.met);
+/// Reads a session's words as the program does, and counts its calls.
+fn calls_in(script: &[u64]) -> u64 {
+    let mut words = script.iter().copied();
+    let mut next = || words.next();
+    let length = next().expect("a session has a length");
+    assert_eq!(length as usize + 1, script.len());
+    let skip = |next: &mut dyn FnMut() -> Option<u64>, count: u64| {
+        assert!((0..count).all(|_| next().is_some()), "the session goes on");
+    };
+    let list = |next: &mut dyn FnMut() -> Option<u64>, each: u64| {
+        let count = next().expect("a list has a length");
+        skip(next, each * count);
+    };
+    skip(&mut next, 13 + 4);
+    list(&mut next, 1);
+    list(&mut next, 5);
+    let mut calls = 0;
+    while let Some(act) = next() {
+        calls += (act <= 3) as u64;
+        match act {
+            0 | 3 => {}
+            1 => skip(&mut next, 5),
+            2 | 4 | 7 => list(&mut next, 1),
+            5 => skip(&mut next, 4),
+            6 => skip(&mut next, 13),
+            8 => list(&mut next, 5),
+            9 => skip(&mut next, 2),
+            _ => panic!("there is no act {act}"),
+        }
     }
-    comparison::say(&format!("{met:#?}, {words} words, {:.1?}", begun.elapsed()));
+    calls
+}
+
+#[test]
+fn scripts_have_a_call_for_each_answer() {
+    for seed in 0..2_000 {
+        let told = tell(&draw(&mut Random::new(seed)));
+        assert_eq!(calls_in(&told.script), told.expected.len() as u64, "{seed}");
+    }
+}
+
+/// More than the sessions that are asked for.
+const SESSIONS: u64 = 104_000;
+
+#[test]
+fn sessions_beside_the_original() {
+    let begun = Instant::now();
+    let program = program("sessions_replay");
+    let half = SESSIONS / 2;
+    let met = std::thread::scope(|scope| {
+        let other = scope.spawn(|| over_seeds(&program, half..SESSIONS));
+        let mut met = over_seeds(&program, 0..half);
+        met.add(
+            &other
+                .join()
+                .unwrap_or_else(|why| std::panic::resume_unwind(why)),
+        );
+        met
+    });
+    comparison::say(&format!("sessions: {met:?}, {:.1?}", begun.elapsed()));
+    hold(&met);
+}
+
+/// Every number that a session can come to is met. 15 is none of them: before
+/// 48 halvings are over the bracket is narrower than any tolerance.
+fn hold(met: &Met) {
+    assert!(met.sessions >= 100_000, "{met:?}");
+    met.hold_refusals(
+        20,
+        &[
+            1, 2, 3, 4, 5, 6, 7, 8, 9, 10, 11, 12, 13, 14, 16, 17, 18, 19,
+        ],
+    );
+    assert_eq!(met.refused[15], 0, "{met:?}");
+    met.hold(10_000, &["finished with one effect", "evictions"]);
+    met.hold(
+        1_000,
+        &[
+            "finished with two effects",
+            "finished without a question",
+            "subjects with kept points",
+            "subjects with more than K rows",
+            "refused after subjects that passed",
+            "finished with the last evaluation",
+            "no evaluation allowed",
+            "17 by a side",
+            "17 by a time",
+            "warm starts set",
+            "more rows kept than K",
+            "objectives left",
+            "sessions begun anew",
+            "sessions begun anew amid an objective",
+            "setups refused amid an objective",
+            "setups refused between objectives",
+            "objectives refused amid another",
+            "objectives refused between others",
+            "replies refused and given again",
+            "replies that none awaited",
+            "failures refused and given again",
+            "failures that none awaited",
+            "replies just within the budget",
+            "kept words just enough",
+            "work words just enough",
+            "warm words just enough",
+            "results just enough",
+            "K 1",
+            "width 1",
+        ],
+    );
+    met.hold(
+        100,
+        &[
+            "12 of a row",
+            "12 of a sum",
+            "failures",
+            "replies that are not whole rows",
+            "empty replies",
+            "replies a row over the budget",
+            "modes won by a later start",
+            "the largest bound of eta",
+            "the least bound of eta",
+            "the largest omega",
+            "the least omega",
+            "width 64",
+        ],
+    );
+    met.hold(20, &["finished without a question at the limit"]);
 }
