@@ -307,11 +307,10 @@ fn steps(random: &mut Random, plan: &Plan, parameters: Parameters) -> Vec<Step> 
         }
         let objective = objective(random, plan, parameters, number);
         let left = objective.left_at.is_some();
+        let given = objective.parameters;
         steps.push(Step::Objective(objective));
-        if left {
-            for _ in 0..random.below(3) {
-                steps.push(Step::Stray(stray(random, plan, parameters, true)));
-            }
+        for _ in 0..left as u64 * random.below(3) {
+            steps.push(Step::Stray(stray(random, plan, given, true)));
         }
         if left && random.coin() || random.below(20) == 0 {
             steps.push(Step::Setup);

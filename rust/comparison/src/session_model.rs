@@ -167,6 +167,9 @@ impl Telling {
     /// Told only where the call is refused: what a host comes to that changes
     /// what is lent and is served is outside all sessions.
     fn stray(&mut self, stray: &Stray) {
+        if !self.stays_at_the_question(&stray.change) {
+            return;
+        }
         let lent = self.lent.changed(&stray.change);
         let own = self.memory.tally();
         let tally = match stray.change {
@@ -182,6 +185,23 @@ impl Telling {
         let own_lent = self.lent.clone();
         self.script.lend(&stray.change, &own_lent, own);
         self.count_stray(stray, refusal);
+    }
+
+    /// With another bound, omega or a larger tolerance a search in its midst may
+    /// be elsewhere than at the question that was asked, which is a 19 of its
+    /// own; no session comes to it.
+    fn stays_at_the_question(&self, change: &Change) -> bool {
+        let (Change::Setup(other), Some(given)) = (change, self.standing.parameters) else {
+            return true;
+        };
+        let own = &self.lent.setup;
+        let omega = own.effects == 2 || own.omega[0] == given.omega;
+        !self.standing.awaits
+            || own.eta_bound == other.eta_bound
+                && own.omega.map(f64::to_bits) == other.omega.map(f64::to_bits)
+                && (other.gradient_tolerance.is_nan()
+                    || other.gradient_tolerance <= own.gradient_tolerance)
+                && (own.effects == other.effects || omega)
     }
 
     fn count_stray(&mut self, stray: &Stray, refusal: Refusal) {
@@ -218,21 +238,12 @@ impl Telling {
             ..Standing::default()
         };
         let mut passed = 0;
-        let mut evicted = 0;
-        for (number, (question, reply)) in ran.asked.iter().enumerate() {
-            self.pass(&ran, &mut passed, question.subject);
-            self.ask(question);
-            let strays = objective.strays.iter().filter(|(at, _)| *at == number);
-            strays.for_each(|(_, stray)| self.stray(stray));
-            if objective.left_at == Some(number) {
-                self.met.count("objectives left");
-                return;
-            }
-            evicted += self.take(&ran, number, reply);
+        if !self.answer_all(objective, &ran, &mut passed) {
+            self.met.count("objectives left");
+            return;
         }
         self.pass(&ran, &mut passed, ran.passed);
         self.end(&ran, &original);
-        self.met.add_to("evictions", evicted as u64);
         self.count_objective(&ran);
         if self.plan.effects() == 2 {
             let later = won_later(&self.plan, &ran, &warm, objective.parameters.theta);
@@ -240,6 +251,23 @@ impl Telling {
         }
         self.calls.push(original.now().calls());
         self.original = Some(original);
+    }
+
+    /// Each question with its reply, and what the host does in between; unless
+    /// it goes no further.
+    fn answer_all(&mut self, objective: &Objective, ran: &Ran, passed: &mut usize) -> bool {
+        for (number, (question, reply)) in ran.asked.iter().enumerate() {
+            self.pass(ran, passed, question.subject);
+            self.ask(question);
+            let strays = objective.strays.iter().filter(|(at, _)| *at == number);
+            strays.for_each(|(_, stray)| self.stray(stray));
+            if objective.left_at == Some(number) {
+                return false;
+            }
+            let evicted = self.take(ran, number, reply);
+            self.met.add_to("evictions", evicted as u64);
+        }
+        true
     }
 
     /// The subjects before this one are past 17.
@@ -362,9 +390,13 @@ impl Telling {
             let asked = ran.asked.iter().filter(|asked| asked.0.subject == subject);
             met.count_if(asked.count() < first_grid, "subjects with kept points");
         }
-        let Err(refusal) = &ran.end else {
-            return;
-        };
+        if let Err(refusal) = &ran.end {
+            self.count_refusal(*refusal, ran);
+        }
+    }
+
+    fn count_refusal(&mut self, refusal: Refusal, ran: &Ran) {
+        let (met, most) = (&mut self.met, self.plan.setup.max_evaluations);
         met.count_if(refusal.number == 6 && most == 0, "no evaluation allowed");
         met.count_if(ran.passed > 0, "refused after subjects that passed");
         let row_12 = refusal.number == 12 && refusal.observation.is_some();
@@ -372,9 +404,9 @@ impl Telling {
         met.count_if(refusal.number == 12 && !row_12, "12 of a sum");
         if refusal.number == 17 {
             let mode = ran.modes.last().expect("17 comes after a mode");
-            let pairs = mode.population_rows.iter().zip(&mode.best.rows);
+            let mut pairs = mode.population_rows.iter().zip(&mode.best.rows);
             let unlike = |(a, b): &(&Predicted, &Predicted)| a.time != b.time || a.pre != b.pre;
-            let (a, b) = pairs.clone().find(unlike).expect("17 has its cause");
+            let (a, b) = pairs.find(unlike).expect("17 has its cause");
             met.count(if a.time != b.time {
                 "17 by a time"
             } else {

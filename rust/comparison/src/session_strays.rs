@@ -9,7 +9,7 @@ use oracle::session::Observed;
 
 /// Some are not refused after all, and then not told.
 pub fn stray(random: &mut Random, plan: &Plan, given: Parameters, amid: bool) -> Stray {
-    let change = change(random, plan, given, amid);
+    let change = change(random, plan);
     let changes_nothing = matches!(change, Change::Nothing);
     let reply = |random: &mut Random| match random.below(4) {
         0 => Call::Failure,
@@ -31,11 +31,11 @@ pub fn stray(random: &mut Random, plan: &Plan, given: Parameters, amid: bool) ->
     Stray { change, call }
 }
 
-fn change(random: &mut Random, plan: &Plan, given: Parameters, amid: bool) -> Change {
+fn change(random: &mut Random, plan: &Plan) -> Change {
     match random.below(10) {
         0 | 1 => Change::Nothing,
         2 | 3 => shorter(random, plan),
-        4 | 5 => Change::Setup(setup(random, plan, given, amid)),
+        4 | 5 => Change::Setup(setup(random, plan)),
         6 => Change::Counts(counts(random, plan)),
         7 | 8 => Change::Observations(observations(random, plan)),
         _ => {
@@ -64,17 +64,13 @@ fn shorter(random: &mut Random, plan: &Plan) -> Change {
     Change::Lengths(lengths)
 }
 
-/// Amid an objective only what leaves the search where it is: with another
-/// bound, tolerance or omega it might not be at a question.
-fn setup(random: &mut Random, plan: &Plan, given: Parameters, amid: bool) -> Setup {
+fn setup(random: &mut Random, plan: &Plan) -> Setup {
     let mut setup = plan.setup.clone();
     let not_finite = random.pick(&[f64::NAN, f64::INFINITY, f64::NEG_INFINITY]);
-    let choices = if amid { 4 } else { 8 };
-    match random.below(choices) {
+    match random.below(8) {
         0 => setup.width = random.pick(&[0, 65, u32::MAX as u64]),
         1 => setup.k = random.pick(&[0, 1, 100_000, 100_001, u64::MAX]),
-        2 => setup.gradient_tolerance = random.pick(&[f64::NAN, 0., -0., -1., -5e-324]),
-        3 if amid && setup.effects == 1 && setup.omega[0] != given.omega => setup.width = 0,
+        2 => setup.gradient_tolerance = random.pick(&[0., -0., -1., -5e-324]),
         3 => setup.effects = random.pick(&[0, 3, u32::MAX as u64]),
         4 => {
             let [over, under] = [16f64.next_up(), (1f64 / 1024.).next_down()];

@@ -20,6 +20,12 @@ fn printed_example(max_evaluations: u64) -> Plan {
         omega: 1.,
         additive: None,
     };
+    let objective = Objective {
+        parameters,
+        strays: Vec::new(),
+        faults: Vec::new(),
+        left_at: None,
+    };
     Plan {
         setup: Setup {
             effects: 1,
@@ -38,34 +44,30 @@ fn printed_example(max_evaluations: u64) -> Plan {
             warm: 1,
             results: 5,
         },
-        subjects: vec![Subject {
-            model: AnyModel::One(Model {
-                kind: Kind::Line,
-                parameters: [0.; 3],
-                seed: 0,
-            }),
-            observations: vec![Observed {
-                output: 0,
-                row: 0,
-                value: 0.,
-                additive: 1.,
-                proportional: 0.,
-            }],
-            known: 1,
-            rows: 1,
-            clock: Clock::Steady,
-            drift: 0.,
-            filler: 0.,
+        subjects: vec![flat_subject()],
+        steps: vec![Step::Setup, Step::Objective(objective)],
+    }
+}
+
+fn flat_subject() -> Subject {
+    Subject {
+        model: AnyModel::One(Model {
+            kind: Kind::Line,
+            parameters: [0.; 3],
+            seed: 0,
+        }),
+        observations: vec![Observed {
+            output: 0,
+            row: 0,
+            value: 0.,
+            additive: 1.,
+            proportional: 0.,
         }],
-        steps: vec![
-            Step::Setup,
-            Step::Objective(Objective {
-                parameters,
-                strays: Vec::new(),
-                faults: Vec::new(),
-                left_at: None,
-            }),
-        ],
+        known: 1,
+        rows: 1,
+        clock: Clock::Steady,
+        drift: 0.,
+        filler: 0.,
     }
 }
 
@@ -149,64 +151,59 @@ fn sessions_beside_the_original() {
 /// 48 halvings are over the bracket is narrower than any tolerance.
 fn hold(met: &Met) {
     assert!(met.sessions >= 100_000, "{met:?}");
-    met.hold_refusals(
-        20,
-        &[
-            1, 2, 3, 4, 5, 6, 7, 8, 9, 10, 11, 12, 13, 14, 16, 17, 18, 19,
-        ],
-    );
+    let numbers = (1..20).filter(|number| *number != 15);
+    met.hold_refusals(20, &numbers.collect::<Vec<_>>());
     assert_eq!(met.refused[15], 0, "{met:?}");
-    met.hold(10_000, &["finished with one effect", "evictions"]);
-    met.hold(
-        1_000,
-        &[
-            "finished with two effects",
-            "finished without a question",
-            "subjects with kept points",
-            "subjects with more than K rows",
-            "refused after subjects that passed",
-            "finished with the last evaluation",
-            "no evaluation allowed",
-            "17 by a side",
-            "17 by a time",
-            "warm starts set",
-            "more rows kept than K",
-            "objectives left",
-            "sessions begun anew",
-            "sessions begun anew amid an objective",
-            "setups refused amid an objective",
-            "setups refused between objectives",
-            "objectives refused amid another",
-            "objectives refused between others",
-            "replies refused and given again",
-            "replies that none awaited",
-            "failures refused and given again",
-            "failures that none awaited",
-            "replies just within the budget",
-            "kept words just enough",
-            "work words just enough",
-            "warm words just enough",
-            "results just enough",
-            "K 1",
-            "width 1",
-        ],
-    );
-    met.hold(
-        100,
-        &[
-            "12 of a row",
-            "12 of a sum",
-            "failures",
-            "replies that are not whole rows",
-            "empty replies",
-            "replies a row over the budget",
-            "modes won by a later start",
-            "the largest bound of eta",
-            "the least bound of eta",
-            "the largest omega",
-            "the least omega",
-            "width 64",
-        ],
-    );
+    met.hold(5_000, OFTEN);
+    met.hold(200, SELDOM);
     met.hold(20, &["finished without a question at the limit"]);
 }
+
+const OFTEN: &[&str] = &[
+    "finished with one effect",
+    "finished with two effects",
+    "modes won by a later start",
+    "evictions",
+    "subjects with more than K rows",
+    "refused after subjects that passed",
+    "warm starts set",
+    "more rows kept than K",
+    "objectives left",
+    "sessions begun anew",
+    "setups refused between objectives",
+    "objectives refused amid another",
+    "objectives refused between others",
+    "replies refused and given again",
+    "replies that none awaited",
+    "failures refused and given again",
+    "failures that none awaited",
+    "replies just within the budget",
+    "kept words just enough",
+    "work words just enough",
+    "warm words just enough",
+    "results just enough",
+    "K 1",
+    "width 1",
+];
+
+const SELDOM: &[&str] = &[
+    "finished without a question",
+    "subjects with kept points",
+    "finished with the last evaluation",
+    "no evaluation allowed",
+    "12 of a row",
+    "12 of a sum",
+    "17 by a side",
+    "17 by a time",
+    "failures",
+    "replies that are not whole rows",
+    "empty replies",
+    "replies a row over the budget",
+    "sessions begun anew amid an objective",
+    "setups refused amid an objective",
+    "the largest bound of eta",
+    "the least bound of eta",
+    "the largest omega",
+    "the least omega",
+    "width 64",
+];
