@@ -33,8 +33,8 @@ pub fn draw(random: &mut Random) -> Plan {
         _ => two_effects(random),
     };
     let mut setup = drawn.setup;
-    setup.width = random.pick(&[1, 1, 1, 1, 1, 2, 3]);
-    if random.below(300) == 0 {
+    setup.width = random.pick(&[1, 1, 1, 1, 1, 1, 1, 2, 3]);
+    if random.below(400) == 0 {
         setup.width = 64;
     }
     let width = setup.width as usize;
@@ -155,7 +155,7 @@ fn observed(random: &mut Random, trial: &Trial) -> Vec<Observed> {
     }
     let eta = random.uniform(-0.4, 0.4) * trial.eta_bound.min(4.);
     let individual = trial.theta * eta.exp();
-    let count = random.pick(&[1, 1, 1, 2, 2, 3, 4, 6]);
+    let count = random.pick(&[1, 1, 1, 1, 1, 2, 2, 3, 6]);
     let predicted = |row| trial.model.row(row, eta, individual)[0];
     trials::observations(random, count, predicted)
 }
@@ -228,7 +228,7 @@ fn arranged(
         model,
         observations,
         known,
-        rows: last + 1 + random.pick(&[0, 0, 0, 1, 2]),
+        rows: last + 1 + random.pick(&[0, 0, 0, 0, 0, 1]),
         clock: clock(random),
         drift: random.pick(&[0., 0., 0., 0., 0., 0., 1e-12, 1e-7, 1e-2]),
         filler: random.pick(&[0., f64::NAN, 1e300]),
