@@ -26,9 +26,11 @@ pub enum Kind {
     Noise,
     /// Searches that take long.
     Steep,
+    /// Likelihoods whose sum, or twice it, is beyond all floats.
+    Overflow,
 }
 
-pub const KINDS: [Kind; 16] = [
+pub const KINDS: [Kind; 17] = [
     Kind::Plain,
     Kind::Plain,
     Kind::Plain,
@@ -45,6 +47,7 @@ pub const KINDS: [Kind; 16] = [
     Kind::Special,
     Kind::Noise,
     Kind::Steep,
+    Kind::Overflow,
 ];
 
 pub fn draw(random: &mut Random, kind: Kind) -> Vec<u8> {
@@ -54,6 +57,7 @@ pub fn draw(random: &mut Random, kind: Kind) -> Vec<u8> {
         Kind::Most => exactly(random, MOST_RECORDS),
         Kind::TooMany => exactly(random, MOST_RECORDS + 1),
         Kind::Steep => steep(random),
+        Kind::Overflow => overflow(random),
         _ => subjects(random, 4, 5),
     };
     damage(random, kind, &mut records);
@@ -129,6 +133,20 @@ fn steep(random: &mut Random) -> Vec<Record> {
             }
         })
         .collect()
+}
+
+/// A subject of lines, and one of two or three flat records far from their
+/// values.
+fn overflow(random: &mut Random) -> Vec<Record> {
+    let mut records = vec![record(random, 0, 0.25, false)];
+    let subject = random.pick(&[0, 1]);
+    let flat = Record {
+        subject,
+        reserved: 0,
+        floats: [random.pick(&[0.9e154, 1.3e154]), 1., 0., 0., 0.],
+    };
+    records.extend(vec![flat; random.pick(&[1, 2, 3])]);
+    records
 }
 
 fn damage(random: &mut Random, kind: Kind, records: &mut [Record]) {

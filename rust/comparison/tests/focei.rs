@@ -52,7 +52,7 @@ fn the_program_prints_the_examples() {
 /// The same text, or the shortest file whose texts differ.
 fn compare(program: &Path, bytes: &[u8], met: &mut Met) {
     let printed = focei(bytes);
-    if differs(program, bytes) {
+    if run(program, bytes.to_vec()) != printed.text.as_bytes() {
         let bytes = simplest(
             &bytes.to_vec(),
             |bytes| shorter(bytes),
@@ -101,7 +101,7 @@ fn files_of_records() {
     let begun = Instant::now();
     let program = program("focei");
     let mut met = Met::default();
-    for seed in 0..7_200 {
+    for seed in 0..5_100 {
         let random = &mut Random::new(0xf0ce1 + seed);
         let kind = KINDS[seed as usize % KINDS.len()];
         compare(&program, &draw(random, kind), &mut met);
@@ -113,8 +113,10 @@ fn files_of_records() {
     hold(&met);
 }
 
+/// 1 is met by the examples. The other numbers cannot come: theta is 1, replies
+/// are whole, and times stay as they are.
 fn hold(met: &Met) {
-    met.hold_refusals(10, &[1, 4, 6, 11, 12, 13, 14]);
+    met.hold_refusals(10, &[4, 6, 11, 12, 13, 14, 18]);
     met.hold(100, &["20", "finished", "several subjects"]);
     met.hold(
         20,

@@ -49,8 +49,13 @@ mod recording {
     /// Sessions that the record is chosen from.
     const SEEDS: u64 = 20_000;
 
-    /// A session that is taken for nothing but its shortness has no more words.
-    const SHORT: usize = 220;
+    /// Sessions of a kind, so many, that have no more than so many words.
+    const SHORT: [(&str, usize, usize); 4] = [
+        ("finished with one effect", 50, 350),
+        ("finished with two effects", 20, 450),
+        ("refused after subjects that passed", 5, 600),
+        ("", 300, 150),
+    ];
 
     #[derive(Default)]
     pub struct Recorded {
@@ -64,11 +69,15 @@ mod recording {
     /// short ones.
     pub fn all() -> Recorded {
         let mut recorded = Recorded::default();
-        let mut seeds = shortest();
-        let others = (SEEDS..).filter(|seed| words(&told(*seed)) <= SHORT);
-        seeds.extend(others.take(400));
-        for seed in seeds {
+        for seed in shortest() {
             recorded.take(&told(seed));
+        }
+        for (number, (name, count, most)) in SHORT.into_iter().enumerate() {
+            let seeds = SEEDS * (number as u64 + 1)..;
+            let short = seeds.map(told).filter(|told| {
+                words(told) <= most && (name.is_empty() || told.met.counts.contains_key(name))
+            });
+            short.take(count).for_each(|told| recorded.take(&told));
         }
         let numbers = (1..20).filter(|number| *number != 15);
         recorded.met.hold_refusals(1, &numbers.collect::<Vec<_>>());
