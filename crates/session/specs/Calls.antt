@@ -9,6 +9,7 @@ use Rattle.float64.specs.Pick.{pick}
 use Rattle.matrix.specs.declared.Pair.{Pair}
 use Rattle.evaluation.specs.Observations.{smaller}
 use Rattle.evaluation.specs.Subject.{begin, finish}
+use Rattle.evaluation.specs.declared.AdditiveSd.the-variants.{Own}
 use Rattle.evaluation.specs.declared.Check.{Check}
 use Rattle.evaluation.specs.declared.Evaluation.{Evaluation}
 use Rattle.evaluation.specs.declared.Evaluation.the-variants as E
@@ -145,6 +146,10 @@ trialBy setup state rows = record {
 -- no observation is added
 abbrev pub nothingAdmitted : Awaited → Trial → ℕ → Admitted
 nothingAdmitted awaited trial number = record { awaited = awaited; from = 0; to = 0; evaluation = E.Refused number; trial = trial }
+
+-- a reply to no state
+abbrev pub unadmitted : Admitted
+unadmitted = nothingAdmitted unawaited (record { individual = record { first = word 0; second = word 0 }; «additive_sd» = Own; width = 0; effects = 0; block = 0 }) 19
 
 unfoldable pub admittedBy : Setup → List ℕ → ℕ → State → List ℕ → Awaited → Admission → Admitted
 admittedBy setup counts n state reply awaited A.Accepted =

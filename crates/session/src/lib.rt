@@ -5,15 +5,17 @@ ghost use mathlib.Core.Path.{_≡_};
 ghost use Prim.Native.Nat.{_+_};
 ghost use lib.ListN.{length};
 ghost use Rattle.evaluation.specs.Observations.{smaller};
-ghost use Rattle.session.specs.Calls.{lentBy, refusedAs, startOf, firstState, admitObjective, unawaited, awaitedAt, admitAwaited, trialBy, nothingAdmitted, admitReply, shrinkage};
-ghost use Rattle.session.specs.Session.{countWithin, searchWithin, searchWithin2, isPlaced, isStanding};
+ghost use Rattle.session.specs.Calls.{lentBy, refusedAs, startOf, firstState, admitObjective, unawaited, awaitedAt, admitAwaited, trialBy, nothingAdmitted, unadmitted, admitReply, shrinkage};
+ghost use Rattle.session.specs.Session.{firstCheck, countWithin, searchWithin, searchWithin2, isPlaced, isStanding};
 use admission::Admission;
 use admission::Lent;
 use admission::Parameters;
 use admission::Setup;
 use cache::CacheOrder;
+use evaluation::AdditiveSd;
 use evaluation::Check;
 use evaluation::Evaluation;
+use evaluation::Position;
 use evaluation::Trial;
 use matrix::Pair;
 use mode::population_focei::Search;
@@ -156,6 +158,29 @@ pub fn lent_by(
         warm: warm.len(),
         results: results.len(),
     }
+}
+
+// The same by the numbers alone.
+pub fn lent_of(observations: usize, cache: usize, work: usize, warm: usize, results: usize) -> Lent
+    ensures { λ r. ⌜ r ≡ lentBy observations cache work warm results ⌝ }
+{
+    Lent {
+        observations,
+        work,
+        cache,
+        warm,
+        results,
+    }
+}
+
+// The check of the observations begins at the first.
+pub fn first_check() -> Check
+    ensures { λ r. ⌜ r ≡ firstCheck ⌝ }
+{
+    Check::Sound(Position {
+        subject: 0,
+        observation: 0,
+    })
 }
 
 // A refusal that alters nothing.
@@ -372,6 +397,23 @@ fn nothing_admitted(awaited: Awaited, trial: Trial, number: u32) -> Admitted
         evaluation: Evaluation::Refused(number),
         trial,
     }
+}
+
+// A reply to no state.
+pub fn unadmitted() -> Admitted
+    ensures { λ r. ⌜ r ≡ unadmitted ⌝ }
+{
+    let trial = Trial {
+        individual: Pair {
+            first: 0.0,
+            second: 0.0,
+        },
+        additive_sd: AdditiveSd::Own,
+        width: 0,
+        effects: 0,
+        block: 0,
+    };
+    nothing_admitted(unawaited(), trial, 19)
 }
 
 // ---- a finished objective
