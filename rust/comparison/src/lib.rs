@@ -35,6 +35,8 @@ pub mod searches;
 pub mod searches_2d;
 #[cfg(source_at_hand)]
 pub mod session_draws;
+#[cfg(source_at_hand)]
+pub mod session_example;
 pub mod session_memory;
 pub mod session_met;
 #[cfg(source_at_hand)]

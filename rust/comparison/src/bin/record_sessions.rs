@@ -38,6 +38,7 @@ fn main() -> ExitCode {
 mod recording {
     use comparison::random::Random;
     use comparison::session_draws::draw;
+    use comparison::session_example::printed_example;
     use comparison::session_met::Met;
     use comparison::session_model::{tell, Told};
     use comparison::session_replay::{answered, program};
@@ -65,10 +66,13 @@ mod recording {
         pub met: Met,
     }
 
-    /// For each thing that is met the shortest session that meets it; then other
-    /// short ones.
+    /// Document 01's example with 17 evaluations and with 16; for each thing that
+    /// is met the shortest session that meets it; then other short ones.
     pub fn all() -> Recorded {
         let mut recorded = Recorded::default();
+        for most in [17, 16] {
+            recorded.take(&tell(&printed_example(most)));
+        }
         for seed in shortest() {
             recorded.take(&told(seed));
         }
