@@ -15,6 +15,10 @@ pub mod evaluation_draws;
 pub mod evaluation_met;
 pub mod evaluations;
 pub mod floats;
+#[cfg(source_at_hand)]
+pub mod focei;
+#[cfg(source_at_hand)]
+pub mod focei_draws;
 pub mod guarded;
 pub mod kept;
 pub mod leaves;
@@ -29,6 +33,25 @@ pub mod rules_evaluation;
 pub mod searches;
 #[cfg(source_at_hand)]
 pub mod searches_2d;
+#[cfg(source_at_hand)]
+pub mod session_draws;
+#[cfg(source_at_hand)]
+pub mod session_example;
+pub mod session_memory;
+pub mod session_met;
+#[cfg(source_at_hand)]
+pub mod session_model;
+#[cfg(source_at_hand)]
+pub mod session_original;
+#[cfg(source_at_hand)]
+pub mod session_plan;
+#[cfg(source_at_hand)]
+pub mod session_replay;
+#[cfg(source_at_hand)]
+pub mod session_rules;
+#[cfg(source_at_hand)]
+pub mod session_strays;
+pub mod session_words;
 pub mod simulators;
 pub mod simulators_2d;
 #[cfg(source_at_hand)]

@@ -28,12 +28,24 @@ pub fn draw(random: &mut Random, kind: Kind) -> Trial {
         trial.max_evaluations = random.below(80) as usize;
     }
     trial.warm = warm(random, &trial);
-    if kind.lays_down_the_score() {
-        observe_a_score(random, &mut trial);
-    } else {
-        observe(random, &mut trial);
-    }
+    observe_either(random, &mut trial);
     trial
+}
+
+/// A subject more in the same settings, with a simulator of its own.
+pub fn another(random: &mut Random, kind: Kind, settings: &Trial) -> Trial {
+    let mut trial = settings.clone();
+    trial.model = model(random, kind, trial.eta_bound);
+    observe_either(random, &mut trial);
+    trial
+}
+
+fn observe_either(random: &mut Random, trial: &mut Trial) {
+    if trial.model.kind.lays_down_the_score() {
+        observe_a_score(random, trial);
+    } else {
+        observe(random, trial);
+    }
 }
 
 pub fn eta_bound(random: &mut Random) -> f64 {
@@ -127,7 +139,7 @@ fn patches(random: &mut Random) -> u64 {
     bits & 0x1ffff
 }
 
-fn warm(random: &mut Random, trial: &Trial) -> f64 {
+pub fn warm(random: &mut Random, trial: &Trial) -> f64 {
     let bound = trial.eta_bound;
     let grid = grid_point(bound, random.below(17));
     match random.below(8) {

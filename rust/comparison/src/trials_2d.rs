@@ -40,6 +40,14 @@ pub fn draw(random: &mut Random, kind: Kind2) -> Trial2 {
     trial
 }
 
+/// A subject more in the same settings, with a simulator of its own.
+pub fn another(random: &mut Random, kind: Kind2, settings: &Trial2) -> Trial2 {
+    let mut trial = settings.clone();
+    trial.model = model(random, kind, trial.eta_bound);
+    trial.observations = observe(random, &trial);
+    trial
+}
+
 /// Where the starts are near each other, more of the searches go through all
 /// six of them.
 fn eta_bound(random: &mut Random, kind: Kind2) -> f64 {
@@ -75,7 +83,7 @@ fn omega(random: &mut Random, eta_bound: f64) -> [f64; 3] {
     }
 }
 
-fn warm(random: &mut Random, eta_bound: f64) -> [f64; 2] {
+pub fn warm(random: &mut Random, eta_bound: f64) -> [f64; 2] {
     if random.coin() {
         return [0.; 2];
     }
