@@ -84,7 +84,7 @@ pub extern "C" fn curlewstand_setup(
     let before = tally_now(tally);
     let check = check_lent(setup, observations, counts);
     let n = observations.len();
-    let done = hosting::open(
+    let opened = hosting::open(
         setup,
         before,
         check,
@@ -97,8 +97,8 @@ pub extern "C" fn curlewstand_setup(
         warm,
         results,
     );
-    keep_tally(tally, done.tally);
-    done.number
+    keep_tally(tally, opened.tally);
+    opened.number
 }
 
 // Begins an objective, and runs on until it has a question or an end.
@@ -121,7 +121,7 @@ pub extern "C" fn curlewstand_objective(
     let before = tally_now(tally);
     let check = check_lent(setup, observations, counts);
     let n = observations.len();
-    let done = hosting::begin_objective(
+    let begun = hosting::begin_objective(
         setup,
         parameters,
         before,
@@ -135,8 +135,8 @@ pub extern "C" fn curlewstand_objective(
         warm,
         results,
     );
-    keep_tally(tally, done.tally);
-    done.number
+    keep_tally(tally, begun.tally);
+    begun.number
 }
 
 // A reply, with the tally by value, where `check` is the observations'.
@@ -197,7 +197,7 @@ pub extern "C" fn curlewstand_reply(
 {
     let before = tally_now(tally);
     let check = check_lent(setup, observations, counts);
-    let done = reply_checked(
+    let taken = reply_checked(
         setup,
         before,
         check,
@@ -211,8 +211,8 @@ pub extern "C" fn curlewstand_reply(
         warm,
         results,
     );
-    keep_tally(tally, done.tally);
-    done.number
+    keep_tally(tally, taken.tally);
+    taken.number
 }
 
 // The simulator failed: the objective ends with 8.
@@ -234,7 +234,7 @@ pub extern "C" fn curlewstand_failure(
     let before = tally_now(tally);
     let check = check_lent(setup, observations, counts);
     let n = observations.len();
-    let done = hosting::fail(
+    let failed = hosting::fail(
         setup,
         before,
         check,
@@ -247,6 +247,6 @@ pub extern "C" fn curlewstand_failure(
         warm,
         results,
     );
-    keep_tally(tally, done.tally);
-    done.number
+    keep_tally(tally, failed.tally);
+    failed.number
 }
