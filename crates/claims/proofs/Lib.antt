@@ -5,6 +5,7 @@ pub mod Entries
 pub mod Evaluated
 pub mod Fitting
 pub mod Lengths
+pub mod Opening
 pub mod Plain
 pub mod Points
 pub mod Refined

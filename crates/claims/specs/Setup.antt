@@ -1,0 +1,29 @@
+-- The session that an accepted setup opened, as the code gives it back, is the one that demand 3 speaks of.
+use mathlib.Core.Path.{_≡_}
+use mathlib.Core.List.{List}
+use Prim.Native.Nat.{ℕ}
+use lib.ListN.{length}
+use Rattle.likelihood.specs.declared.population_focei.Observation.{Observation}
+use Rattle.admission.specs.declared.Admission.the-variants.{Accepted}
+use Rattle.admission.specs.declared.Setup.{Setup}
+use Rattle.subjects.specs.declared.Tally.{Tally}
+use Rattle.population.specs.Kept.{words}
+use Rattle.session.specs.Calls.{heldOf, lentBy, openedBy, Setting}
+use Rattle.session.specs.Session.{allChecked, opened, opens}
+use Rattle.session.specs.declared.Opening.the-variants.{Opened}
+use Rattle.session.specs.declared.State.{State}
+
+module _ (setup : Setup) (counts : List ℕ) (observations : List Observation) (tally : Tally) (cache work warm results : List ℕ) where
+  -- what setup gives back, and the words as it leaves them
+  abbrev pub setting : Setting
+  setting = openedBy setup counts (length observations) (allChecked setup counts observations) tally cache work warm results
+
+  -- 1 to 5 pass, and what setup gives back is the state that the session begins with
+  pub record Opens (s : State) : Type 0 where
+    pub passes : opens words setup counts observations (lentBy (length observations) (length cache) (length work) (length warm) (length results)) ≡ Accepted
+    pub begins : heldOf s (setting .begun .tally) (setting .cache) (setting .work) (setting .warm) results
+        ≡ opened words setup counts (lentBy (length observations) (length cache) (length work) (length warm) (length results)) results
+
+abbrev pub EverySetup : Type 0
+EverySetup = (setup : Setup) (counts : List ℕ) (observations : List Observation) (tally : Tally) (cache work warm results : List ℕ) (s : State)
+    → setting setup counts observations tally cache work warm results .begun .opening ≡ Opened s → Opens setup counts observations tally cache work warm results s
