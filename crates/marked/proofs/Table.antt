@@ -13,6 +13,8 @@ use Rattle.float64.specs.Float64.{clamp}
 use Rattle.mode.specs.Rules.{gridPoint, etaTolerance}
 use Rattle.curlewstand.specs.Leaves.{observationOf}
 use Rattle.marked.specs.Marked.{Marked, zero}
+use Rattle.marked.proofs.Computed.{everything}
+use Rattle.marked.proofs.Printed.{with-its-own}
 
 -- a NaN swallows what is added to it
 nan-added : (x : Float) → add binary64 x nan ≡ nan
@@ -30,7 +32,7 @@ unfolding rowTerms pick observationOf
 infinite-row value additive f-eta s = rw (infinite-variance additive s)
 
 pub marked : Marked
-unfolding rowTerms termsAt finiteTerms observationOf pick log logOfWord logAround remainder gridPoint etaTolerance clamp exp expWithin determinant hasNonfiniteEntry inverse inversePositive ofBits toBits ofInt add sub mul div neg lt le
+unfolding everything observationOf
 marked =
     record {
       additive-row = refl;
@@ -46,4 +48,14 @@ marked =
       grid-last = refl;
       tolerance-loose = refl;
       tolerance-tight = refl;
+      bound-16 = λ most. refl;
+      bound-next = λ most. refl;
+      printed = refl;
+      printed-far = refl;
+      printed-empty = refl;
+      with-its-own = with-its-own;
+      printed-bound-16 = refl;
+      printed-bound-next = refl;
+      printed-16 = refl;
+      printed-17 = refl;
     }
