@@ -1,7 +1,8 @@
--- Document 01's program with another setup is the same program. Assumes nothing.
+-- What document 01's program prints, computed; and the program with another setup is the same program. Assumes nothing.
 use mathlib.Core.Path.{_≡_, refl, ap}
-use mathlib.Core.List.{List}
+use mathlib.Core.List.{List, []}
 use Prim.Native.Nat.{ℕ, zero, suc}
+use Rattle.float64.specs.Arithmetic.{word}
 use Rattle.subjects.specs.declared.Step.{Step}
 use Rattle.sessions.specs.Machine.{Ran}
 use Rattle.population.specs.Kept.{words}
@@ -14,6 +15,40 @@ use Rattle.records.specs.declared.Cohort.{Cohort}
 use Rattle.records.specs.declared.Cohort.the-variants as Cohorts
 use Rattle.fitting.specs.Output as O
 use Rattle.marked.specs.Examples as X
+use Rattle.marked.specs.Marked.{four}
+use Rattle.marked.proofs.Computed.{everything}
+
+-- ---- each run by itself: together they take more memory
+
+pub printed : O.output X.example ≡ X.exampleText
+unfolding everything
+printed = refl
+
+pub printed-far : O.output X.far ≡ X.bytes "R 13 0 -\n"
+unfolding everything
+printed-far = refl
+
+pub printed-empty : O.output [] ≡ X.bytes "R 1 - -\n"
+unfolding everything
+printed-empty = refl
+
+pub printed-bound-16 : X.outputWith (X.settingsWith (word 0x4030_0000_0000_0000) 10000) X.example ≡ X.exampleText
+unfolding everything
+printed-bound-16 = refl
+
+pub printed-bound-next : X.outputWith (X.settingsWith (word 0x4030_0000_0000_0001) 10000) X.example ≡ X.bytes "R 3 - -\n"
+unfolding everything
+printed-bound-next = refl
+
+pub printed-16 : X.outputWith (X.settingsWith four 16) X.example ≡ X.bytes "R 6 0 -\n"
+unfolding everything
+printed-16 = refl
+
+pub printed-17 : X.outputWith (X.settingsWith four 17) X.example ≡ X.exampleText
+unfolding everything
+printed-17 = refl
+
+-- ---- another setup
 
 module _ (input : List ℕ) where
   module _ (counts observations : List ℕ) where

@@ -1,20 +1,15 @@
 -- The table of document 01's marked facts, computed. Assumes nothing.
 use mathlib.Core.Path.{_≡_, refl}
 use mathlib.Core.Bool.{Bool}
-use lib.Ieee.{Float, nan, inf, fin, binary64, ofBits, toBits, ofInt, add, sub, mul, div, neg, lt, le}
+use lib.Ieee.{Float, nan, inf, fin, binary64, ofBits, add, mul}
 use Rattle.float64.specs.Pick.{pick}
-use Rattle.libm.specs.Log.{log, logOfWord, logAround, remainder}
-use Rattle.libm.specs.Exp.{exp, expWithin}
-use Rattle.matrix.specs.Matrix.{determinant, hasNonfiniteEntry, inverse, inversePositive}
 use Rattle.likelihood.specs.Terms.{variance}
 use Rattle.float64.specs.Answer.{refused}
-use Rattle.likelihood.specs.RowTerms.{rowTerms, termsAt, finiteTerms}
-use Rattle.float64.specs.Float64.{clamp}
-use Rattle.mode.specs.Rules.{gridPoint, etaTolerance}
+use Rattle.likelihood.specs.RowTerms.{rowTerms}
 use Rattle.curlewstand.specs.Leaves.{observationOf}
 use Rattle.marked.specs.Marked.{Marked, zero}
 use Rattle.marked.proofs.Computed.{everything}
-use Rattle.marked.proofs.Printed.{with-its-own}
+use Rattle.marked.proofs.Printed.{printed, printed-far, printed-empty, printed-bound-16, printed-bound-next, printed-16, printed-17, with-its-own}
 
 -- a NaN swallows what is added to it
 nan-added : (x : Float) → add binary64 x nan ≡ nan
@@ -50,12 +45,13 @@ marked =
       tolerance-tight = refl;
       bound-16 = λ most. refl;
       bound-next = λ most. refl;
-      printed = refl;
-      printed-far = refl;
-      printed-empty = refl;
+      printed = printed;
+      printed-far = printed-far;
+      printed-empty = printed-empty;
+      own-settings = refl;
       with-its-own = with-its-own;
-      printed-bound-16 = refl;
-      printed-bound-next = refl;
-      printed-16 = refl;
-      printed-17 = refl;
+      printed-bound-16 = printed-bound-16;
+      printed-bound-next = printed-bound-next;
+      printed-16 = printed-16;
+      printed-17 = printed-17;
     }

@@ -5,11 +5,10 @@ use Prim.Native.Char.{code}
 use Prim.Native.String.{String}
 use Prim.Native.String as Text
 use lib.Ieee.{Float}
-use lib.ListN.{length, replicate}
+use lib.ListN.{replicate}
 use Rattle.matrix.specs.declared.Pair.{Pair}
 use Rattle.admission.specs.declared.Setup.{Setup}
 use Rattle.admission.specs.declared.Lent.{Lent}
-use Rattle.evaluation.specs.declared.Check.{Check}
 use Rattle.subjects.specs.declared.Place.the-variants.{Nowhere}
 use Rattle.subjects.specs.declared.Step.{Step}
 use Rattle.sessions.specs.Machine.{Ran}

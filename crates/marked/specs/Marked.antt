@@ -64,7 +64,8 @@ pub record Marked : Type 0 where
   -- value 1000, additive 1, proportional 0, base 0, slope 1
   pub printed-far : output far ≡ bytes "R 13 0 -\n"
   pub printed-empty : output [] ≡ bytes "R 1 - -\n"
-  -- with its own setup `outputWith` is the program's, whatever it reads
+  -- with the program's own setup `outputWith` is the program's output, whatever it reads
+  pub own-settings : settingsWith four 10000 ≡ settings
   pub with-its-own : (input : List ℕ) → outputWith settings input ≡ output input
   -- the example with eta_bound 16 and the next float
   pub printed-bound-16 : outputWith (settingsWith (word 0x4030_0000_0000_0000) 10000) example ≡ exampleText
