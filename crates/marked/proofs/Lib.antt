@@ -1,2 +1,4 @@
+pub mod Computed
 pub mod Laws
+pub mod Printed
 pub mod Table

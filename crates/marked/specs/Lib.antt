@@ -1,2 +1,3 @@
--- Document 01's marked facts.
+-- Document 01's marked facts: Marked is the table, Examples what its last facts are about.
+pub mod Examples
 pub mod Marked

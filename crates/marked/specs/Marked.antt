@@ -1,6 +1,9 @@
--- Document 01's marked facts of the layers so far, as one table. The proof is proofs/Table.antt, and src/main.rt holds the code to it.
+-- Document 01's marked facts and its program's printed examples, as one table. The proof is proofs/Table.antt. src/main.rt holds the code of the leaves to it; the code of the program
+-- is `output`, by the contract of `fitting::focei`.
 use mathlib.Core.Path.{_≡_}
 use mathlib.Core.Bool.{Bool}
+use mathlib.Core.List.{List, [], _∷_}
+use Prim.Native.Nat.{ℕ}
 use lib.Ieee.{Float, inf}
 use Rattle.float64.specs.Arithmetic.{word, half, one, two}
 use Rattle.libm.specs.Log.{log}
@@ -10,6 +13,11 @@ use Rattle.float64.specs.Answer.{given, refused}
 use Rattle.likelihood.specs.RowTerms.{rowTerms}
 use Rattle.mode.specs.Rules.{gridPoint, etaTolerance}
 use Rattle.curlewstand.specs.Leaves.{observationOf}
+use Rattle.admission.specs.Admission.{checks}
+use Rattle.admission.specs.declared.Admission.the-variants.{Accepted, Refused}
+use Rattle.session.specs.Session.{firstCheck}
+use Rattle.fitting.specs.Output.{settings, output}
+use Rattle.marked.specs.Examples.{bytes, settingsWith, outputWith, example, exampleText, far, room}
 
 abbrev pub zero : Float
 zero = word 0
@@ -48,3 +56,20 @@ pub record Marked : Type 0 where
   -- the tolerance from 1e-3: 1e-8; from 1e-9: 1e-12
   pub tolerance-loose : etaTolerance (word 0x3f50_624d_d2f1_a9fc) ≡ word 0x3e45_798e_e230_8c3a
   pub tolerance-tight : etaTolerance (word 0x3e11_2e0b_e826_d695) ≡ word 0x3d71_9799_812d_ea11
+  -- eta_bound 16 passes, the next float gets 3; whatever max_evaluations is
+  pub bound-16 : (most : ℕ) → checks (settingsWith (word 0x4030_0000_0000_0000) most) (1 ∷ []) room firstCheck ≡ Accepted
+  pub bound-next : (most : ℕ) → checks (settingsWith (word 0x4030_0000_0000_0001) most) (1 ∷ []) room firstCheck ≡ Refused 3
+  -- what the program prints of the example
+  pub printed : output example ≡ exampleText
+  -- value 1000, additive 1, proportional 0, base 0, slope 1
+  pub printed-far : output far ≡ bytes "R 13 0 -\n"
+  pub printed-empty : output [] ≡ bytes "R 1 - -\n"
+  -- with the program's own setup `outputWith` is the program's output, whatever it reads
+  pub own-settings : settingsWith four 10000 ≡ settings
+  pub with-its-own : (input : List ℕ) → outputWith settings input ≡ output input
+  -- the example with eta_bound 16 and the next float
+  pub printed-bound-16 : outputWith (settingsWith (word 0x4030_0000_0000_0000) 10000) example ≡ exampleText
+  pub printed-bound-next : outputWith (settingsWith (word 0x4030_0000_0000_0001) 10000) example ≡ bytes "R 3 - -\n"
+  -- max_evaluations 16 in the example gets 6, 17 passes
+  pub printed-16 : outputWith (settingsWith four 16) example ≡ bytes "R 6 0 -\n"
+  pub printed-17 : outputWith (settingsWith four 17) example ≡ exampleText
