@@ -1,0 +1,160 @@
+/* Curlewstand: whole sessions of FOCEI population fits, proved.
+ *
+ * Link target/staticlib/libhost.a, which `rt staticlib host` writes. The functions keep nothing of their
+ * own: all that a session has stands in what the host lends. Between the calls of a session the host
+ * changes none of it but the reply, and between objectives the warm starts.
+ *
+ * A slice is a pointer and a number of elements. A pointer of an empty slice is not null either. What is
+ * lent to be written overlaps nothing else that is lent to the same call. Floats in words are their bits.
+ *
+ * Every call returns, whatever the floats, words, lengths and the order of calls. Its result is 0, or the
+ * number of a refusal:
+ *
+ *   1   effects 1 or 2; subjects 1 to 4,096; observations at least 1 for each subject, at most 100,000 in
+ *       all, as many as the counts say
+ *   2   omega: each diagonal entry from 2^-20 to 2^20; with two effects symmetric, with an inverse
+ *   3   eta_bound 2^-10 to 16; gradient_tolerance finite, above 0; width 1 to 64; k 1 to 100,000; an
+ *       override finite, not below 0, and none with two effects
+ *   4   an observation: output below width, value finite, both deviations finite, not below 0, not both 0
+ *   5   too few words: work 12 for each observation of the largest subject, cache 24 for each of k, warm one
+ *       for each subject and effect, results 2 for each observation and 3 for each subject
+ *   6   no evaluation is left
+ *   7   an individual value theta * exp(eta) that is not finite and above 0
+ *   8   no reply, or not whole rows
+ *   9   more values and derivatives than the output budget
+ *   10  an observation's row is missing
+ *   11  a variance that is not finite and above 0, or a sensitivity or a prediction that is not finite
+ *   12  terms or sums that are not finite
+ *   13  no mode within the bound
+ *   14  several modes
+ *   15  the search has not settled
+ *   16  no positive curvature at the mode
+ *   17  times or sides that differ between eta zero and the mode
+ *   18  the objective is not finite
+ *   19  no such call is due, or the state or the tally is none of a session's
+ *
+ * Refusals 1 to 5 and 19 alter nothing but the answer. The others end the objective: results of subjects
+ * past 17 stay written, the rest is untouched; tally, cache and warm words are as reached; the work words
+ * are zeroed, as where it finishes. */
+#ifndef CURLEWSTAND_H
+#define CURLEWSTAND_H
+
+#include <stdbool.h>
+#include <stddef.h>
+#include <stdint.h>
+
+#ifdef __cplusplus
+extern "C" {
+#endif
+
+/* The words of a session's state and of an answer. */
+#define CURLEWSTAND_STATE_WORDS 63
+#define CURLEWSTAND_ANSWER_WORDS 5
+
+/* The first word of an answer, and what the other four are. */
+enum curlewstand_kind {
+    CURLEWSTAND_ASKED = 0,   /* a reply is awaited: eta, second eta, individual value, second one */
+    CURLEWSTAND_ENDED = 1,   /* the objective, and zeros; for a setup zeros alone */
+    CURLEWSTAND_REFUSED = 2, /* the number, a place, the subject, the observation */
+};
+
+/* The place of a refusal: the third word of its answer. */
+enum curlewstand_place {
+    CURLEWSTAND_NOWHERE = 0,
+    CURLEWSTAND_SUBJECT = 1,
+    CURLEWSTAND_OBSERVATION = 2, /* counted from 0 within its subject */
+};
+
+/* What a session is given: `additive` overrides the observations' own deviations where `has_additive`.
+ * With one effect omega_00 alone is looked at. */
+struct curlewstand_setup {
+    uint32_t effects;
+    double omega_00, omega_01, omega_10, omega_11;
+    double eta_bound;
+    double gradient_tolerance;
+    uint32_t width;
+    size_t k;
+    bool has_additive;
+    double additive;
+    uint32_t output_budget;
+    uint32_t max_evaluations;
+};
+
+/* What may change with each objective: theta, and with one effect omega and the override. */
+struct curlewstand_parameters {
+    double theta, theta_2;
+    double omega;
+    bool has_additive;
+    double additive;
+};
+
+struct curlewstand_observation {
+    size_t output;
+    size_t row;
+    double value, additive, proportional;
+};
+
+/* The evaluations since setup, and the rows that are kept. */
+struct curlewstand_tally {
+    uint32_t calls;
+    size_t cached_rows;
+};
+
+/* Opens a session: tally, cache, work and warm words are zeroed, and the state is written. */
+uint32_t curlewstand_setup(struct curlewstand_setup setup,
+                           const struct curlewstand_observation *observations, size_t n_observations,
+                           const uint64_t *counts, size_t n_counts,
+                           struct curlewstand_tally *tally,
+                           uint64_t *state, size_t n_state,
+                           uint64_t *answer, size_t n_answer,
+                           uint64_t *cache, size_t n_cache,
+                           uint64_t *work, size_t n_work,
+                           uint64_t *warm, size_t n_warm,
+                           const uint64_t *results, size_t n_results);
+
+/* Begins an objective, and runs on through kept evaluations until it asks for one or ends. */
+uint32_t curlewstand_objective(struct curlewstand_setup setup,
+                               struct curlewstand_parameters parameters,
+                               const struct curlewstand_observation *observations, size_t n_observations,
+                               const uint64_t *counts, size_t n_counts,
+                               struct curlewstand_tally *tally,
+                               uint64_t *state, size_t n_state,
+                               uint64_t *answer, size_t n_answer,
+                               const uint64_t *cache, size_t n_cache,
+                               uint64_t *work, size_t n_work,
+                               uint64_t *warm, size_t n_warm,
+                               uint64_t *results, size_t n_results);
+
+/* The simulator's reply: whole rows of words, each time, side (0 pre, any other post), `width` values, then
+ * `width` derivatives by each individual value. Runs on as the objective does.
+ *
+ * Results are three words for each subject, eta, second eta and negative log likelihood, and after the last
+ * subject two for each observation, its predictions at eta zero and at the mode. */
+uint32_t curlewstand_reply(struct curlewstand_setup setup,
+                           const struct curlewstand_observation *observations, size_t n_observations,
+                           const uint64_t *counts, size_t n_counts,
+                           const uint64_t *reply, size_t n_reply,
+                           struct curlewstand_tally *tally,
+                           uint64_t *state, size_t n_state,
+                           uint64_t *answer, size_t n_answer,
+                           uint64_t *cache, size_t n_cache,
+                           uint64_t *work, size_t n_work,
+                           uint64_t *warm, size_t n_warm,
+                           uint64_t *results, size_t n_results);
+
+/* The simulator failed: the objective ends with 8. */
+uint32_t curlewstand_failure(struct curlewstand_setup setup,
+                             const struct curlewstand_observation *observations, size_t n_observations,
+                             const uint64_t *counts, size_t n_counts,
+                             struct curlewstand_tally *tally,
+                             uint64_t *state, size_t n_state,
+                             uint64_t *answer, size_t n_answer,
+                             const uint64_t *cache, size_t n_cache,
+                             uint64_t *work, size_t n_work,
+                             const uint64_t *warm, size_t n_warm,
+                             const uint64_t *results, size_t n_results);
+
+#ifdef __cplusplus
+}
+#endif
+#endif

@@ -1,0 +1,94 @@
+/* A session from C: setup, an objective of two subjects, the same again from kept evaluations, a call that
+ * is not due, and a simulator that fails. Exits with 0 where all of it is as document 01 says. */
+#include "curlewstand.h"
+
+#include <stdio.h>
+#include <string.h>
+
+enum { SUBJECTS = 2, K = 64 };
+
+static struct curlewstand_tally tally = {7, 7};
+static uint64_t state[CURLEWSTAND_STATE_WORDS], answer[CURLEWSTAND_ANSWER_WORDS];
+static uint64_t cache[24 * K], work[12], warm[SUBJECTS], results[5 * SUBJECTS];
+static const uint64_t counts[SUBJECTS] = {1, 1};
+static const struct curlewstand_observation observations[SUBJECTS] = {{0, 0, 1.2, 1., 0.}, {0, 0, 0.7, 1., 0.}};
+static const struct curlewstand_setup setup = {
+    .effects = 1, .omega_00 = 1., .eta_bound = 4., .gradient_tolerance = 1e-4, .width = 1, .k = K,
+    .output_budget = 100, .max_evaluations = 1000,
+};
+static int failures;
+
+static double number(uint64_t word) {
+    double x;
+    memcpy(&x, &word, sizeof x);
+    return x;
+}
+
+static uint64_t word(double x) {
+    uint64_t w;
+    memcpy(&w, &x, sizeof w);
+    return w;
+}
+
+static void expect(bool holds, const char *what) {
+    if (!holds) {
+        fprintf(stderr, "session.c: %s does not hold\n", what);
+        failures++;
+    }
+}
+
+#define EXPECT(fact) expect(fact, #fact)
+
+static uint32_t objective(double theta) {
+    struct curlewstand_parameters parameters = {.theta = theta, .omega = 1.};
+    return curlewstand_objective(setup, parameters, observations, SUBJECTS, counts, SUBJECTS, &tally,
+                                 state, CURLEWSTAND_STATE_WORDS, answer, CURLEWSTAND_ANSWER_WORDS,
+                                 cache, 24 * K, work, 12, warm, SUBJECTS, results, 5 * SUBJECTS);
+}
+
+static uint32_t reply(const uint64_t *words, size_t n) {
+    return curlewstand_reply(setup, observations, SUBJECTS, counts, SUBJECTS, words, n, &tally,
+                             state, CURLEWSTAND_STATE_WORDS, answer, CURLEWSTAND_ANSWER_WORDS,
+                             cache, 24 * K, work, 12, warm, SUBJECTS, results, 5 * SUBJECTS);
+}
+
+int main(void) {
+    EXPECT(curlewstand_setup(setup, observations, SUBJECTS, counts, SUBJECTS, &tally, state, CURLEWSTAND_STATE_WORDS,
+                             answer, CURLEWSTAND_ANSWER_WORDS, cache, 24 * K, work, 12, warm, SUBJECTS,
+                             results, 5 * SUBJECTS) == 0);
+    EXPECT(answer[0] == CURLEWSTAND_ENDED && tally.calls == 0 && tally.cached_rows == 0);
+
+    /* the simulator predicts the individual value itself */
+    uint32_t refused = objective(1.), questions = 0;
+    while (refused == 0 && answer[0] == CURLEWSTAND_ASKED) {
+        uint64_t row[4] = {word(0.), 0, answer[3], word(1.)};
+        questions++;
+        refused = reply(row, 4);
+    }
+    EXPECT(refused == 0 && answer[0] == CURLEWSTAND_ENDED);
+    EXPECT(questions <= 82 * SUBJECTS && tally.calls == questions);
+    double value = number(answer[1]);
+    EXPECT(number(results[0]) > 0. && number(results[3]) < 0.);
+    EXPECT(number(warm[0]) == number(results[0]) && number(warm[1]) == number(results[3]));
+
+    /* a reply that nobody asked for alters nothing */
+    EXPECT(reply(counts, SUBJECTS) == 19);
+    EXPECT(answer[0] == CURLEWSTAND_REFUSED && answer[1] == 19 && answer[2] == CURLEWSTAND_NOWHERE);
+
+    /* the same objective again, from kept evaluations alone: the warm trials are its only questions */
+    refused = objective(1.);
+    while (refused == 0 && answer[0] == CURLEWSTAND_ASKED) {
+        uint64_t row[4] = {word(0.), 0, answer[3], word(1.)};
+        refused = reply(row, 4);
+    }
+    EXPECT(refused == 0 && number(answer[1]) == value);
+
+    /* a simulator that fails */
+    EXPECT(objective(2.) == 0 && answer[0] == CURLEWSTAND_ASKED);
+    EXPECT(curlewstand_failure(setup, observations, SUBJECTS, counts, SUBJECTS, &tally, state, CURLEWSTAND_STATE_WORDS,
+                               answer, CURLEWSTAND_ANSWER_WORDS, cache, 24 * K, work, 12, warm, SUBJECTS,
+                               results, 5 * SUBJECTS) == 8);
+    EXPECT(answer[2] == CURLEWSTAND_SUBJECT && answer[3] == 0);
+    if (failures == 0) printf("session.c: %u evaluations, objective %.6f\n", tally.calls, value);
+    return failures != 0;
+}
