@@ -1,11 +1,11 @@
-//! Links the four static libraries, of the leaves, of the searches, of the kept
-//! evaluations and of the evaluations themselves, from the repository's
+//! Links the five static libraries, of the leaves, of the searches, of the kept
+//! evaluations, of the evaluations themselves and of whole sessions, from the repository's
 //! `target/staticlib`, or from the directory named by `CURLEWSTAND_LIB_DIR`.
 
 use std::env;
 use std::path::{Path, PathBuf};
 
-const LIBRARIES: [&str; 4] = ["curlewstand", "searches", "kept", "evaluations"];
+const LIBRARIES: [&str; 5] = ["curlewstand", "searches", "kept", "evaluations", "host"];
 
 fn main() {
     println!("cargo::rerun-if-changed=build.rs");

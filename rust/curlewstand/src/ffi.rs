@@ -45,6 +45,58 @@ pub struct Question {
     pub block: usize,
 }
 
+/// What a session is given, see `session::Setup`.
+#[repr(C)]
+#[derive(Clone, Copy, Debug, PartialEq)]
+pub struct SessionSetup {
+    /// 1 or 2.
+    pub effects: u32,
+    /// Omega by rows. With one effect its first entry alone is looked at.
+    pub omega_00: f64,
+    pub omega_01: f64,
+    pub omega_10: f64,
+    pub omega_11: f64,
+    /// The largest absolute eta.
+    pub eta_bound: f64,
+    /// The outer fit's.
+    pub gradient_tolerance: f64,
+    /// How many outputs a row has.
+    pub width: u32,
+    /// The most rows that are kept.
+    pub k: usize,
+    /// Whether there is an override.
+    pub has_additive: bool,
+    /// The override, in place of each observation's own.
+    pub additive: f64,
+    /// The most values and derivatives of a reply.
+    pub output_budget: u32,
+    /// The most evaluations of the session.
+    pub max_evaluations: u32,
+}
+
+/// What may change with each objective, see `session::Parameters`.
+#[repr(C)]
+#[derive(Clone, Copy, Debug, PartialEq)]
+pub struct SessionParameters {
+    /// The typical values; with one effect the second is not looked at.
+    pub theta: f64,
+    pub theta_2: f64,
+    /// With one effect its variance.
+    pub omega: f64,
+    /// Whether there is an override.
+    pub has_additive: bool,
+    /// The override, in place of each observation's own.
+    pub additive: f64,
+}
+
+/// The evaluations since setup, and the rows that are kept.
+#[repr(C)]
+#[derive(Clone, Copy, Debug, Default, PartialEq, Eq)]
+pub struct Tally {
+    pub calls: u32,
+    pub cached_rows: usize,
+}
+
 extern "C" {
     /// Every pattern is accepted; that of a NaN gives a NaN.
     pub fn curlewstand_from_word(word: u64) -> f64;
@@ -243,5 +295,93 @@ extern "C" {
         work_len: usize,
         out: *mut u64,
         out_len: usize,
+    ) -> u32;
+    /// Opens a session; 0, or 1 to 5 or 19. See include/curlewstand.h, also for
+    /// the three below.
+    pub fn curlewstand_setup(
+        setup: SessionSetup,
+        observations: *const Observation,
+        observations_len: usize,
+        counts: *const u64,
+        counts_len: usize,
+        tally: *mut Tally,
+        state: *mut u64,
+        state_len: usize,
+        answer: *mut u64,
+        answer_len: usize,
+        cache: *mut u64,
+        cache_len: usize,
+        work: *mut u64,
+        work_len: usize,
+        warm: *mut u64,
+        warm_len: usize,
+        results: *const u64,
+        results_len: usize,
+    ) -> u32;
+    /// Begins an objective; 0, or the number of a refusal.
+    pub fn curlewstand_objective(
+        setup: SessionSetup,
+        parameters: SessionParameters,
+        observations: *const Observation,
+        observations_len: usize,
+        counts: *const u64,
+        counts_len: usize,
+        tally: *mut Tally,
+        state: *mut u64,
+        state_len: usize,
+        answer: *mut u64,
+        answer_len: usize,
+        cache: *const u64,
+        cache_len: usize,
+        work: *mut u64,
+        work_len: usize,
+        warm: *mut u64,
+        warm_len: usize,
+        results: *mut u64,
+        results_len: usize,
+    ) -> u32;
+    /// Takes a reply; 0, or the number of a refusal.
+    pub fn curlewstand_reply(
+        setup: SessionSetup,
+        observations: *const Observation,
+        observations_len: usize,
+        counts: *const u64,
+        counts_len: usize,
+        reply: *const u64,
+        reply_len: usize,
+        tally: *mut Tally,
+        state: *mut u64,
+        state_len: usize,
+        answer: *mut u64,
+        answer_len: usize,
+        cache: *mut u64,
+        cache_len: usize,
+        work: *mut u64,
+        work_len: usize,
+        warm: *mut u64,
+        warm_len: usize,
+        results: *mut u64,
+        results_len: usize,
+    ) -> u32;
+    /// The simulator failed; 8, or the number of an earlier refusal.
+    pub fn curlewstand_failure(
+        setup: SessionSetup,
+        observations: *const Observation,
+        observations_len: usize,
+        counts: *const u64,
+        counts_len: usize,
+        tally: *mut Tally,
+        state: *mut u64,
+        state_len: usize,
+        answer: *mut u64,
+        answer_len: usize,
+        cache: *const u64,
+        cache_len: usize,
+        work: *mut u64,
+        work_len: usize,
+        warm: *const u64,
+        warm_len: usize,
+        results: *const u64,
+        results_len: usize,
     ) -> u32;
 }

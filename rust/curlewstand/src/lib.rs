@@ -1,12 +1,14 @@
 //! Curlewstand for Rust: safe functions over the static libraries, which are
-//! one each for the leaves, the searches, the kept evaluations and the
-//! evaluations themselves.
+//! one each for the leaves, the searches, the kept evaluations, the evaluations
+//! themselves and whole sessions.
 
 pub mod cache;
 pub mod evaluation;
 pub mod ffi;
 pub mod mode;
 pub mod mode_2d;
+pub mod refusal;
+pub mod session;
 
 use ffi::*;
 
