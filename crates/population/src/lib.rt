@@ -324,10 +324,10 @@ pub fn receive(
 ) -> Received
     ensures { λ r. ⌜ received r (now (cache .exit)) (now (work .exit)) ≡ receive words fit (now (counts .entry)) progress tally eta sums (cacheOf (now (cache .entry)) order) (now (work .entry)) ⌝ }
 {
+    let terms = subjects::terms_of(sums);
     let rows = rows_of(counts, progress.subject);
     let key = subjects::key_of(fit, progress.subject, eta);
     let trial = work::block(rows, work::TRIAL);
-    let terms = subjects::terms_of(sums);
     let kept = cache::insert(cache, fit.k, order, key, terms, rows, work, trial);
     let after = take(fit, rows, progress, eta, sums, work);
     let calls = tally.calls;

@@ -14,7 +14,7 @@ same-length-2 c = search needs
 returns : tie.Need-returns
 returns c =
     let kept = c .before .before .before .before .before .before .before .before in
-    receives _ _ _ _ _ _ _ _ _ (kept .before .before .before .before .before .before .rows-of .ensures) (kept .before .before .before .before .before .key-of .ensures) (kept .before .before .before .before .block .ensures) (kept .before .before .before .terms-of .ensures) (kept .insert .ensures) (c .before .before .before .before .take .ensures) (c .cached-rows .ensures)
+    receives _ _ _ _ _ _ _ _ _ (kept .before .before .before .before .before .rows-of .ensures) (kept .before .before .before .before .key-of .ensures) (kept .before .before .before .block .ensures) (kept .before .before .before .before .before .before .terms-of .ensures) (kept .insert .ensures) (c .before .before .before .before .take .ensures) (c .cached-rows .ensures)
 
 pub receive-spec : {M : Type 1} → statement M
 receive-spec = tie.close (tie.spec free free free free free free free same-length same-length-2 returns)
