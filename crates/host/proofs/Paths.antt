@@ -7,7 +7,7 @@ use Rattle.likelihood.specs.declared.population_focei.Observation.{Observation}
 use Rattle.evaluation.specs.Observations.{checkObservations}
 use Rattle.evaluation.specs.declared.Check.{Check}
 use Rattle.session.specs.Session.{firstCheck, allChecked}
-use Rattle.calls.proofs.Whole.{whole-check}
+use Rattle.runs.proofs.Whole.{whole-check}
 use Rattle.hosting.specs.Hosting.{setupOf}
 use Rattle.hosting.specs.declared.SessionSetup.{SessionSetup}
 

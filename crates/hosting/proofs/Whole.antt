@@ -20,7 +20,7 @@ use Rattle.session.specs.Session.{Held, Call, allChecked, enterObjective, enter
 use Rattle.session.specs.declared.Admitted.{Admitted}
 use Rattle.session.specs.declared.State.{State}
 use Rattle.session_words.specs.SessionWords.{loadedState}
-use Rattle.calls.proofs.Whole.{objective-call, failure-call, reply-call}
+use Rattle.runs.proofs.Whole.{objective-call, failure-call, reply-call}
 use Rattle.hosting.specs.Hosting.{Out, did, unknown, withState, openWith, objectiveWith, failureWith, admitWith, finishWith, setupOver, callOver}
 
 module _ (setup : Setup) (counts : List ℕ) (observations : List Observation) (tally : Tally) (state answer cache work warm results : List ℕ) where

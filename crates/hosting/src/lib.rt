@@ -399,7 +399,7 @@ pub fn finish_reply(
 {
     match session_words::load(state) {
         LoadedState::Given(at) => {
-            let called = calls::finish_reply(
+            let called = replies::finish_reply(
                 setup_of(setup),
                 at,
                 tally,

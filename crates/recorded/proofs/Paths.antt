@@ -25,7 +25,7 @@ use Rattle.session.specs.Calls.{heldOf, entered, lentBy, Setting, openedBy, adm
 use Rattle.session.specs.Session.{Held, objective, failure, firstCheck, allChecked, enterObjective, enterFailure}
 use Rattle.session.specs.declared.Admitted.{Admitted}
 use Rattle.session.specs.declared.State.{State}
-use Rattle.calls.proofs.Whole.{objective-call, failure-call, reply-call}
+use Rattle.runs.proofs.Whole.{objective-call, failure-call, reply-call}
 use Rattle.recorded.specs.Recorded.{observationIn, observationsFrom, observationsOf, smaller, callOf, replyOf, openOf}
 
 -- ---- one observation

@@ -199,7 +199,7 @@ pub fn reply(
         reply,
         work,
     );
-    calls::finish_reply(
+    replies::finish_reply(
         setup,
         state,
         tally,

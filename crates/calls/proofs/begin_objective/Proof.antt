@@ -5,7 +5,7 @@ use Rattle.sessions.specs.Machine.{on}
 use Rattle.population.specs.Kept.{words}
 use Rattle.session.specs.Calls.{heldOf}
 use Rattle.session.specs.Session.{begun}
-use Rattle.calls.proofs.Paths.{refused-called, lets-in, keeps-out, unsound-out, objective-enters, objective-starts}
+use Rattle.runs.proofs.Paths.{refused-called, lets-in, keeps-out, unsound-out, objective-enters, objective-starts}
 use Rattle.calls.proofs.begin_objective.Statement.{statement}
 use Rattle.calls.proofs.begin_objective.Tie as tie
 

@@ -6,7 +6,7 @@ use Rattle.subjects.specs.declared.Place.the-variants.{Subject}
 use Rattle.population.specs.Kept.{words}
 use Rattle.session.specs.Calls.{heldOf}
 use Rattle.session.specs.Session.{over}
-use Rattle.calls.proofs.Paths.{refused-called, ended-called, lets-in, keeps-out, unsound-out, failure-enters}
+use Rattle.runs.proofs.Paths.{refused-called, ended-called, lets-in, keeps-out, unsound-out, failure-enters}
 use Rattle.calls.proofs.fail.Statement.{statement}
 use Rattle.calls.proofs.fail.Tie as tie
 

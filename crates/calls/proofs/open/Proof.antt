@@ -1,7 +1,7 @@
 -- `open` meets its contract: each case by its law. Assumes nothing.
 use borrow.Author.Needs.{needs}
 use Rattle.float64.proofs.Laws.{free}
-use Rattle.calls.proofs.Paths.{setup-opens, setup-refused, setup-unsound}
+use Rattle.runs.proofs.Paths.{setup-opens, setup-refused, setup-unsound}
 use Rattle.calls.proofs.open.Statement.{statement}
 use Rattle.calls.proofs.open.Tie as tie
 

@@ -1,9 +1,9 @@
 -- `ended_as` meets its contract: the words by `clear`, and the rest field by field. Assumes nothing.
 use borrow.Author.Needs.{needs}
 use Rattle.float64.proofs.Laws.{free}
-use Rattle.calls.proofs.Paths.{ended-made}
-use Rattle.calls.proofs.ended_as.Statement.{statement}
-use Rattle.calls.proofs.ended_as.Tie as tie
+use Rattle.runs.proofs.Paths.{ended-made}
+use Rattle.runs.proofs.ended_as.Statement.{statement}
+use Rattle.runs.proofs.ended_as.Tie as tie
 
 same-length : tie.Need-same-length
 same-length c = search needs

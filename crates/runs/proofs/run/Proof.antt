@@ -1,9 +1,9 @@
 -- `run` meets its contract: the loop of the step, with the objective's parameters held. Assumes nothing.
 use borrow.Author.Needs.{needs}
 use Rattle.float64.proofs.Laws.{free}
-use Rattle.calls.proofs.Paths.{ran-held}
-use Rattle.calls.proofs.run.Statement.{statement}
-use Rattle.calls.proofs.run.Tie as tie
+use Rattle.runs.proofs.Paths.{ran-held}
+use Rattle.runs.proofs.run.Statement.{statement}
+use Rattle.runs.proofs.run.Tie as tie
 
 same-length : tie.Need-same-length
 same-length c = search needs

@@ -42,7 +42,7 @@ use Rattle.session.specs.Session.{Held, held, Call, firstCheck, isPlaced, isSta
 use Rattle.session.specs.declared.Admitted.{Admitted}
 use Rattle.session.specs.declared.Awaited.{Awaited}
 use Rattle.session.specs.declared.State.{State}
-use Rattle.calls.proofs.Paths.{awaited-enters}
+use Rattle.runs.proofs.Paths.{awaited-enters}
 
 -- ---- all of a list, as a loop from its first to its last takes it
 all-of : (l : List Observation) → take (length l - 0) (drop 0 l) ≡ l

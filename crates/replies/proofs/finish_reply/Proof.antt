@@ -3,9 +3,9 @@ use borrow.Author.Needs.{needs}
 use Rattle.float64.proofs.Laws.{free}
 use mathlib.Core.Path.{refl, _∙_}
 use Rattle.session.specs.Calls.{heldOf}
-use Rattle.calls.proofs.Paths.{refused-called, keeps-out, unsound-out, finish-enters, finish-follows}
-use Rattle.calls.proofs.finish_reply.Statement.{statement}
-use Rattle.calls.proofs.finish_reply.Tie as tie
+use Rattle.runs.proofs.Paths.{refused-called, keeps-out, unsound-out, finish-enters, finish-follows}
+use Rattle.replies.proofs.finish_reply.Statement.{statement}
+use Rattle.replies.proofs.finish_reply.Tie as tie
 
 enum-told : tie.Need-enum-told
 enum-told c = search needs

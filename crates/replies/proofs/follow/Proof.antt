@@ -1,9 +1,9 @@
 -- `follow` meets its contract: each case by its law. Assumes nothing.
 use borrow.Author.Needs.{needs}
 use Rattle.float64.proofs.Laws.{free}
-use Rattle.calls.proofs.Paths.{follows-sums, follows-refusal, follows-refusal-at}
-use Rattle.calls.proofs.follow.Statement.{statement}
-use Rattle.calls.proofs.follow.Tie as tie
+use Rattle.runs.proofs.Paths.{follows-sums, follows-refusal, follows-refusal-at}
+use Rattle.replies.proofs.follow.Statement.{statement}
+use Rattle.replies.proofs.follow.Tie as tie
 
 enum-known-sums : tie.Need-enum-known-sums
 enum-known-sums c = search needs
