@@ -4,7 +4,7 @@
 // gives all that it answers and writes. What is lent to be written must overlap nothing else that is lent
 // to the same call.
 //
-// All that decides anything is by value, in `hosting` and below; here the tally is copied out, the
+// All that decides anything is by value, in `word_calls` and below; here the tally is copied out, the
 // observations are gone through, and the tally is written back.
 ghost use mathlib.Core.Path.{_≡_};
 ghost use Rattle.evaluation.specs.Subject.{evaluating};
@@ -84,7 +84,7 @@ pub extern "C" fn curlewstand_setup(
     let before = tally_now(tally);
     let check = check_lent(setup, observations, counts);
     let n = observations.len();
-    let opened = hosting::open(
+    let opened = word_calls::open(
         setup,
         before,
         check,
@@ -121,7 +121,7 @@ pub extern "C" fn curlewstand_objective(
     let before = tally_now(tally);
     let check = check_lent(setup, observations, counts);
     let n = observations.len();
-    let begun = hosting::begin_objective(
+    let begun = word_calls::begin_objective(
         setup,
         parameters,
         before,
@@ -159,9 +159,9 @@ fn reply_checked(
 {
     let n = observations.len();
     let lent = session::lent_of(n, cache.len(), work.len(), warm.len(), results.len());
-    let admitted = hosting::admit_reply(setup, tally, check, lent, counts, reply, state);
+    let admitted = word_calls::admit_reply(setup, tally, check, lent, counts, reply, state);
     let evaluation = evaluate(observations, admitted, reply, work);
-    hosting::finish_reply(
+    word_calls::finish_reply(
         setup,
         tally,
         admitted,
@@ -234,7 +234,7 @@ pub extern "C" fn curlewstand_failure(
     let before = tally_now(tally);
     let check = check_lent(setup, observations, counts);
     let n = observations.len();
-    let failed = hosting::fail(
+    let failed = word_calls::fail(
         setup,
         before,
         check,

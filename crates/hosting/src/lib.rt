@@ -1,36 +1,25 @@
-// A session's calls as a host makes them that keeps the state and takes the answer as words. The tally goes
-// by value here, and of the observations what was found of them. Each function is defined for all values
-// and words.
+// What crosses to a host that keeps the state and takes the answer as words: the setup and the parameters as
+// it gives them, and a call's answer, state and tally as it gets them. Each function is defined for all
+// values and words.
 //
-// The state is the 63 words of `session_words`. Words that are no state get 19, and so does a setup that is
-// lent fewer. A refusal with 1 to 5 or 19 alters nothing but the answer.
+// The state is the 63 words of `session_words`. A refusal with 1 to 5 or 19 alters nothing but the answer.
 //
 // The answer is five words: 0 for a question, then both etas and both individual values; 1 for an end, then
 // the objective (0 for setup) and zeros; 2 for a refusal, then its number, 0 for no place, 1 for a subject
 // and 2 for an observation, the subject and the observation.
 ghost use mathlib.Core.Path.{_≡_};
 ghost use Rattle.subjects.specs.declared.Place.the-variants.{Nowhere};
-ghost use Rattle.session_words.specs.SessionWords.{loadedState};
-ghost use Rattle.hosting.specs.Hosting.{additiveSd, setupOf, parametersOf, placeWords, answerOf, answered, numberOf, isUnaltered, toldAs, told, noState, opened, out, openWith, objectiveWith, failureWith, admitWith, finishWith};
-use admission::Lent;
+ghost use Rattle.hosting.specs.Hosting.{additiveSd, setupOf, parametersOf, placeWords, answerOf, answered, numberOf, isUnaltered, toldAs, told, noState, opened};
 use admission::Parameters;
 use admission::Setup;
 use evaluation::AdditiveSd;
-use evaluation::Check;
-use evaluation::Evaluation;
 use matrix::Pair;
-use session::Admitted;
 use session::Begun;
 use session::Called;
 use session::Opening;
-use session::State;
-use session_words::LoadedState;
 use subjects::Place;
 use subjects::Step;
 use subjects::Tally;
-
-// The words of a state.
-pub const STATE_WORDS: usize = 63;
 
 // The setup as a host has it: `additive` overrides the observations' own deviations where `has_additive`.
 #[repr(C)]
@@ -86,6 +75,7 @@ fn additive_sd(has_additive: bool, additive: f64) -> AdditiveSd
     AdditiveSd::Own
 }
 
+// The setup as the session has it.
 pub fn setup_of(setup: SessionSetup) -> Setup
     ensures { λ r. ⌜ r ≡ setupOf setup ⌝ }
 {
@@ -106,7 +96,8 @@ pub fn setup_of(setup: SessionSetup) -> Setup
     }
 }
 
-fn parameters_of(parameters: SessionParameters) -> Parameters
+// The parameters as the session has them.
+pub fn parameters_of(parameters: SessionParameters) -> Parameters
     ensures { λ r. ⌜ r ≡ parametersOf parameters ⌝ }
 {
     let additive_sd = additive_sd(parameters.has_additive, parameters.additive);
@@ -206,7 +197,7 @@ fn is_unaltered(number: u32) -> bool
 }
 
 // The answer is written, and the state unless nothing is altered.
-fn told(called: Called, state: &mut [u64], answer: &mut [u64]) -> Done
+pub fn told(called: Called, state: &mut [u64], answer: &mut [u64]) -> Done
     ensures { λ r. ⌜ toldAs r (now (state .exit)) (now (answer .exit)) ≡ told called (now (state .entry)) (now (answer .entry)) ⌝ }
 {
     let step = called.step;
@@ -221,17 +212,16 @@ fn told(called: Called, state: &mut [u64], answer: &mut [u64]) -> Done
     Done { number, tally }
 }
 
-// The words are no state.
-fn no_state(tally: Tally, answer: &mut [u64]) -> Done
+// The words are no state: 19.
+pub fn no_state(tally: Tally, answer: &mut [u64]) -> Done
     ensures { λ r. ⌜ (r ≡ noState tally) × (now (answer .exit) ≡ answered (placeWords 19 Nowhere) (now (answer .entry))) ⌝ }
 {
     write_answer(place_words(19, Place::Nowhere), answer);
     Done { number: 19, tally }
 }
 
-// ---- the calls
-
-fn opened(begun: Begun, state: &mut [u64], answer: &mut [u64]) -> Done
+// A setup: the answer is written, and the state where there is one.
+pub fn opened(begun: Begun, state: &mut [u64], answer: &mut [u64]) -> Done
     ensures { λ r. ⌜ toldAs r (now (state .exit)) (now (answer .exit)) ≡ opened begun (now (state .entry)) (now (answer .entry)) ⌝ }
 {
     let tally = begun.tally;
@@ -253,166 +243,5 @@ fn opened(begun: Begun, state: &mut [u64], answer: &mut [u64]) -> Done
             write_answer(place_words(number, place), answer);
             Done { number, tally }
         }
-    }
-}
-
-pub fn open(
-    setup: SessionSetup,
-    tally: Tally,
-    check: Check,
-    observations: usize,
-    counts: &[u64],
-    state: &mut [u64],
-    answer: &mut [u64],
-    cache: &mut [u64],
-    work: &mut [u64],
-    warm: &mut [u64],
-    results: &[u64],
-) -> Done
-    ensures { λ r. ⌜ out r (now (state .exit)) (now (answer .exit)) (now (cache .exit)) (now (work .exit)) (now (warm .exit)) (now (results .entry)) ≡ openWith (setupOf setup) (now (counts .entry)) observations check tally (now (state .entry)) (now (answer .entry)) (now (cache .entry)) (now (work .entry)) (now (warm .entry)) (now (results .entry)) ⌝ }
-{
-    if state.len() < STATE_WORDS {
-        return no_state(tally, answer);
-    }
-    let own = setup_of(setup);
-    let begun = calls::open(
-        own,
-        tally,
-        check,
-        observations,
-        counts,
-        cache,
-        work,
-        warm,
-        results,
-    );
-    opened(begun, state, answer)
-}
-
-pub fn begin_objective(
-    setup: SessionSetup,
-    parameters: SessionParameters,
-    tally: Tally,
-    check: Check,
-    observations: usize,
-    counts: &[u64],
-    state: &mut [u64],
-    answer: &mut [u64],
-    cache: &[u64],
-    work: &mut [u64],
-    warm: &mut [u64],
-    results: &mut [u64],
-) -> Done
-    ensures { λ r. ⌜ out r (now (state .exit)) (now (answer .exit)) (now (cache .entry)) (now (work .exit)) (now (warm .exit)) (now (results .exit)) ≡ objectiveWith (setupOf setup) (now (counts .entry)) observations check tally (now (state .entry)) (now (answer .entry)) (now (cache .entry)) (now (work .entry)) (now (warm .entry)) (now (results .entry)) (parametersOf parameters) ⌝ }
-{
-    match session_words::load(state) {
-        LoadedState::Given(at) => {
-            let called = calls::begin_objective(
-                setup_of(setup),
-                parameters_of(parameters),
-                at,
-                tally,
-                check,
-                observations,
-                counts,
-                cache,
-                work,
-                warm,
-                results,
-            );
-            told(called, state, answer)
-        }
-        LoadedState::None => no_state(tally, answer),
-    }
-}
-
-pub fn fail(
-    setup: SessionSetup,
-    tally: Tally,
-    check: Check,
-    observations: usize,
-    counts: &[u64],
-    state: &mut [u64],
-    answer: &mut [u64],
-    cache: &[u64],
-    work: &mut [u64],
-    warm: &[u64],
-    results: &[u64],
-) -> Done
-    ensures { λ r. ⌜ out r (now (state .exit)) (now (answer .exit)) (now (cache .entry)) (now (work .exit)) (now (warm .entry)) (now (results .entry)) ≡ failureWith (setupOf setup) (now (counts .entry)) observations check tally (now (state .entry)) (now (answer .entry)) (now (cache .entry)) (now (work .entry)) (now (warm .entry)) (now (results .entry)) ⌝ }
-{
-    match session_words::load(state) {
-        LoadedState::Given(at) => {
-            let called = calls::fail(
-                setup_of(setup),
-                at,
-                tally,
-                check,
-                observations,
-                counts,
-                cache,
-                work,
-                warm,
-                results,
-            );
-            told(called, state, answer)
-        }
-        LoadedState::None => no_state(tally, answer),
-    }
-}
-
-// The first part of a reply. The state is only read.
-pub fn admit_reply(
-    setup: SessionSetup,
-    tally: Tally,
-    check: Check,
-    lent: Lent,
-    counts: &[u64],
-    reply: &[u64],
-    state: &mut [u64],
-) -> Admitted
-    ensures { λ r. ⌜ (r ≡ admitWith (setupOf setup) (now (counts .entry)) lent check tally (now (reply .entry)) (loadedState (now (state .entry)))) × (now (state .exit) ≡ now (state .entry)) ⌝ }
-{
-    match session_words::load(state) {
-        LoadedState::Given(at) => {
-            session::admit_reply(setup_of(setup), at, tally, check, lent, counts, reply)
-        }
-        LoadedState::None => session::unadmitted(),
-    }
-}
-
-// The second part of a reply, with the evaluation that the observations were added to.
-pub fn finish_reply(
-    setup: SessionSetup,
-    tally: Tally,
-    admitted: Admitted,
-    evaluation: Evaluation,
-    counts: &[u64],
-    state: &mut [u64],
-    answer: &mut [u64],
-    cache: &mut [u64],
-    work: &mut [u64],
-    warm: &mut [u64],
-    results: &mut [u64],
-) -> Done
-    ensures { λ r. ⌜ out r (now (state .exit)) (now (answer .exit)) (now (cache .exit)) (now (work .exit)) (now (warm .exit)) (now (results .exit)) ≡ finishWith (setupOf setup) (now (counts .entry)) (admitted .awaited) evaluation tally (now (state .entry)) (now (answer .entry)) (now (cache .entry)) (now (work .entry)) (now (warm .entry)) (now (results .entry)) ⌝ }
-{
-    match session_words::load(state) {
-        LoadedState::Given(at) => {
-            let called = replies::finish_reply(
-                setup_of(setup),
-                at,
-                tally,
-                admitted,
-                evaluation,
-                counts,
-                cache,
-                work,
-                warm,
-                results,
-            );
-            told(called, state, answer)
-        }
-        LoadedState::None => no_state(tally, answer),
     }
 }

@@ -78,10 +78,10 @@ use Rattle.host.proofs.keep_tally as k2
 use Rattle.host.proofs.keep_tally.Symbol as k2-def
 use Rattle.host.proofs.keep_tally.Symbol.{name as #k2}
 use Rattle.host.proofs.keep_tally.Met as k2-thm
-use Rattle.hosting.proofs.fail as j
-use Rattle.hosting.proofs.fail.Symbol as j-def
-use Rattle.hosting.proofs.fail.Symbol.{name as #j}
-use Rattle.hosting.proofs.fail.Met as j-thm
+use Rattle.word_calls.proofs.fail as j
+use Rattle.word_calls.proofs.fail.Symbol as j-def
+use Rattle.word_calls.proofs.fail.Symbol.{name as #j}
+use Rattle.word_calls.proofs.fail.Met as j-thm
 use Rattle.host.proofs.curlewstand_failure.Key.{name as #f}
 use Rattle.host.proofs.curlewstand_failure as f
 use Rattle.host.proofs.curlewstand_failure.Statement as stated
@@ -223,4 +223,4 @@ curlewstand-failure-spec 𝓤 H 𝓜 𝓖 𝓡 =
     (cited 𝓤 H (n-con 𝓤 H (𝓖 .A) (𝓜 .mem) (𝓡 .run)) 𝓜 𝓡 code.env #n n-def.routine code.calls-host·tally-now (n-thm.met 𝓤 H 𝓜 𝓖 𝓡))
     (cited 𝓤 H (c-con 𝓤 H (𝓖 .A) (𝓜 .mem) (𝓡 .run)) 𝓜 𝓡 code.env #c c-def.routine code.calls-host·check-lent (c-thm.met 𝓤 H 𝓜 𝓖 𝓡))
     (cited 𝓤 H (k2-con 𝓤 H (𝓖 .A) (𝓜 .mem) (𝓡 .run)) 𝓜 𝓡 code.env #k2 k2-def.routine code.calls-host·keep-tally (k2-thm.met 𝓤 H 𝓜 𝓖 𝓡))
-    (cited 𝓤 H (j-con 𝓤 H (𝓖 .A) (𝓜 .mem) (𝓡 .run)) 𝓜 𝓡 code.env #j j-def.routine code.calls-hosting·fail (j-thm.met 𝓤 H 𝓜 𝓖 𝓡)))
+    (cited 𝓤 H (j-con 𝓤 H (𝓖 .A) (𝓜 .mem) (𝓡 .run)) 𝓜 𝓡 code.env #j j-def.routine code.calls-word-calls·fail (j-thm.met 𝓤 H 𝓜 𝓖 𝓡)))

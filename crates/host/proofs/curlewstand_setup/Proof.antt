@@ -78,10 +78,10 @@ use Rattle.host.proofs.keep_tally as k2
 use Rattle.host.proofs.keep_tally.Symbol as k2-def
 use Rattle.host.proofs.keep_tally.Symbol.{name as #k2}
 use Rattle.host.proofs.keep_tally.Met as k2-thm
-use Rattle.hosting.proofs.open as j
-use Rattle.hosting.proofs.open.Symbol as j-def
-use Rattle.hosting.proofs.open.Symbol.{name as #j}
-use Rattle.hosting.proofs.open.Met as j-thm
+use Rattle.word_calls.proofs.open as j
+use Rattle.word_calls.proofs.open.Symbol as j-def
+use Rattle.word_calls.proofs.open.Symbol.{name as #j}
+use Rattle.word_calls.proofs.open.Met as j-thm
 use Rattle.host.proofs.curlewstand_setup.Key.{name as #f}
 use Rattle.host.proofs.curlewstand_setup as f
 use Rattle.host.proofs.curlewstand_setup.Statement as stated
@@ -225,4 +225,4 @@ curlewstand-setup-spec 𝓤 H 𝓜 𝓖 𝓡 =
     (cited 𝓤 H (n-con 𝓤 H (𝓖 .A) (𝓜 .mem) (𝓡 .run)) 𝓜 𝓡 code.env #n n-def.routine code.calls-host·tally-now (n-thm.met 𝓤 H 𝓜 𝓖 𝓡))
     (cited 𝓤 H (c-con 𝓤 H (𝓖 .A) (𝓜 .mem) (𝓡 .run)) 𝓜 𝓡 code.env #c c-def.routine code.calls-host·check-lent (c-thm.met 𝓤 H 𝓜 𝓖 𝓡))
     (cited 𝓤 H (k2-con 𝓤 H (𝓖 .A) (𝓜 .mem) (𝓡 .run)) 𝓜 𝓡 code.env #k2 k2-def.routine code.calls-host·keep-tally (k2-thm.met 𝓤 H 𝓜 𝓖 𝓡))
-    (cited 𝓤 H (j-con 𝓤 H (𝓖 .A) (𝓜 .mem) (𝓡 .run)) 𝓜 𝓡 code.env #j j-def.routine code.calls-hosting·open (j-thm.met 𝓤 H 𝓜 𝓖 𝓡)))
+    (cited 𝓤 H (j-con 𝓤 H (𝓖 .A) (𝓜 .mem) (𝓡 .run)) 𝓜 𝓡 code.env #j j-def.routine code.calls-word-calls·open (j-thm.met 𝓤 H 𝓜 𝓖 𝓡)))

@@ -1,10 +1,10 @@
 -- `fail` meets its contract: each case by its law. Assumes nothing.
 use borrow.Author.Needs.{needs}
 use Rattle.float64.proofs.Laws.{free}
 use Rattle.hosting.specs.Hosting.{setupOf}
 use Rattle.hosting.proofs.Paths.{failure-given, failure-none}
-use Rattle.hosting.proofs.fail.Statement.{statement}
-use Rattle.hosting.proofs.fail.Tie as tie
+use Rattle.word_calls.proofs.fail.Statement.{statement}
+use Rattle.word_calls.proofs.fail.Tie as tie
 
 enum-known-at : tie.Need-enum-known-at
 enum-known-at c = search needs

@@ -1,10 +1,10 @@
 -- `begin_objective` meets its contract: each case by its law. Assumes nothing.
 use borrow.Author.Needs.{needs}
 use Rattle.float64.proofs.Laws.{free}
 use Rattle.hosting.specs.Hosting.{setupOf, parametersOf}
 use Rattle.hosting.proofs.Paths.{objective-given, objective-none}
-use Rattle.hosting.proofs.begin_objective.Statement.{statement}
-use Rattle.hosting.proofs.begin_objective.Tie as tie
+use Rattle.word_calls.proofs.begin_objective.Statement.{statement}
+use Rattle.word_calls.proofs.begin_objective.Tie as tie
 
 enum-known-at : tie.Need-enum-known-at
 enum-known-at c = search needs

@@ -1,10 +1,10 @@
 -- `finish_reply` meets its contract: each case by its law. Assumes nothing.
 use borrow.Author.Needs.{needs}
 use Rattle.float64.proofs.Laws.{free}
 use Rattle.hosting.specs.Hosting.{setupOf}
 use Rattle.hosting.proofs.Paths.{finish-given, finish-none}
-use Rattle.hosting.proofs.finish_reply.Statement.{statement}
-use Rattle.hosting.proofs.finish_reply.Tie as tie
+use Rattle.word_calls.proofs.finish_reply.Statement.{statement}
+use Rattle.word_calls.proofs.finish_reply.Tie as tie
 
 enum-known-at : tie.Need-enum-known-at
 enum-known-at c = search needs

@@ -2,10 +2,10 @@
 use borrow.Author.Needs.{needs}
 use Rattle.float64.proofs.Laws.{free}
 use mathlib.Core.Path.{refl}
 use Rattle.hosting.specs.Hosting.{setupOf}
 use Rattle.hosting.proofs.Paths.{admit-given, admit-none}
-use Rattle.hosting.proofs.admit_reply.Statement.{statement}
-use Rattle.hosting.proofs.admit_reply.Tie as tie
+use Rattle.word_calls.proofs.admit_reply.Statement.{statement}
+use Rattle.word_calls.proofs.admit_reply.Tie as tie
 
 enum-known-at : tie.Need-enum-known-at
 enum-known-at c = search needs

@@ -1,10 +1,10 @@
 -- `open` meets its contract: each exit by its law. Assumes nothing.
 use borrow.Author.Needs.{needs}
 use Rattle.float64.proofs.Laws.{free}
 use Rattle.hosting.specs.Hosting.{setupOf}
 use Rattle.hosting.proofs.Paths.{open-unknown, open-settled}
-use Rattle.hosting.proofs.open.Statement.{statement}
-use Rattle.hosting.proofs.open.Tie as tie
+use Rattle.word_calls.proofs.open.Statement.{statement}
+use Rattle.word_calls.proofs.open.Tie as tie
 
 same-length : tie.Need-same-length
 same-length c = search needs
