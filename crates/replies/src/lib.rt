@@ -37,7 +37,7 @@ fn follow(
     match evaluation::finish(evaluation) {
         Evaluation::Running(sums) => {
             let fit = subjects::fit_of(setup, parameters);
-            let received = population::receive(
+            let kept = population::receive(
                 fit,
                 counts,
                 state.order,
@@ -48,28 +48,16 @@ fn follow(
                 cache,
                 work,
             );
-            let next = received_state(parameters, received);
-            runs::run(
-                setup,
-                next,
-                received.tally,
-                counts,
-                cache,
-                work,
-                warm,
-                results,
-            )
+            let next = received_state(parameters, kept);
+            runs::run(setup, next, kept.tally, counts, cache, work, warm, results)
         }
         Evaluation::Refused(number) => {
             runs::ended_as(state, tally, number, Place::Subject(subject), work)
         }
-        Evaluation::RefusedAt(number, observation) => runs::ended_as(
-            state,
-            tally,
-            number,
-            Place::Observation(subject, observation),
-            work,
-        ),
+        Evaluation::RefusedAt(number, observation) => {
+            let place = Place::Observation(subject, observation);
+            runs::ended_as(state, tally, number, place, work)
+        }
     }
 }
 
