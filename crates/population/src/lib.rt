@@ -97,7 +97,7 @@ fn take(
 ) -> Progress
     ensures { λ r. ⌜ worked r (now (work .exit)) ≡ take fit rows progress eta sums (now (work .entry)) ⌝ }
 {
-    let after = subjects::advance_by(fit, progress, eta, sums);
+    let after = points::advance_by(fit, progress, eta, sums);
     let sources = after.sources;
     work::move_rows(work, rows, sources);
     after.progress
@@ -117,15 +117,15 @@ fn at_point(
     ensures { λ r. ⌜ worked r (now (work .exit)) ≡ atPoint words fit (now (counts .entry)) progress tally eta (cacheOf (now (cache .entry)) order) (now (work .entry)) ⌝ }
 {
     let rows = rows_of(counts, progress.subject);
-    let key = subjects::key_of(fit, progress.subject, eta);
+    let key = questions::key_of(fit, progress.subject, eta);
     match cache::find(cache, fit.k, order, key) {
         Found::At(slot) => {
-            let sums = subjects::sums_of(cache::terms_of(cache, fit.k, slot));
+            let sums = questions::sums_of(cache::terms_of(cache, fit.k, slot));
             let trial = work::block(rows, work::TRIAL);
             cache::copy_rows(cache, fit.k, slot, rows, work, trial);
             Turned::On(take(fit, rows, progress, eta, sums, work))
         }
-        Found::Nothing => Turned::Halt(subjects::ask(fit, progress, tally, eta)),
+        Found::Nothing => Turned::Halt(questions::ask(fit, progress, tally, eta)),
     }
 }
 
@@ -154,7 +154,7 @@ fn next_subject(
         work::clear(work);
         return Turned::On(subjects::begin_subject(subject, first, start, ofv, eta_squares));
     }
-    Turned::Halt(subjects::objective_of(progress, tally, ofv, eta_squares))
+    Turned::Halt(objective::objective_of(progress, tally, ofv, eta_squares))
 }
 
 // The search has its mode: 16, the warm start is stored, 17, the results are written.
@@ -171,7 +171,7 @@ fn at_mode(
 {
     let subject = progress.subject;
     let rows = rows_of(counts, subject);
-    match subjects::closed_by(fit, progress, rows as u32) {
+    match objective::closed_by(fit, progress, rows as u32) {
         Closed::Positive(mode) => {
             let eta = mode.eta;
             store_warm(warm, fit.effects, subject, eta);
@@ -207,7 +207,7 @@ fn served(
 ) -> Turned
     ensures { λ r. ⌜ ended r (now (work .exit)) (now (warm .exit)) (now (results .exit)) ≡ served words fit (now (counts .entry)) progress tally (cacheOf (now (cache .entry)) order) (now (work .entry)) (now (warm .entry)) (now (results .entry)) ⌝ }
 {
-    match subjects::wanted_by(fit, progress) {
+    match points::wanted_by(fit, progress) {
         Wanted::Point(eta) => at_point(fit, counts, order, progress, tally, eta, cache, work),
         Wanted::Mode => at_mode(fit, counts, progress, tally, work, warm, results),
         Wanted::Refused(number) => {
@@ -324,9 +324,9 @@ pub fn receive(
 ) -> Received
     ensures { λ r. ⌜ received r (now (cache .exit)) (now (work .exit)) ≡ receive words fit (now (counts .entry)) progress tally eta sums (cacheOf (now (cache .entry)) order) (now (work .entry)) ⌝ }
 {
-    let terms = subjects::terms_of(sums);
+    let terms = questions::terms_of(sums);
     let rows = rows_of(counts, progress.subject);
-    let key = subjects::key_of(fit, progress.subject, eta);
+    let key = questions::key_of(fit, progress.subject, eta);
     let trial = work::block(rows, work::TRIAL);
     let kept = cache::insert(cache, fit.k, order, key, terms, rows, work, trial);
     let after = take(fit, rows, progress, eta, sums, work);
