@@ -46,7 +46,7 @@ pub fn run(
     let progress = state.progress;
     let order = state.order;
     let fit = subjects::fit_of(setup, parameters);
-    let halted = population::requests(
+    let halted = steps::requests(
         fit,
         counts,
         order,
@@ -194,7 +194,7 @@ fn follow(
     match evaluation::finish(evaluation) {
         Evaluation::Running(sums) => {
             let fit = subjects::fit_of(setup, parameters);
-            let received = population::receive(
+            let received = answers::receive(
                 fit,
                 counts,
                 state.order,

@@ -21,7 +21,8 @@ use subjects::Tally;
 fn closed_1d(fit: Fit, best: Conditional, rows: u32) -> Closed
     ensures { λ r. ⌜ r ≡ closed1 fit best rows ⌝ }
 {
-    let curvature = 1.0 / fit.omega + best.information;
+    let omega = fit.omega;
+    let curvature = 1.0 / omega + best.information;
     if float64::is_nonfinite(curvature) {
         return Closed::NotPositive;
     }
@@ -29,8 +30,8 @@ fn closed_1d(fit: Fit, best: Conditional, rows: u32) -> Closed
         return Closed::NotPositive;
     }
     let term = 2.0 * best.nll - rows as f64 * likelihood::population_focei::LOG_2PI
-        + best.eta * best.eta / fit.omega
-        + libm::log(fit.omega * curvature);
+        + best.eta * best.eta / omega
+        + libm::log(omega * curvature);
     Closed::Positive(Mode {
         eta: Pair {
             first: best.eta,

@@ -16,7 +16,7 @@ int-to-float-term c = search needs
 
 returns-3 : tie.Need-returns-3
 returns-3 c =
-    let above = c .before .before .before .before .before .before in
+    let above = c .before .before .before .before in
     closes-one _ _ _ (above .before .before .is-nonfinite .ensures) (above .before .if1 .left) (above .if2 .left) (c .log .ensures)
 
 pub closed-1d-spec : {M : Type 1} → statement M

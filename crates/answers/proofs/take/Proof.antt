@@ -1,9 +1,9 @@
 -- `take` meets its contract. Assumes nothing.
 use borrow.Author.Needs.{needs}
 use Rattle.float64.proofs.Laws.{free}
-use Rattle.population.proofs.Paths.{takes}
-use Rattle.population.proofs.take.Statement.{statement}
-use Rattle.population.proofs.take.Tie as tie
+use Rattle.answers.proofs.Paths.{takes}
+use Rattle.answers.proofs.take.Statement.{statement}
+use Rattle.answers.proofs.take.Tie as tie
 
 same-length : tie.Need-same-length
 same-length c = search needs

@@ -1,15 +1,14 @@
 -- `receive` meets its contract. Assumes nothing.
-use borrow.Author.Needs.{needs}
 use Rattle.float64.proofs.Laws.{free}
-use Rattle.population.proofs.Paths.{receives}
-use Rattle.population.proofs.receive.Statement.{statement}
-use Rattle.population.proofs.receive.Tie as tie
+use Rattle.answers.proofs.Paths.{receives}
+use Rattle.answers.proofs.receive.Statement.{statement}
+use Rattle.answers.proofs.receive.Tie as tie
 
 same-length : tie.Need-same-length
-same-length c = search needs
+same-length c = c .before .before .before .before .before .before .before .before .insert .kept .0
 
 same-length-2 : tie.Need-same-length-2
-same-length-2 c = search needs
+same-length-2 c = c .before .before .before .before .take .kept .1 .1 .1 .1 .1 .0
 
 returns : tie.Need-returns
 returns c =

@@ -1,8 +1,8 @@
 -- `cached_rows` meets its contract. Assumes nothing.
 use borrow.Author.Needs.{needs}
 use Rattle.population.specs.Kept.{orderRows}
-use Rattle.population.proofs.cached_rows.Statement.{statement}
-use Rattle.population.proofs.cached_rows.Tie as tie
+use Rattle.answers.proofs.cached_rows.Statement.{statement}
+use Rattle.answers.proofs.cached_rows.Tie as tie
 
 sub-result : tie.Need-sub-result
 sub-result c = search needs

@@ -1,9 +1,9 @@
 -- `at_point` meets its contract: each arm by its law. Assumes nothing.
 use borrow.Author.Needs.{needs}
 use Rattle.float64.proofs.Laws.{free}
-use Rattle.population.proofs.Paths.{kept-answers, point-asked}
-use Rattle.population.proofs.at_point.Statement.{statement}
-use Rattle.population.proofs.at_point.Tie as tie
+use Rattle.answers.proofs.Paths.{kept-answers, point-asked}
+use Rattle.answers.proofs.at_point.Statement.{statement}
+use Rattle.answers.proofs.at_point.Tie as tie
 
 enum-known-slot : tie.Need-enum-known-slot
 enum-known-slot c = search needs

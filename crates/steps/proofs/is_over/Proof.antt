@@ -1,9 +1,9 @@
 -- `is_over` meets its contract: each arm by its law. Assumes nothing.
 use borrow.Author.Needs.{needs}
 use Rattle.float64.proofs.Laws.{free}
-use Rattle.population.proofs.Paths.{goes-on, halts}
-use Rattle.population.proofs.is_over.Statement.{statement}
-use Rattle.population.proofs.is_over.Tie as tie
+use Rattle.steps.proofs.Paths.{goes-on, halts}
+use Rattle.steps.proofs.is_over.Statement.{statement}
+use Rattle.steps.proofs.is_over.Tie as tie
 
 enum-told : tie.Need-enum-told
 enum-told c = search needs

@@ -4,11 +4,11 @@ use mathlib.Core.Path.{refl, _≡_, _∙_}
 use lib.ListN.{length}
 use Rattle.float64.proofs.Laws.{free}
 use Rattle.sessions.specs.Machine.{loop}
 use Rattle.population.specs.Kept.{cacheOf, words}
 use Rattle.population.specs.Population.{turn, spent, whole}
-use Rattle.population.proofs.Paths.{requests-spent, requests-on, requests-halt}
-use Rattle.population.proofs.requests.Statement.{statement}
-use Rattle.population.proofs.requests.Tie as tie
+use Rattle.steps.proofs.Paths.{requests-spent, requests-on, requests-halt}
+use Rattle.steps.proofs.requests.Statement.{statement}
+use Rattle.steps.proofs.requests.Tie as tie
 
 abbrev Inv-requests : tie.InvT-requests
 Inv-requests fit counts order tally fuel cache work₀ warm₀ results₀ progress₀ left₀ work warm results progress left =

@@ -1,9 +1,9 @@
 -- `turn` meets its contract: each exit by its law. Assumes nothing.
 use borrow.Author.Needs.{needs}
 use Rattle.float64.proofs.Laws.{free}
-use Rattle.population.proofs.Paths.{turn-over, turn-on}
-use Rattle.population.proofs.turn.Statement.{statement}
-use Rattle.population.proofs.turn.Tie as tie
+use Rattle.steps.proofs.Paths.{turn-over, turn-on}
+use Rattle.steps.proofs.turn.Statement.{statement}
+use Rattle.steps.proofs.turn.Tie as tie
 
 same-length : tie.Need-same-length
 same-length c = search needs

@@ -1,9 +1,9 @@
 -- `served` meets its contract: each arm by its law. Assumes nothing.
 use borrow.Author.Needs.{needs}
 use Rattle.float64.proofs.Laws.{free}
-use Rattle.population.proofs.Paths.{wants-point, wants-mode, wants-nothing}
-use Rattle.population.proofs.served.Statement.{statement}
-use Rattle.population.proofs.served.Tie as tie
+use Rattle.steps.proofs.Paths.{wants-point, wants-mode, wants-nothing}
+use Rattle.steps.proofs.served.Statement.{statement}
+use Rattle.steps.proofs.served.Tie as tie
 
 enum-known-eta : tie.Need-enum-known-eta
 enum-known-eta c = search needs
