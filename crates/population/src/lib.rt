@@ -138,5 +138,3 @@ pub fn at_mode(
         )),
     }
 }
-
-// ---- a reply
