@@ -1,3 +1,2 @@
--- Paths: the ways through the code, for its proofs. Loops: those through the labelled loop.
-pub mod Loops
+-- Paths: the ways through the code, for its proofs.
 pub mod Paths

@@ -37,7 +37,7 @@ fn follow(
     match evaluation::finish(evaluation) {
         Evaluation::Running(sums) => {
             let fit = subjects::fit_of(setup, parameters);
-            let kept = population::receive(
+            let kept = answers::receive(
                 fit,
                 counts,
                 state.order,

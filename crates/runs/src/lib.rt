@@ -30,7 +30,7 @@ pub fn run(
     let progress = state.progress;
     let order = state.order;
     let fit = subjects::fit_of(setup, parameters);
-    let halted = population::requests(
+    let halted = steps::requests(
         fit,
         counts,
         order,

@@ -310,7 +310,7 @@ pub fn admit_awaited(
         if is_standing(setup, counts, lent.observations, tally, progress) {
             let parameters = state.parameters;
             let fit = subjects::fit_of(setup, parameters);
-            let wanted = subjects::wanted_by(fit, progress);
+            let wanted = points::wanted_by(fit, progress);
             return awaited_at(setup, parameters, wanted, check, lent, counts);
         }
         return unawaited();

@@ -1,12 +1,12 @@
 -- `idle` meets its contract. Assumes nothing.
-use Rattle.float64.proofs.Laws.{free}
-use Rattle.subjects.specs.Subjects.{idle}
+use mathlib.Core.Path.{refl}
+use Rattle.subjects.specs.Subjects.{withSearch, idle}
 use Rattle.subjects.proofs.idle.Statement.{statement}
 use Rattle.subjects.proofs.idle.Tie as tie
 
 returns : tie.Need-returns
-unfolding idle
-returns c = c .with-search .ensures
+unfolding idle withSearch
+returns c = refl
 
 pub idle-spec : {M : Type 1} → statement M
-idle-spec = tie.close (tie.spec free returns)
+idle-spec = tie.close (tie.spec returns)

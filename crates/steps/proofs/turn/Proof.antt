@@ -1,0 +1,39 @@
+-- `turn` meets its contract: each exit by its law. Assumes nothing.
+use borrow.Author.Needs.{needs}
+use Rattle.float64.proofs.Laws.{free}
+use Rattle.steps.proofs.Paths.{turn-over, turn-on}
+use Rattle.steps.proofs.turn.Statement.{statement}
+use Rattle.steps.proofs.turn.Tie as tie
+
+same-length : tie.Need-same-length
+same-length c = search needs
+
+same-length-2 : tie.Need-same-length-2
+same-length-2 c = search needs
+
+same-length-3 : tie.Need-same-length-3
+same-length-3 c = search needs
+
+returns : tie.Need-returns
+returns c =
+    let test = c .before .before .before .before in
+    turn-over _ _ _ _ _ _ _ _ (test .before .before .before .before .before .before .before .before .served .ensures) (test .before .is-over .ensures) (test .if1 .taken) (c .before .before .clear .ensures)
+
+same-length-4 : tie.Need-same-length-4
+same-length-4 c = search needs
+
+same-length-5 : tie.Need-same-length-5
+same-length-5 c = search needs
+
+same-length-6 : tie.Need-same-length-6
+same-length-6 c = search needs
+
+returns-2 : tie.Need-returns-2
+returns-2 c = turn-on _ _ _ _ _ _ _ _ (c .before .before .before .before .before .before .before .before .served .ensures) (c .before .is-over .ensures) (c .if1 .left)
+
+pub turn-spec : {M : Type 1} → statement M
+turn-spec =
+    tie.close
+    (tie.spec
+    free free free same-length same-length-2 same-length-3 returns same-length-4 same-length-5
+    same-length-6 returns-2)
