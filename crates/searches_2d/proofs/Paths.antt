@@ -13,7 +13,7 @@ use Rattle.mode_2d.specs.declared.population_focei_2d.Request2.{Request2}
 use Rattle.search_words_2d.specs.SearchWords2.{loaded, saved, answer}
 use Rattle.search_words_2d.specs.declared.Loaded2.{Loaded2}
 use Rattle.search_words_2d.specs.declared.Loaded2.the-variants.{Given, None}
-use Rattle.searches.specs.Mode2d.{requested, next, advanced, requestNumber, pointOr}
+use Rattle.searches_2d.specs.Mode2d.{requested, next, advanced, requestNumber, pointOr}
 
 -- the answer and the words, or the point, that go with what is loaded
 abbrev pub Told : ℕ → List ℕ → List ℕ → Answer (List ℕ) → Type 0

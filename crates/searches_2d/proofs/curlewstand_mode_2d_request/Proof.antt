@@ -2,10 +2,10 @@
 use borrow.Author.Needs.{needs}
 use mathlib.Core.Path.{sym, _∙_}
 use Rattle.float64.proofs.Laws.{free}
-use Rattle.searches.specs.Mode2d.{requestNumber, pointOr}
-use Rattle.searches.proofs.Paths.{request-given, request-none}
-use Rattle.searches.proofs.mode_2d_search.curlewstand_mode_2d_request.Statement.{statement}
-use Rattle.searches.proofs.mode_2d_search.curlewstand_mode_2d_request.Tie as tie
+use Rattle.searches_2d.specs.Mode2d.{requestNumber, pointOr}
+use Rattle.searches_2d.proofs.Paths.{request-given, request-none}
+use Rattle.searches_2d.proofs.curlewstand_mode_2d_request.Statement.{statement}
+use Rattle.searches_2d.proofs.curlewstand_mode_2d_request.Tie as tie
 
 enum-known-x : tie.Need-enum-known-x
 enum-known-x c = search needs

@@ -1,9 +1,9 @@
 -- `point_of` meets its contract. Assumes nothing.
 use mathlib.Core.Path.{refl}
 use Rattle.matrix.proofs.Laws.{at-0, at-1}
-use Rattle.searches.specs.Mode2d.{pointOf}
-use Rattle.searches.proofs.mode_2d_search.point_of.Statement.{statement}
-use Rattle.searches.proofs.mode_2d_search.point_of.Tie as tie
+use Rattle.searches_2d.specs.Mode2d.{pointOf}
+use Rattle.searches_2d.proofs.point_of.Statement.{statement}
+use Rattle.searches_2d.proofs.point_of.Tie as tie
 
 returns : tie.Need-returns
 unfolding pointOf

@@ -1,9 +1,9 @@
 -- `curlewstand_mode_2d_advance` meets its contract: each exit by its law. Assumes nothing.
 use borrow.Author.Needs.{needs}
 use Rattle.float64.proofs.Laws.{free}
-use Rattle.searches.proofs.Paths.{advance-given, advance-none}
-use Rattle.searches.proofs.mode_2d_search.curlewstand_mode_2d_advance.Statement.{statement}
-use Rattle.searches.proofs.mode_2d_search.curlewstand_mode_2d_advance.Tie as tie
+use Rattle.searches_2d.proofs.Paths.{advance-given, advance-none}
+use Rattle.searches_2d.proofs.curlewstand_mode_2d_advance.Statement.{statement}
+use Rattle.searches_2d.proofs.curlewstand_mode_2d_advance.Tie as tie
 
 enum-known-x : tie.Need-enum-known-x
 enum-known-x c = search needs

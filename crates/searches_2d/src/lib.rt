@@ -1,9 +1,12 @@
-// The two-effect search for C, as twenty-five words (search_words_2d).
+// The two-effect search for C and Rust: a host keeps a search as twenty-five words (search_words_2d), asks
+// what it wants next and hands it the evaluated point. Each function is defined for every input, and its
+// contract gives all that it answers and writes. What is lent to be written must overlap nothing else that
+// is lent to the same call.
 ghost use mathlib.Core.Path.{_≡_};
 ghost use Rattle.float64.specs.Answer.{numberOf, orOld};
 ghost use Rattle.mode_2d.specs.Rules.{start};
 ghost use Rattle.search_words_2d.specs.SearchWords2.{saved};
-ghost use Rattle.searches.specs.Mode2d.{settingsOf, pointOf, requested, advanced, requestNumber, pointOr};
+ghost use Rattle.searches_2d.specs.Mode2d.{settingsOf, pointOf, requested, advanced, requestNumber, pointOr};
 use matrix::Pair;
 use mode_2d::population_focei_2d::Conditional2;
 use mode_2d::population_focei_2d::Request2;

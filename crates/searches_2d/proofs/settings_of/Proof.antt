@@ -1,9 +1,9 @@
 -- `settings_of` meets its contract. Assumes nothing.
 use mathlib.Core.Path.{refl}
 use Rattle.matrix.proofs.Laws.{at-0, at-1}
-use Rattle.searches.specs.Mode2d.{settingsOf}
-use Rattle.searches.proofs.mode_2d_search.settings_of.Statement.{statement}
-use Rattle.searches.proofs.mode_2d_search.settings_of.Tie as tie
+use Rattle.searches_2d.specs.Mode2d.{settingsOf}
+use Rattle.searches_2d.proofs.settings_of.Statement.{statement}
+use Rattle.searches_2d.proofs.settings_of.Tie as tie
 
 returns : tie.Need-returns
 unfolding settingsOf
