@@ -1,9 +1,9 @@
 -- `write_result` meets its contract: each exit by its law. Assumes nothing.
 use borrow.Author.Needs.{needs}
 use Rattle.float64.proofs.Laws.{free}
-use Rattle.work.proofs.Paths.{beyond-end, writes}
-use Rattle.work.proofs.write_result.Statement.{statement}
-use Rattle.work.proofs.write_result.Tie as tie
+use Rattle.results.proofs.Paths.{beyond-end, writes}
+use Rattle.results.proofs.write_result.Statement.{statement}
+use Rattle.results.proofs.write_result.Tie as tie
 
 returns : tie.Need-returns
 returns c = beyond-end _ _ _ _ (c .if1 .taken)

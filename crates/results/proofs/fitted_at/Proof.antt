@@ -2,9 +2,9 @@
 use borrow.Author.Needs.{needs}
 use native.Mathlib.Omega.{arith}
 use Rattle.float64.proofs.Laws.{free}
 use Rattle.work.specs.Work.{fittedAt}
-use Rattle.work.proofs.fitted_at.Statement.{statement}
-use Rattle.work.proofs.fitted_at.Tie as tie
+use Rattle.results.proofs.fitted_at.Statement.{statement}
+use Rattle.results.proofs.fitted_at.Tie as tie
 
 mul-result : tie.Need-mul-result
 mul-result c = search needs

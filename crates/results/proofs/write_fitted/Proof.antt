@@ -5,10 +5,10 @@ use native.Mathlib.Nat.{sub-zero}
 use Prim.Native.Nat.{_-_}
 use lib.ListN.{length}
 use Rattle.float64.proofs.Laws.{free}
 use Rattle.work.specs.Work.{block, fittedAt, fittedFrom}
-use Rattle.work.proofs.Paths.{fitted-end, fitted-step, fitted}
-use Rattle.work.proofs.write_fitted.Statement.{statement}
-use Rattle.work.proofs.write_fitted.Tie as tie
+use Rattle.results.proofs.Paths.{fitted-end, fitted-step, fitted}
+use Rattle.results.proofs.write_fitted.Statement.{statement}
+use Rattle.results.proofs.write_fitted.Tie as tie
 
 abbrev Inv-loop : tie.InvT-loop
 Inv-loop results₀ subjects first work rows n at population best i₀ results i =
