@@ -5,7 +5,8 @@
 use std::env;
 use std::path::{Path, PathBuf};
 
-const LIBRARIES: [&str; 6] = [
+const LIBRARIES: [&str; 7] = [
+    "floats",
     "curlewstand",
     "searches",
     "searches_2d",
