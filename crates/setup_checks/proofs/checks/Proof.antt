@@ -1,10 +1,10 @@
 -- `checks` meets its contract: each exit by its law. Assumes nothing.
 use borrow.Author.Needs.{needs}
 use Rattle.float64.proofs.Laws.{free}
 use Rattle.admission.proofs.Bounds.{counts-low, cohort-low}
 use Rattle.admission.proofs.Paths.{outside, no-cohort, cohort}
-use Rattle.admission.proofs.checks.Statement.{statement}
-use Rattle.admission.proofs.checks.Tie as tie
+use Rattle.setup_checks.proofs.checks.Statement.{statement}
+use Rattle.setup_checks.proofs.checks.Tie as tie
 
 enum-known-total : tie.Need-enum-known-total
 enum-known-total c = search needs

@@ -1,7 +1,7 @@
 -- `is_cohort` meets its contract: each exit by its law. Assumes nothing.
 use Rattle.admission.proofs.Paths.{no-effect, many-effects, no-subject, many-subjects, adds-up}
-use Rattle.admission.proofs.is_cohort.Statement.{statement}
-use Rattle.admission.proofs.is_cohort.Tie as tie
+use Rattle.setup_checks.proofs.is_cohort.Statement.{statement}
+use Rattle.setup_checks.proofs.is_cohort.Tie as tie
 
 returns : tie.Need-returns
 returns c = no-effect _ _ _ _ (c .if1 .taken)

@@ -1,10 +1,10 @@
 -- `admitted` meets its contract: each exit by its law. Assumes nothing.
 use borrow.Author.Needs.{needs}
 use Rattle.float64.proofs.Laws.{free}
 use Rattle.admission.proofs.Bounds.{shape-low}
 use Rattle.admission.proofs.Paths.{fails-2, fails-3, fails-4, fails-5, passes}
-use Rattle.admission.proofs.admitted.Statement.{statement}
-use Rattle.admission.proofs.admitted.Tie as tie
+use Rattle.setup_checks.proofs.admitted.Statement.{statement}
+use Rattle.setup_checks.proofs.admitted.Tie as tie
 
 returns : tie.Need-returns
 returns c = fails-2 _ _ _ _ _ _ (c .before .is-no-omega .ensures) (c .if1 .taken)

@@ -7,10 +7,10 @@ use native.Mathlib.Omega.{arith}
 use Prim.Native.Nat.{_-_, _≤_}
 use lib.ListN.{drop, length}
 use Rattle.float64.specs.Pick.{yes, no}
 use Rattle.admission.specs.Admission.{countFrom, countObservations}
 use Rattle.admission.proofs.Paths.{all-counted, counts-none, counts-too-many, counts-on}
-use Rattle.admission.proofs.count_observations.Statement.{statement}
-use Rattle.admission.proofs.count_observations.Tie as tie
+use Rattle.setup_checks.proofs.count_observations.Statement.{statement}
+use Rattle.setup_checks.proofs.count_observations.Tie as tie
 
 abbrev Inv-loop : tie.InvT-loop
 Inv-loop counts total₀ largest₀ i₀ total largest i = (countFrom total largest (drop i counts) ≡ countFrom 0 0 counts) × (total ≤ 100000)

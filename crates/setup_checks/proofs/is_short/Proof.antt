@@ -1,10 +1,10 @@
 -- `is_short` meets its contract: each exit by its law. Assumes nothing.
 use borrow.Author.Needs.{needs}
 use native.Mathlib.Omega.{arith}
 use Rattle.admission.proofs.Bounds.{warm-low}
 use Rattle.admission.proofs.Paths.{little-work, little-cache, little-warm, rest-of-words}
-use Rattle.admission.proofs.is_short.Statement.{statement}
-use Rattle.admission.proofs.is_short.Tie as tie
+use Rattle.setup_checks.proofs.is_short.Statement.{statement}
+use Rattle.setup_checks.proofs.is_short.Tie as tie
 
 mul-if1 : tie.Need-mul-if1
 mul-if1 c = search needs
