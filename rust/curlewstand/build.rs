@@ -5,7 +5,15 @@
 use std::env;
 use std::path::{Path, PathBuf};
 
-const LIBRARIES: [&str; 5] = ["curlewstand", "searches", "kept", "evaluations", "host"];
+const LIBRARIES: [&str; 7] = [
+    "floats",
+    "curlewstand",
+    "searches",
+    "searches_2d",
+    "kept",
+    "evaluations",
+    "host",
+];
 
 fn main() {
     println!("cargo::rerun-if-changed=build.rs");

@@ -1,10 +1,8 @@
-// What a session is given, and document 01's checks 1 to 5 of it. Each function is defined for all values.
+// What a session is given, and the answer of document 01's checks of it; the checks 2 and 3, which look at
+// the setup alone, and an objective's own setup. Each function is defined for all values.
 ghost use mathlib.Core.Path.{_≡_};
-ghost use Prim.Native.Nat.{_≤_};
-ghost use lib.ListN.{length};
-ghost use Rattle.admission.specs.Admission.{isBeyond, countObservations, isCohort, isNoVariance, isNoOmega, isNoOverride, isNoTolerance, isNoShape, isShort, admitted, checks, withParameters};
+ghost use Rattle.admission.specs.Admission.{isBeyond, isNoVariance, isNoOmega, isNoOverride, isNoTolerance, isNoShape, withParameters};
 use evaluation::AdditiveSd;
-use evaluation::Check;
 use evaluation::Position;
 use matrix::InversePositive;
 use matrix::Pair;
@@ -69,49 +67,6 @@ fn is_beyond(x: f64, low: f64, high: f64) -> bool
     true
 }
 
-// ---- 1
-
-pub fn count_observations(counts: &[u64]) -> Counts
-    ensures { λ r. ⌜ r ≡ countObservations (now (counts .entry)) ⌝ }
-{
-    let mut total = 0;
-    let mut largest = 0;
-    let mut i = 0;
-    while i < counts.len() {
-        let count = counts[i] as usize;
-        if count == 0 {
-            return Counts::Outside;
-        }
-        if work::MOST_ROWS - total < count {
-            return Counts::Outside;
-        }
-        total += count;
-        if largest < count {
-            largest = count;
-        }
-        i += 1;
-    }
-    Counts::Within(total, largest)
-}
-
-fn is_cohort(effects: u32, subjects: usize, total: usize, observations: usize) -> bool
-    ensures { λ r. ⌜ r ≡ isCohort effects subjects total observations ⌝ }
-{
-    if effects == 0 {
-        return false;
-    }
-    if 2 < effects {
-        return false;
-    }
-    if subjects == 0 {
-        return false;
-    }
-    if work::MOST_SUBJECTS < subjects {
-        return false;
-    }
-    total == observations
-}
-
 // ---- 2
 
 fn is_no_variance(omega: f64) -> bool
@@ -120,7 +75,9 @@ fn is_no_variance(omega: f64) -> bool
     is_beyond(omega, 0.00000095367431640625, 1048576.0)
 }
 
-fn is_no_omega(setup: Setup) -> bool
+// Whether check 2 refuses: a variance is from 2^-20 to 2^20, and with two effects omega is symmetric and has
+// an inverse.
+pub fn is_no_omega(setup: Setup) -> bool
     ensures { λ r. ⌜ r ≡ isNoOmega setup ⌝ }
 {
     if is_no_variance(setup.omega00) {
@@ -174,7 +131,9 @@ fn is_no_tolerance(gradient_tolerance: f64) -> bool
     gradient_tolerance <= 0.0
 }
 
-fn is_no_shape(setup: Setup) -> bool
+// Whether check 3 refuses: the bound of eta is from 2^-10 to 16, there are 1 to 64 outputs, and K is from 1
+// to 100,000.
+pub fn is_no_shape(setup: Setup) -> bool
     ensures { λ r. ⌜ r ≡ isNoShape setup ⌝ }
 {
     if is_beyond(setup.eta_bound, 0.0009765625, 16.0) {
@@ -199,71 +158,7 @@ fn is_no_shape(setup: Setup) -> bool
     is_no_override(setup.effects, additive_sd)
 }
 
-// ---- 5
-
-// Too few words: 12 for each row of the largest subject, 24 for each row that is kept, one warm start for
-// each subject and effect, three results for each subject and two for each observation.
-fn is_short(setup: Setup, subjects: usize, total: usize, largest: usize, lent: Lent) -> bool
-    requires { ⌜ (setup .effects ≤ 2) × (setup .k ≤ 100000) × (subjects ≤ 4096) × (total ≤ 100000) × (largest ≤ 100000) ⌝ }
-    ensures { λ r. ⌜ r ≡ isShort setup subjects total largest lent ⌝ }
-{
-    if lent.work < 4 * cache::ROW_WORDS * largest {
-        return true;
-    }
-    if lent.cache < 24 * setup.k {
-        return true;
-    }
-    if lent.warm < setup.effects as usize * subjects {
-        return true;
-    }
-    lent.results < 2 * total + 3 * subjects
-}
-
-// ---- all of them
-
-// Checks 2 to 5, where 1 has passed.
-fn admitted(
-    setup: Setup,
-    subjects: usize,
-    total: usize,
-    largest: usize,
-    lent: Lent,
-    check: Check,
-) -> Admission
-    requires { ⌜ (setup .effects ≤ 2) × (subjects ≤ 4096) × (total ≤ 100000) × (largest ≤ 100000) ⌝ }
-    ensures { λ r. ⌜ r ≡ admitted setup subjects total largest lent check ⌝ }
-{
-    if is_no_omega(setup) {
-        return Admission::Refused(2);
-    }
-    if is_no_shape(setup) {
-        return Admission::Refused(3);
-    }
-    match check {
-        Check::Unsound(place) => Admission::Unsound(place),
-        Check::Sound(_) => {
-            if is_short(setup, subjects, total, largest, lent) {
-                return Admission::Refused(5);
-            }
-            Admission::Accepted
-        }
-    }
-}
-
-// Checks 1 to 5 in their order. `check` is what check_observations found of all the lent observations.
-pub fn checks(setup: Setup, counts: &[u64], lent: Lent, check: Check) -> Admission
-    ensures { λ r. ⌜ r ≡ checks setup (now (counts .entry)) lent check ⌝ }
-{
-    match count_observations(counts) {
-        Counts::Within(total, largest) => {
-            if is_cohort(setup.effects, counts.len(), total, lent.observations) {
-                return admitted(setup, counts.len(), total, largest, lent, check);
-            }
-            Admission::Refused(1)
-        }
-        Counts::Outside => Admission::Refused(1),
-    }
-}
+// ---- an objective
 
 // The setup of an objective: with one effect its omega, and its additive deviation.
 pub fn with_parameters(setup: Setup, parameters: Parameters) -> Setup

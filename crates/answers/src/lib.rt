@@ -51,9 +51,9 @@ pub fn at_point(
     let key = questions::key_of(fit, progress.subject, eta);
     match cache::find(cache, fit.k, order, key) {
         Found::At(slot) => {
-            let sums = questions::sums_of(cache::terms_of(cache, fit.k, slot));
+            let sums = questions::sums_of(kept_entries::terms_of(cache, fit.k, slot));
             let trial = work::block(rows, work::TRIAL);
-            cache::copy_rows(cache, fit.k, slot, rows, work, trial);
+            kept_entries::copy_rows(cache, fit.k, slot, rows, work, trial);
             Turned::On(take(fit, rows, progress, eta, sums, work))
         }
         Found::Nothing => Turned::Halt(questions::ask(fit, progress, tally, eta)),
@@ -80,7 +80,7 @@ pub fn receive(
     let rows = population::rows_of(counts, progress.subject);
     let key = questions::key_of(fit, progress.subject, eta);
     let trial = work::block(rows, work::TRIAL);
-    let kept = cache::insert(cache, fit.k, order, key, terms, rows, work, trial);
+    let kept = keeping::insert(cache, fit.k, order, key, terms, rows, work, trial);
     let after = take(fit, rows, progress, eta, sums, work);
     let calls = tally.calls;
     Received {

@@ -1,4 +1,4 @@
--- What the functions of src/lib.rt compute, over the list of the lent words.
+-- What the functions of this crate, of kept_entries and of keeping compute, over the list of the lent words.
 use mathlib.Core.Bool.{Bool, false}
 use mathlib.Core.List.{List, [], _∷_}
 use Prim.Native.Nat.{ℕ, zero, suc, _+_, _-_, _*_, _%_, _/_, _^_}

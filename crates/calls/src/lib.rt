@@ -35,7 +35,7 @@ pub fn open(
     ensures { λ r. ⌜ begunWith r (now (cache .exit)) (now (work .exit)) (now (warm .exit)) ≡ openedBy setup (now (counts .entry)) observations check tally (now (cache .entry)) (now (work .entry)) (now (warm .entry)) (now (results .entry)) ⌝ }
 {
     let lent = session::lent_by(observations, cache, work, warm, results);
-    match admission::checks(setup, counts, lent, check) {
+    match setup_checks::checks(setup, counts, lent, check) {
         Admission::Accepted => {
             work::clear(cache);
             work::clear(work);

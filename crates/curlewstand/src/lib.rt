@@ -1,13 +1,8 @@
-// Curlewstand for C and Rust: the leaves of the calculation over numbers and lent arrays. Each
+// Matrices and rows for C and Rust: the leaves of the calculation over numbers and lent arrays. Each
 // function is defined for every input, and its contract gives all that it answers and writes. What
 // is lent to be written must overlap nothing else that is lent to the same call.
 ghost use mathlib.Core.Path.{_≡_};
-ghost use lib.Ieee.{binary64, ofBits, toBits};
-ghost use lib.Ieee.Scale.{finite};
 ghost use Rattle.float64.specs.Answer.{numberOf};
-ghost use Rattle.float64.specs.Float64.{abs, max, clamp};
-ghost use Rattle.libm.specs.Log.{log};
-ghost use Rattle.libm.specs.Exp.{exp};
 ghost use Rattle.matrix.specs.Matrix.{determinant, inversePositive, product, dot};
 ghost use Rattle.likelihood.specs.RowTerms.{rowTerms};
 ghost use Rattle.likelihood.specs.Row2.{rowVariance};
@@ -16,64 +11,6 @@ use likelihood::population_focei::Observation;
 use likelihood::population_focei::Row;
 use likelihood::population_focei_2d::RowVariance;
 use matrix::InversePositive;
-
-// The float of a word; every NaN pattern gives a NaN.
-#[no_mangle]
-pub extern "C" fn curlewstand_from_word(word: u64) -> f64
-    ensures { λ r. ⌜ r ≡ ofBits binary64 word ⌝ }
-{
-    float64::from_word(word)
-}
-
-// The word of a float; a NaN gives 7ff8000000000000.
-#[no_mangle]
-pub extern "C" fn curlewstand_to_word(x: f64) -> u64
-    ensures { λ r. ⌜ r ≡ toBits binary64 x ⌝ }
-{
-    float64::to_word(x)
-}
-
-#[no_mangle]
-pub extern "C" fn curlewstand_is_finite(x: f64) -> bool
-    ensures { λ r. ⌜ r ≡ finite x ⌝ }
-{
-    float64::is_finite(x)
-}
-
-#[no_mangle]
-pub extern "C" fn curlewstand_abs(x: f64) -> f64
-    ensures { λ r. ⌜ r ≡ abs x ⌝ }
-{
-    float64::abs(x)
-}
-
-#[no_mangle]
-pub extern "C" fn curlewstand_max(a: f64, b: f64) -> f64
-    ensures { λ r. ⌜ r ≡ max a b ⌝ }
-{
-    float64::max(a, b)
-}
-
-#[no_mangle]
-pub extern "C" fn curlewstand_clamp(x: f64, low: f64, high: f64) -> f64
-    ensures { λ r. ⌜ r ≡ clamp x low high ⌝ }
-{
-    float64::clamp(x, low, high)
-}
-
-#[no_mangle]
-pub extern "C" fn curlewstand_log(x: f64) -> f64
-    ensures { λ r. ⌜ r ≡ log x ⌝ }
-{
-    libm::log(x)
-}
-
-#[no_mangle]
-pub extern "C" fn curlewstand_exp(x: f64) -> f64
-    ensures { λ r. ⌜ r ≡ exp x ⌝ }
-{
-    libm::exp(x)
-}
 
 #[no_mangle]
 pub extern "C" fn curlewstand_determinant(matrix: &[[f64; 2]; 2]) -> f64

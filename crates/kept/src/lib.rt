@@ -82,7 +82,7 @@ pub extern "C" fn curlewstand_cache_terms(
 )
     ensures { λ _. ⌜ now (terms .exit) ≡ termWords (termsOf (now (words .entry)) k slot) ⌝ }
 {
-    let t = cache::terms_of(words, k, slot);
+    let t = kept_entries::terms_of(words, k, slot);
     *terms = [t.nll, t.score0, t.score1, t.i00, t.i01, t.i10, t.i11];
 }
 
@@ -98,7 +98,7 @@ pub extern "C" fn curlewstand_cache_copy_rows(
 )
     ensures { λ _. ⌜ now (out .exit) ≡ copied (now (words .entry)) k slot n (now (out .entry)) to ⌝ }
 {
-    cache::copy_rows(words, k, slot, n, out, to);
+    kept_entries::copy_rows(words, k, slot, n, out, to);
 }
 
 // Keeps an evaluation with its n rows, which stand in `rows` from word `from` on, and moves the positions;
@@ -120,7 +120,7 @@ pub extern "C" fn curlewstand_cache_insert(
     let at = order_of(*order);
     let new = key_of(*key);
     let kept = terms_from(*terms);
-    let next = cache::insert(words, k, at, new, kept, n, rows, from);
+    let next = keeping::insert(words, k, at, new, kept, n, rows, from);
     *order = [
         next.oldest as u64,
         next.next as u64,

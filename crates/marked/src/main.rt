@@ -76,8 +76,8 @@ fn singular() {
 
 // exp 0 = 1, log 1 = 0.
 fn exp_and_log() {
-    check::expect(float64::to_word(curlewstand::curlewstand_exp(0.0)) == 0x3ff0_0000_0000_0000);
-    check::expect(float64::to_word(curlewstand::curlewstand_log(1.0)) == 0);
+    check::expect(float64::to_word(floats::curlewstand_exp(0.0)) == 0x3ff0_0000_0000_0000);
+    check::expect(float64::to_word(floats::curlewstand_log(1.0)) == 0);
 }
 
 // What a search for eta_bound 4 asks for, with so many points of the grid evaluated.

@@ -124,8 +124,8 @@ pub fn at_mode(
             let eta = mode.eta;
             store_warm(warm, fit.effects, subject, eta);
             if work::is_same_grid(work, rows) {
-                work::write_result(results, subject, eta, mode.nll);
-                work::write_fitted(results, counts.len(), progress.first, work, rows);
+                results::write_result(results, subject, eta, mode.nll);
+                results::write_fitted(results, counts.len(), progress.first, work, rows);
                 return next_subject(fit, counts, progress, tally, mode, rows, work, warm);
             }
             Turned::Halt(subjects::refused(progress, tally, 17, Place::Subject(subject)))

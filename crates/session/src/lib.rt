@@ -251,7 +251,7 @@ pub fn admit_objective(
     }
     if is_standing(setup, counts, lent.observations, tally, progress) {
         let own = admission::with_parameters(setup, parameters);
-        return admission::checks(own, counts, lent, check);
+        return setup_checks::checks(own, counts, lent, check);
     }
     Admission::Refused(19)
 }
@@ -273,7 +273,7 @@ fn awaited_at(
         Wanted::Point(eta) => {
             let own = admission::with_parameters(setup, parameters);
             Awaited {
-                admission: admission::checks(own, counts, lent, check),
+                admission: setup_checks::checks(own, counts, lent, check),
                 eta,
             }
         }

@@ -1,15 +1,14 @@
-// The work words of a search and the words of the results. Each function is defined for all words and
-// numbers: beyond the end a word reads as 0, and nothing is written there.
+// The work words of a search. Each function is defined for all words and numbers: beyond the end a word
+// reads as 0, and nothing is written there.
 //
 // The work words are four blocks of a subject's rows, three words a row (prediction, time, side): the rows
 // at eta zero (`population_rows` of the source), those of the best point, those of the latest grid point
 // (one effect) or of the rounds' current point (two), and those of the trial that was just evaluated.
 ghost use mathlib.Core.Path.{_≡_};
 ghost use Prim.Native.Nat.{_+_, _*_, _≤_, _<_};
-ghost use lib.ListN.{getD, set, length};
-ghost use Rattle.work.specs.Work.{smaller, zeros, rowsLength, block, copyWords, copyBlock, moveRows, isSameRow, isSameGrid, resultWritten, fittedAt, fittedRow, fittedWritten};
+ghost use lib.ListN.{length};
+ghost use Rattle.work.specs.Work.{smaller, zeros, rowsLength, block, copyWords, copyBlock, moveRows, isSameRow, isSameGrid};
 use cache::ROW_WORDS;
-use matrix::Pair;
 
 // Document 01's largest numbers of subjects, and of observations.
 pub const MOST_SUBJECTS: usize = 4096;
@@ -135,50 +134,4 @@ pub fn is_same_grid(work: &[u64], rows: usize) -> bool
         }
     }
     true
-}
-
-// ---- results: three words for each subject, then two for each observation
-
-// Eta, second eta and negative log likelihood of a subject.
-pub fn write_result(results: &mut [u64], subject: usize, eta: Pair, nll: f64)
-    ensures { λ _. ⌜ now (results .exit) ≡ resultWritten subject eta nll (now (results .entry)) ⌝ }
-{
-    if results.len() <= subject {
-        return;
-    }
-    let at = 3 * subject;
-    cache::put(results, at, float64::to_word(eta.first));
-    cache::put(results, at + 1, float64::to_word(eta.second));
-    cache::put(results, at + 2, float64::to_word(nll));
-}
-
-// Where the fitted rows begin, of the subject whose first observation has this number among all.
-fn fitted_at(subjects: usize, first: usize) -> usize
-    ensures { λ r. ⌜ r ≡ fittedAt subjects first ⌝ }
-{
-    3 * smaller(subjects, MOST_SUBJECTS) + 2 * smaller(first, MOST_ROWS)
-}
-
-// The predictions at eta zero and at the mode.
-pub fn write_fitted(results: &mut [u64], subjects: usize, first: usize, work: &[u64], rows: usize)
-    ensures { λ _. ⌜ now (results .exit) ≡ fittedWritten subjects first (now (work .entry)) rows (now (results .entry)) ⌝ }
-{
-    let n = smaller(rows, MOST_ROWS);
-    let at = fitted_at(subjects, first);
-    let population = block(rows, POPULATION);
-    let best = block(rows, BEST);
-    let mut i = 0;
-    while i < n {
-        cache::put(
-            results,
-            at + 2 * i,
-            cache::read(work, population + ROW_WORDS * i),
-        );
-        cache::put(
-            results,
-            at + 2 * i + 1,
-            cache::read(work, best + ROW_WORDS * i),
-        );
-        i += 1;
-    }
 }
