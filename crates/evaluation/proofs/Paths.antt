@@ -17,14 +17,14 @@ use Rattle.matrix.specs.Matrix.{pair}
 use Rattle.matrix.specs.declared.Pair.{Pair}
 use Rattle.cache.specs.Cache.{rowWords}
 use Rattle.likelihood.specs.RowTerms.{rowTerms, answer as answerRow}
-use Rattle.likelihood.specs.Row2.{rowVariance, scaledRow, answer as answerRow2}
+use Rattle.likelihood_2d.specs.Row2.{rowVariance, scaledRow, answer as answerRow2}
 use Rattle.likelihood.specs.declared.population_focei.Observation.{Observation}
 use Rattle.likelihood.specs.declared.population_focei.RowTerms.{RowTerms}
 use Rattle.likelihood.specs.declared.population_focei.Row.{Row}
 use Rattle.likelihood.specs.declared.population_focei.Row.the-variants.{Terms, InvalidVariance, Overflow}
-use Rattle.likelihood.specs.declared.population_focei_2d.Row2.{Row2}
-use Rattle.likelihood.specs.declared.population_focei_2d.RowVariance.{RowVariance}
-use Rattle.likelihood.specs.declared.population_focei_2d.RowVariance.the-variants.{Valid as ValidVariance, Invalid as InvalidVariance2}
+use Rattle.likelihood_2d.specs.declared.population_focei_2d.Row2.{Row2}
+use Rattle.likelihood_2d.specs.declared.population_focei_2d.RowVariance.{RowVariance}
+use Rattle.likelihood_2d.specs.declared.population_focei_2d.RowVariance.the-variants.{Valid as ValidVariance, Invalid as InvalidVariance2}
 use Rattle.evaluation.specs.declared.IndividualValues.the-variants.{Valid, Invalid}
 use Rattle.evaluation.specs.declared.Trial.{Trial}
 use Rattle.evaluation.specs.declared.Sums.{Sums}

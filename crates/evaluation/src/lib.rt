@@ -14,8 +14,8 @@ use cache::ROW_WORDS;
 use likelihood::population_focei::Observation;
 use likelihood::population_focei::Row;
 use likelihood::population_focei::RowTerms;
-use likelihood::population_focei_2d::Row2;
-use likelihood::population_focei_2d::RowVariance;
+use likelihood_2d::population_focei_2d::Row2;
+use likelihood_2d::population_focei_2d::RowVariance;
 use matrix::Pair;
 
 // The answer of individual_values.
@@ -274,9 +274,9 @@ fn with_terms(sums: Sums, terms: RowTerms) -> Sums
 fn add_row_2d(sums: Sums, observation: Observation, prediction: f64, f_eta: [f64; 2]) -> Evaluation
     ensures { λ r. ⌜ r ≡ addRow2 sums observation prediction «f_eta» ⌝ }
 {
-    match likelihood::population_focei_2d::row_variance(observation, prediction, f_eta) {
+    match likelihood_2d::population_focei_2d::row_variance(observation, prediction, f_eta) {
         RowVariance::Valid(variance) => {
-            let row = likelihood::population_focei_2d::scaled_row(
+            let row = likelihood_2d::population_focei_2d::scaled_row(
                 observation,
                 prediction,
                 f_eta,
@@ -291,18 +291,18 @@ fn add_row_2d(sums: Sums, observation: Observation, prediction: f64, f_eta: [f64
 fn with_row(sums: Sums, row: Row2, f_eta: [f64; 2]) -> Sums
     ensures { λ r. ⌜ r ≡ withRow sums row «f_eta» ⌝ }
 {
-    let score = likelihood::population_focei_2d::add_score(
+    let score = likelihood_2d::population_focei_2d::add_score(
         [sums.score.first, sums.score.second],
         row,
         f_eta,
     );
-    let information = likelihood::population_focei_2d::add_information(
+    let information = likelihood_2d::population_focei_2d::add_information(
         [[sums.i00, sums.i01], [sums.i10, sums.i11]],
         row,
         f_eta,
     );
     Sums {
-        nll: likelihood::population_focei_2d::add_nll(sums.nll, row),
+        nll: likelihood_2d::population_focei_2d::add_nll(sums.nll, row),
         score: Pair {
             first: score[0],
             second: score[1],

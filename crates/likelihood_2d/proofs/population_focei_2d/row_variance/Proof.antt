@@ -1,11 +1,11 @@
--- `likelihood::population_focei_2d::row_variance` meets its contract. Assumes nothing.
+-- `likelihood_2d::population_focei_2d::row_variance` meets its contract. Assumes nothing.
 use mathlib.Core.Path.{refl}
 use Rattle.float64.specs.Pick.{pass, yes, no, yesOf, noOf}
 use Rattle.float64.proofs.Laws.{free}
 use Rattle.matrix.proofs.Laws.{at-0, at-1}
-use Rattle.likelihood.specs.Row2.{answer, rowVariance}
-use Rattle.likelihood.proofs.population_focei_2d.row_variance.Statement.{statement}
-use Rattle.likelihood.proofs.population_focei_2d.row_variance.Tie as tie
+use Rattle.likelihood_2d.specs.Row2.{answer, rowVariance}
+use Rattle.likelihood_2d.proofs.population_focei_2d.row_variance.Statement.{statement}
+use Rattle.likelihood_2d.proofs.population_focei_2d.row_variance.Tie as tie
 
 returns : tie.Need-returns
 unfolding answer rowVariance

@@ -7,11 +7,11 @@ use Rattle.float64.specs.Float64.{nonfinite}
 use Rattle.float64.specs.Pick.{pick}
 use Rattle.matrix.specs.Matrix.{pair, at, entry}
 use Rattle.float64.specs.Answer.{Answer, given, refused}
 use Rattle.likelihood.specs.Terms.{residual, variance, scaledByEta2, zSquared, nllTerm, scoreTerm, informationTerm}
 use Rattle.likelihood.specs.declared.population_focei.Observation.{Observation}
-use Rattle.likelihood.specs.declared.population_focei_2d.RowVariance.{RowVariance}
-use Rattle.likelihood.specs.declared.population_focei_2d.RowVariance.the-variants.{Valid, Invalid}
-use Rattle.likelihood.specs.declared.population_focei_2d.Row2.{Row2}
+use Rattle.likelihood_2d.specs.declared.population_focei_2d.RowVariance.{RowVariance}
+use Rattle.likelihood_2d.specs.declared.population_focei_2d.RowVariance.the-variants.{Valid, Invalid}
+use Rattle.likelihood_2d.specs.declared.population_focei_2d.Row2.{Row2}
 
 -- what each case of the code's answer says
 unfoldable pub answer : RowVariance → Answer Float

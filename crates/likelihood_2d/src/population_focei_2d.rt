@@ -1,9 +1,9 @@
 // A row of a fit with two random effects: one turn of the loop over the rows in the source's
 // `subject`. `f_eta` holds the derivative of the prediction by each effect.
 ghost use mathlib.Core.Path.{_≡_};
-ghost use Rattle.likelihood.specs.Row2.{answer, rowVariance, scaledRow, addNll, addScore, addInformation};
-use crate::population_focei::LOG_2PI;
-use crate::population_focei::Observation;
+ghost use Rattle.likelihood_2d.specs.Row2.{answer, rowVariance, scaledRow, addNll, addScore, addInformation};
+use likelihood::population_focei::LOG_2PI;
+use likelihood::population_focei::Observation;
 
 // The answer of row_variance.
 pub enum RowVariance {
@@ -24,9 +24,8 @@ pub struct Row2 {
 pub fn row_variance(observation: Observation, prediction: f64, f_eta: [f64; 2]) -> RowVariance
     ensures { λ r. ⌜ answer r ≡ rowVariance observation prediction «f_eta» ⌝ }
 {
-    let prop = observation.proportional;
-    let variance = observation.additive * observation.additive
-        + (prop * prediction) * (prop * prediction);
+    let prop = observation.proportional * prediction;
+    let variance = observation.additive * observation.additive + prop * prop;
     if float64::is_nonfinite(variance) {
         return RowVariance::Invalid;
     }
@@ -76,11 +75,11 @@ pub fn add_score(score: [f64; 2], row: Row2, f_eta: [f64; 2]) -> [f64; 2]
 {
     let residual = row.residual;
     let variance = row.variance;
-    let z2 = row.z2;
+    let weight = 0.5 * (1.0 - row.z2);
     let r_eta = row.r_eta;
     [
-        score[0] + (-residual * f_eta[0] / variance + 0.5 * (1.0 - z2) * r_eta[0]),
-        score[1] + (-residual * f_eta[1] / variance + 0.5 * (1.0 - z2) * r_eta[1]),
+        score[0] + (-residual * f_eta[0] / variance + weight * r_eta[0]),
+        score[1] + (-residual * f_eta[1] / variance + weight * r_eta[1]),
     ]
 }
 
@@ -89,14 +88,18 @@ pub fn add_information(information: [[f64; 2]; 2], row: Row2, f_eta: [f64; 2]) -
 {
     let variance = row.variance;
     let r_eta = row.r_eta;
+    let f_0 = f_eta[0];
+    let f_1 = f_eta[1];
+    let r_0 = r_eta[0];
+    let r_1 = r_eta[1];
     [
         [
-            information[0][0] + (f_eta[0] * f_eta[0] / variance + 0.5 * r_eta[0] * r_eta[0]),
-            information[0][1] + (f_eta[0] * f_eta[1] / variance + 0.5 * r_eta[0] * r_eta[1]),
+            information[0][0] + (f_0 * f_0 / variance + 0.5 * r_0 * r_0),
+            information[0][1] + (f_0 * f_1 / variance + 0.5 * r_0 * r_1),
         ],
         [
-            information[1][0] + (f_eta[1] * f_eta[0] / variance + 0.5 * r_eta[1] * r_eta[0]),
-            information[1][1] + (f_eta[1] * f_eta[1] / variance + 0.5 * r_eta[1] * r_eta[1]),
+            information[1][0] + (f_1 * f_0 / variance + 0.5 * r_1 * r_0),
+            information[1][1] + (f_1 * f_1 / variance + 0.5 * r_1 * r_1),
         ],
     ]
 }
