@@ -11,10 +11,10 @@ use lib.Ieee.Fits.{add-fits}
 use Rattle.float64.specs.Answer.{Answer, given, refused, through}
 use Rattle.float64.specs.Pick.{both, cases}
 use Rattle.matrix.specs.Matrix.{at}
-use Rattle.likelihood.specs.Row2.{addNll, addScore, addInformation}
+use Rattle.likelihood_2d.specs.Row2.{addNll, addScore, addInformation}
 use Rattle.likelihood.specs.declared.population_focei.Observation.{Observation}
 use Rattle.likelihood.specs.declared.population_focei.RowTerms.{RowTerms}
-use Rattle.likelihood.specs.declared.population_focei_2d.Row2.{Row2}
+use Rattle.likelihood_2d.specs.declared.population_focei_2d.Row2.{Row2}
 use Rattle.evaluation.specs.Reply.{written}
 use Rattle.evaluation.specs.Subject.{begin, atObservation, withTerms, addRow, withRow, addRow2, addRowAt, Evaluating, evaluating, addAt, addTo, addAfter, addObservation, addObservations, hasNonfiniteSum, finish}
 use Rattle.evaluation.specs.declared.Trial.{Trial}

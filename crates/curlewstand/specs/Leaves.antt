@@ -6,7 +6,7 @@ use Rattle.matrix.specs.Matrix.{Inverse, some, none}
 use Rattle.likelihood.specs.declared.population_focei.Observation.{Observation}
 use Rattle.likelihood.specs.declared.population_focei.RowTerms.{RowTerms}
 use Rattle.float64.specs.Answer.{Answer, given, refused}
-use Rattle.likelihood.specs.Row2.{rowVariance, scaledRow, addNll, addScore, addInformation}
+use Rattle.likelihood_2d.specs.Row2.{rowVariance, scaledRow, addNll, addScore, addInformation}
 
 -- ---- inverse_positive
 unfoldable pub exists : Inverse → Bool

@@ -5,11 +5,11 @@ ghost use mathlib.Core.Path.{_≡_};
 ghost use Rattle.float64.specs.Answer.{numberOf};
 ghost use Rattle.matrix.specs.Matrix.{determinant, inversePositive, product, dot};
 ghost use Rattle.likelihood.specs.RowTerms.{rowTerms};
-ghost use Rattle.likelihood.specs.Row2.{rowVariance};
+ghost use Rattle.likelihood_2d.specs.Row2.{rowVariance};
 ghost use Rattle.curlewstand.specs.Leaves.{exists, inverseOr, detOr, observationOf, termsOr, sums, addRow};
 use likelihood::population_focei::Observation;
 use likelihood::population_focei::Row;
-use likelihood::population_focei_2d::RowVariance;
+use likelihood_2d::population_focei_2d::RowVariance;
 use matrix::InversePositive;
 
 #[no_mangle]
@@ -122,9 +122,9 @@ pub extern "C" fn curlewstand_add_row(
         proportional,
     };
     let f = *f_eta;
-    match likelihood::population_focei_2d::row_variance(observation, prediction, f) {
+    match likelihood_2d::population_focei_2d::row_variance(observation, prediction, f) {
         RowVariance::Valid(variance) => {
-            let row = likelihood::population_focei_2d::scaled_row(
+            let row = likelihood_2d::population_focei_2d::scaled_row(
                 observation,
                 prediction,
                 f,
@@ -132,9 +132,9 @@ pub extern "C" fn curlewstand_add_row(
             );
             let s = *score;
             let i = *information;
-            let next_score = likelihood::population_focei_2d::add_score(s, row, f);
-            let next_information = likelihood::population_focei_2d::add_information(i, row, f);
-            *nll = likelihood::population_focei_2d::add_nll(*nll, row);
+            let next_score = likelihood_2d::population_focei_2d::add_score(s, row, f);
+            let next_information = likelihood_2d::population_focei_2d::add_information(i, row, f);
+            *nll = likelihood_2d::population_focei_2d::add_nll(*nll, row);
             *score = next_score;
             *information = next_information;
             0

@@ -12,7 +12,7 @@ use lib.Seq.{getD-set-other}
 use Rattle.float64.specs.Answer.{Answer, given, refused, through}
 use Rattle.float64.specs.Pick.{both, cases}
 use Rattle.cache.specs.Cache.{rowWords}
-use Rattle.likelihood.specs.Row2.{rowVariance}
+use Rattle.likelihood_2d.specs.Row2.{rowVariance}
 use Rattle.likelihood.specs.RowTerms.{rowTerms, finiteTerms}
 use Rattle.likelihood.specs.declared.population_focei.Observation.{Observation}
 use Rattle.evaluation.specs.Claim.{EveryEvaluation}

@@ -1,5 +1,3 @@
-pub mod Again
 pub mod Ends
-pub mod Loop
 pub mod Paths
-pub mod Runs
+pub mod Turns

@@ -13,10 +13,10 @@ use Rattle.libm.specs.Exp.{exp}
 use Rattle.matrix.specs.Matrix.{pair, at, entry, hasNonfiniteEntry}
 use Rattle.matrix.specs.declared.Pair.{Pair}
 use Rattle.likelihood.specs.RowTerms.{rowTerms}
-use Rattle.likelihood.specs.Row2.{rowVariance, scaledRow, addNll, addScore, addInformation}
+use Rattle.likelihood_2d.specs.Row2.{rowVariance, scaledRow, addNll, addScore, addInformation}
 use Rattle.likelihood.specs.declared.population_focei.Observation.{Observation}
 use Rattle.likelihood.specs.declared.population_focei.RowTerms.{RowTerms}
-use Rattle.likelihood.specs.declared.population_focei_2d.Row2.{Row2}
+use Rattle.likelihood_2d.specs.declared.population_focei_2d.Row2.{Row2}
 use Rattle.evaluation.specs.Reply.{outputValues, rowLength, rows, rowAt, column, predictionRow, written}
 use Rattle.evaluation.specs.declared.IndividualValues.{IndividualValues}
 use Rattle.evaluation.specs.declared.IndividualValues.the-variants.{Valid, Invalid}

@@ -155,7 +155,7 @@ pub extern "C" fn curlewstand_evaluate(
     ensures { λ r. ⌜ evaluated r (now (work .exit)) (now (out .exit)) ≡ evaluate (now (observations .entry)) question (now (reply .entry)) (now (work .entry)) (now (out .entry)) ⌝ }
 {
     let start = beginning(question, reply);
-    let evaluation = evaluation::add_observations(
+    let evaluation = observations::add_observations(
         observations,
         start.from,
         start.to,
@@ -201,7 +201,7 @@ pub extern "C" fn curlewstand_check_observations(
     ensures { λ r. ⌜ answered r (now (place .exit)) ≡ checkAll (now (observations .entry)) width (now (counts .entry)) (now (place .entry)) ⌝ }
 {
     let first = first_check();
-    let check = evaluation::check_observations(
+    let check = observations::check_observations(
         observations,
         0,
         observations.len(),

@@ -40,7 +40,7 @@ fn check_lent(setup: SessionSetup, observations: &[Observation], counts: &[u64])
 {
     let first = session::first_check();
     let n = observations.len();
-    evaluation::check_observations(observations, 0, n, first, setup.width, counts)
+    observations::check_observations(observations, 0, n, first, setup.width, counts)
 }
 
 // The observations of a reply that is let in are added to its evaluation.
@@ -52,7 +52,7 @@ fn evaluate(
 ) -> Evaluation
     ensures { λ r. ⌜ evaluating r (now (work .exit)) ≡ evaluateOver (now (observations .entry)) admitted (now (reply .entry)) (now (work .entry)) ⌝ }
 {
-    evaluation::add_observations(
+    observations::add_observations(
         observations,
         admitted.from,
         admitted.to,

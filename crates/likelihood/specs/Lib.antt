@@ -1,5 +1,3 @@
--- What a reader must believe of this crate: Terms, to be held beside the paper, and RowTerms and Row2, to be held beside
--- population_focei.rs and population_focei_2d.rs.
+-- What a reader must believe of this crate: Terms, to be held beside the paper, and RowTerms, to be held beside population_focei.rs.
 pub mod Terms
 pub mod RowTerms
-pub mod Row2

@@ -34,7 +34,8 @@ pub enum Row {
 pub fn row_terms(observation: Observation, prediction: f64, f_eta: f64, additive: f64) -> Row
     ensures { λ r. ⌜ answer r ≡ rowTerms observation prediction «f_eta» additive ⌝ }
 {
-    let prop = observation.proportional * prediction;
+    let proportional = observation.proportional;
+    let prop = proportional * prediction;
     let variance = additive * additive + prop * prop;
     if float64::is_nonfinite(variance) {
         return Row::InvalidVariance;
@@ -46,22 +47,24 @@ pub fn row_terms(observation: Observation, prediction: f64, f_eta: f64, additive
         return Row::InvalidVariance;
     }
     let residual = observation.value - prediction;
-    let r_eta = 2.0 * (observation.proportional * observation.proportional) * prediction * f_eta;
+    let r_eta = 2.0 * (proportional * proportional) * prediction * f_eta;
     let scaled_r_eta = r_eta / variance;
     let z2 = residual * residual / variance;
-    let terms = RowTerms {
-        nll: 0.5 * (z2 + libm::log(variance) + LOG_2PI),
-        score: -residual * f_eta / variance + 0.5 * (1.0 - z2) * scaled_r_eta,
-        information: f_eta * f_eta / variance + 0.5 * scaled_r_eta * scaled_r_eta,
-    };
-    if float64::is_nonfinite(terms.nll) {
+    let nll = 0.5 * (z2 + libm::log(variance) + LOG_2PI);
+    let score = -residual * f_eta / variance + 0.5 * (1.0 - z2) * scaled_r_eta;
+    let information = f_eta * f_eta / variance + 0.5 * scaled_r_eta * scaled_r_eta;
+    if float64::is_nonfinite(nll) {
         return Row::Overflow;
     }
-    if float64::is_nonfinite(terms.score) {
+    if float64::is_nonfinite(score) {
         return Row::Overflow;
     }
-    if float64::is_nonfinite(terms.information) {
+    if float64::is_nonfinite(information) {
         return Row::Overflow;
     }
-    Row::Terms(terms)
+    Row::Terms(RowTerms {
+        nll,
+        score,
+        information,
+    })
 }

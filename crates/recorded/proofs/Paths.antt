@@ -11,7 +11,7 @@ use Rattle.evaluation.specs.Observations.{checkObservation, checkObservations}
 use Rattle.evaluation.specs.Subject.{Evaluating, addObservation, addObservations}
 use Rattle.evaluation.specs.declared.Check.{Check}
 use Rattle.evaluation.specs.declared.Trial.{Trial}
-use Rattle.evaluation.proofs.Runs.{len-part}
+use Rattle.observations.proofs.Runs.{len-part}
 use Rattle.evaluation.specs.Subject.{evaluating}
 use Rattle.evaluation.specs.declared.Evaluation.{Evaluation}
 use Rattle.admission.specs.declared.Lent.{Lent}

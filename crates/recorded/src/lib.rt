@@ -78,7 +78,7 @@ pub fn check_words(words: &[u64], width: u32, counts: &[u64]) -> Check
     let mut i = 0;
     while i < n {
         let observation = observation_at(words, i);
-        check = evaluation::check_observation(check, observation, width, counts);
+        check = observations::check_observation(check, observation, width, counts);
         i += 1;
     }
     check
@@ -111,7 +111,7 @@ pub fn add_words(
     let mut i = from;
     while i < end {
         let observation = observation_at(words, i);
-        sums = evaluation::add_observation(sums, observation, trial, reply, work);
+        sums = rows::add_observation(sums, observation, trial, reply, work);
         i += 1;
     }
     sums

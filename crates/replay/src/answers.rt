@@ -1,7 +1,7 @@
 // The answer of each operation, over words. Words that an answer does not use are zero.
 use likelihood::population_focei::Observation;
 use likelihood::population_focei::Row;
-use likelihood::population_focei_2d::RowVariance;
+use likelihood_2d::population_focei_2d::RowVariance;
 use matrix::InversePositive;
 
 fn of_word(word: u64) -> [u64; 8] {
@@ -85,18 +85,18 @@ fn of_row_terms(observation: Observation, prediction: f64, f_eta: f64, additive:
 
 // 0 and the sums of a row alone: nll, score, information by rows; or the number of the refusal.
 fn of_add_row(observation: Observation, prediction: f64, f_eta: [f64; 2]) -> [u64; 8] {
-    match likelihood::population_focei_2d::row_variance(observation, prediction, f_eta) {
+    match likelihood_2d::population_focei_2d::row_variance(observation, prediction, f_eta) {
         RowVariance::Valid(variance) => {
-            let row = likelihood::population_focei_2d::scaled_row(
+            let row = likelihood_2d::population_focei_2d::scaled_row(
                 observation,
                 prediction,
                 f_eta,
                 variance,
             );
-            let nll = likelihood::population_focei_2d::add_nll(0.0, row);
-            let s = likelihood::population_focei_2d::add_score([0.0, 0.0], row, f_eta);
+            let nll = likelihood_2d::population_focei_2d::add_nll(0.0, row);
+            let s = likelihood_2d::population_focei_2d::add_score([0.0, 0.0], row, f_eta);
             let zeros = [[0.0, 0.0], [0.0, 0.0]];
-            let i = likelihood::population_focei_2d::add_information(zeros, row, f_eta);
+            let i = likelihood_2d::population_focei_2d::add_information(zeros, row, f_eta);
             [
                 0,
                 float64::to_word(nll),

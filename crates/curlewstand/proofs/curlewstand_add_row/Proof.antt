@@ -1,7 +1,7 @@
 -- `curlewstand_add_row` meets its contract: the case of the leaf's answer is the case of the definition. Assumes nothing.
 use borrow.Author.Needs.{needs}
 use mathlib.Core.Path.{sym, ap, _∙_}
-use Rattle.likelihood.specs.Row2.{answer}
+use Rattle.likelihood_2d.specs.Row2.{answer}
 use Rattle.float64.specs.Answer.{numberOf}
 use Rattle.curlewstand.specs.Leaves.{observationOf, added, addRow}
 use Rattle.curlewstand.proofs.curlewstand_add_row.Statement.{statement}

@@ -50,10 +50,10 @@ use Rattle.evaluations.proofs.first_check as g
 use Rattle.evaluations.proofs.first_check.Symbol as g-def
 use Rattle.evaluations.proofs.first_check.Symbol.{name as #g}
 use Rattle.evaluations.proofs.first_check.Met as g-thm
-use Rattle.evaluation.proofs.check_observations as h
-use Rattle.evaluation.proofs.check_observations.Symbol as h-def
-use Rattle.evaluation.proofs.check_observations.Symbol.{name as #h}
-use Rattle.evaluation.proofs.check_observations.Met as h-thm
+use Rattle.observations.proofs.check_observations as h
+use Rattle.observations.proofs.check_observations.Symbol as h-def
+use Rattle.observations.proofs.check_observations.Symbol.{name as #h}
+use Rattle.observations.proofs.check_observations.Met as h-thm
 use Rattle.evaluations.proofs.told_check as j
 use Rattle.evaluations.proofs.told_check.Symbol as j-def
 use Rattle.evaluations.proofs.told_check.Symbol.{name as #j}
@@ -163,5 +163,5 @@ curlewstand-check-observations-spec 𝓤 H 𝓜 𝓖 𝓡 =
     (tables 𝓤 H 𝓜 𝓡 code.env .C) (tables 𝓤 H 𝓜 𝓡 code.env .Λ) #f code.function (code.unfolded 𝓤 H 𝓜 𝓡)
     (meets 𝓤 H (𝓖 .A) (givenOf 𝓤 H 𝓜 𝓖) (𝓜 .mem) (𝓡 .run) (tablesOf 𝓤 H 𝓜 (tables 𝓤 H 𝓜 𝓡 code.env))
     (cited 𝓤 H (g-con 𝓤 H (𝓖 .A) (𝓜 .mem) (𝓡 .run)) 𝓜 𝓡 code.env #g g-def.routine code.calls-evaluations·first-check (g-thm.met 𝓤 H 𝓜 𝓖 𝓡))
-    (cited 𝓤 H (h-con 𝓤 H (𝓖 .A) (𝓜 .mem) (𝓡 .run)) 𝓜 𝓡 code.env #h h-def.routine code.calls-evaluation·check-observations (h-thm.met 𝓤 H 𝓜 𝓖 𝓡))
+    (cited 𝓤 H (h-con 𝓤 H (𝓖 .A) (𝓜 .mem) (𝓡 .run)) 𝓜 𝓡 code.env #h h-def.routine code.calls-observations·check-observations (h-thm.met 𝓤 H 𝓜 𝓖 𝓡))
     (cited 𝓤 H (j-con 𝓤 H (𝓖 .A) (𝓜 .mem) (𝓡 .run)) 𝓜 𝓡 code.env #j j-def.routine code.calls-evaluations·told-check (j-thm.met 𝓤 H 𝓜 𝓖 𝓡)))

@@ -64,10 +64,10 @@ use Rattle.session.proofs.first_check as g
 use Rattle.session.proofs.first_check.Symbol as g-def
 use Rattle.session.proofs.first_check.Symbol.{name as #g}
 use Rattle.session.proofs.first_check.Met as g-thm
-use Rattle.evaluation.proofs.check_observations as h
-use Rattle.evaluation.proofs.check_observations.Symbol as h-def
-use Rattle.evaluation.proofs.check_observations.Symbol.{name as #h}
-use Rattle.evaluation.proofs.check_observations.Met as h-thm
+use Rattle.observations.proofs.check_observations as h
+use Rattle.observations.proofs.check_observations.Symbol as h-def
+use Rattle.observations.proofs.check_observations.Symbol.{name as #h}
+use Rattle.observations.proofs.check_observations.Met as h-thm
 use Rattle.host.proofs.check_lent.Key.{name as #f}
 use Rattle.host.proofs.check_lent as f
 use Rattle.host.proofs.check_lent.Statement as stated
@@ -161,4 +161,4 @@ check-lent-spec 𝓤 H 𝓜 𝓖 𝓡 =
     (tables 𝓤 H 𝓜 𝓡 code.env .C) (tables 𝓤 H 𝓜 𝓡 code.env .Λ) #f code.function (code.unfolded 𝓤 H 𝓜 𝓡)
     (meets 𝓤 H (𝓖 .A) (givenOf 𝓤 H 𝓜 𝓖) (𝓜 .mem) (𝓡 .run) (tablesOf 𝓤 H 𝓜 (tables 𝓤 H 𝓜 𝓡 code.env))
     (cited 𝓤 H (g-con 𝓤 H (𝓖 .A) (𝓜 .mem) (𝓡 .run)) 𝓜 𝓡 code.env #g g-def.routine code.calls-session·first-check (g-thm.met 𝓤 H 𝓜 𝓖 𝓡))
-    (cited 𝓤 H (h-con 𝓤 H (𝓖 .A) (𝓜 .mem) (𝓡 .run)) 𝓜 𝓡 code.env #h h-def.routine code.calls-evaluation·check-observations (h-thm.met 𝓤 H 𝓜 𝓖 𝓡)))
+    (cited 𝓤 H (h-con 𝓤 H (𝓖 .A) (𝓜 .mem) (𝓡 .run)) 𝓜 𝓡 code.env #h h-def.routine code.calls-observations·check-observations (h-thm.met 𝓤 H 𝓜 𝓖 𝓡)))

@@ -61,10 +61,10 @@ use Rattle.evaluation.proofs.Trial as TR
 use Rattle.evaluation.proofs.Trial.Laws as TR′
 use Rattle.evaluation.specs.Subject.{evaluating}
 use Rattle.host.specs.Host.{evaluateOver}
-use Rattle.evaluation.proofs.add_observations as p
-use Rattle.evaluation.proofs.add_observations.Symbol as p-def
-use Rattle.evaluation.proofs.add_observations.Symbol.{name as #p}
-use Rattle.evaluation.proofs.add_observations.Met as p-thm
+use Rattle.observations.proofs.add_observations as p
+use Rattle.observations.proofs.add_observations.Symbol as p-def
+use Rattle.observations.proofs.add_observations.Symbol.{name as #p}
+use Rattle.observations.proofs.add_observations.Met as p-thm
 use Rattle.host.proofs.evaluate.Key.{name as #f}
 use Rattle.host.proofs.evaluate as f
 use Rattle.host.proofs.evaluate.Statement as stated
@@ -144,4 +144,4 @@ evaluate-spec 𝓤 H 𝓜 𝓖 𝓡 =
     entered 𝓤 H (tripleOf 𝓤 H (𝓖 .A) f.signature (f.spec 𝓤 H (𝓖 .A) (𝓜 .mem) (𝓡 .run)))
     (tables 𝓤 H 𝓜 𝓡 code.env .C) (tables 𝓤 H 𝓜 𝓡 code.env .Λ) #f code.function (code.unfolded 𝓤 H 𝓜 𝓡)
     (meets 𝓤 H (𝓖 .A) (givenOf 𝓤 H 𝓜 𝓖) (𝓜 .mem) (𝓡 .run) (tablesOf 𝓤 H 𝓜 (tables 𝓤 H 𝓜 𝓡 code.env))
-    (cited 𝓤 H (p-con 𝓤 H (𝓖 .A) (𝓜 .mem) (𝓡 .run)) 𝓜 𝓡 code.env #p p-def.routine code.calls-evaluation·add-observations (p-thm.met 𝓤 H 𝓜 𝓖 𝓡)))
+    (cited 𝓤 H (p-con 𝓤 H (𝓖 .A) (𝓜 .mem) (𝓡 .run)) 𝓜 𝓡 code.env #p p-def.routine code.calls-observations·add-observations (p-thm.met 𝓤 H 𝓜 𝓖 𝓡)))

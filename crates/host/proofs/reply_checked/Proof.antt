@@ -78,7 +78,7 @@ use Rattle.host.specs.Host.{evaluateOver}
 use Rattle.evaluation.specs.Subject.{evaluating}
 use Rattle.session.specs.Calls.{lentBy}
 use Rattle.session_words.specs.SessionWords.{loadedState}
-use Rattle.evaluation.proofs.Again.{LentAgain as LentSlice, lends-again-at, comes-back-at}
+use Rattle.observations.proofs.Again.{LentAgain as LentSlice, lends-again-at, comes-back-at}
 use Rattle.session.proofs.lent_of as j
 use Rattle.session.proofs.lent_of.Symbol as j-def
 use Rattle.session.proofs.lent_of.Symbol.{name as #j}

@@ -25,7 +25,7 @@ returns-3 c = pass _ (pass _ (yesOf _ (c .before .is-nonfinite2 .ensures) (c .if
 -- past it
 valid :
     (c : tie.Else3) {z : Answer RowTerms} →
-    let o = c .before .before .before .before .before .before .args in
+    let o = c .before .before .before .before .before .args in
     let R = variance (o .additive) (o .observation .proportional) (o .prediction) in
     z ≡ finiteTerms (termsAt R (o .observation) (o .prediction) (o .f-eta)) →
     z ≡ rowTerms (o .observation) (o .prediction) (o .f-eta) (o .additive)
@@ -41,19 +41,19 @@ returns-4 : tie.Need-returns-4
 unfolding answer termsAt finiteTerms
 returns-4 c =
     let d = c .before .before in
-    valid (d .before .before .before) (rw (← d .log .ensures) (yesOf _ (c .before .is-nonfinite3 .ensures) (c .if4 .taken) refl))
+    valid (d .before .before) (rw (← d .log .ensures) (yesOf _ (c .before .is-nonfinite3 .ensures) (c .if4 .taken) refl))
 
 returns-5 : tie.Need-returns-5
 unfolding answer termsAt finiteTerms
 returns-5 c =
     let d = c .before .before .before .before in
-    valid (d .before .before .before) (rw (← d .log .ensures) (pass _ (yesOf _ (c .before .is-nonfinite4 .ensures) (c .if5 .taken) refl)))
+    valid (d .before .before) (rw (← d .log .ensures) (pass _ (yesOf _ (c .before .is-nonfinite4 .ensures) (c .if5 .taken) refl)))
 
 returns-6 : tie.Need-returns-6
 unfolding answer termsAt finiteTerms
 returns-6 c =
     let d = c .before .before .before .before .before .before in
-    valid (d .before .before .before) (rw (← d .log .ensures) (pass _ (pass _ (yesOf _ (c .before .is-nonfinite5 .ensures) (c .if6 .taken) refl))))
+    valid (d .before .before) (rw (← d .log .ensures) (pass _ (pass _ (yesOf _ (c .before .is-nonfinite5 .ensures) (c .if6 .taken) refl))))
 
 returns-7 : tie.Need-returns-7
 unfolding answer termsAt finiteTerms
@@ -61,7 +61,7 @@ returns-7 c =
     let b = c .before .before in
     let a = b .before .before in
     let d = a .before .before in
-    valid (d .before .before .before) (rw (← d .log .ensures)
+    valid (d .before .before) (rw (← d .log .ensures)
     (noOf _ (a .before .is-nonfinite3 .ensures) (a .if4 .left)
     (noOf _ (b .before .is-nonfinite4 .ensures) (b .if5 .left)
     (noOf _ (c .before .is-nonfinite5 .ensures) (c .if6 .left) refl))))

@@ -1,0 +1,4 @@
+pub mod Again
+pub mod Loop
+pub mod Paths
+pub mod Runs

@@ -1,0 +1,14 @@
+-- `next_place` meets its contract: each exit by its law. Assumes nothing.
+use Rattle.float64.proofs.Laws.{free}
+use Rattle.observations.proofs.Paths.{same-subject, next-subject}
+use Rattle.observations.proofs.next_place.Statement.{statement}
+use Rattle.observations.proofs.next_place.Tie as tie
+
+returns : tie.Need-returns
+returns c = same-subject _ _ (c .before .wrapping-add-usize .ensures) (c .if1 .taken)
+
+returns-2 : tie.Need-returns-2
+returns-2 c = next-subject _ _ (c .before .before .wrapping-add-usize .ensures) (c .before .if1 .left) (c .wrapping-add-usize2 .ensures)
+
+pub next-place-spec : {M : Type 1} → statement M
+next-place-spec = tie.close (tie.spec free returns free returns-2)
