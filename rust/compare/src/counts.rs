@@ -124,9 +124,11 @@ impl Largest {
     }
 }
 
+/// A line for each count, with one effect and with two.
 impl fmt::Display for Counts {
     fn fmt(&self, f: &mut fmt::Formatter<'_>) -> fmt::Result {
         let [one, two] = &self.by_effects;
+        writeln!(f, "{:44}{:>12}{:>13}", "", "one effect", "two effects")?;
         let mut line = |name: &str, of: &dyn Fn(&OfEffects) -> u64| {
             writeln!(f, "{name:44}{:>12}{:>13}", of(one), of(two))
         };
@@ -146,22 +148,29 @@ impl fmt::Display for Counts {
         line("evaluations answered on both sides", &|of| of.evaluations)?;
         line("kept evaluations found", &|of| of.found)?;
         line("kept rows dropped", &|of| of.dropped_rows)?;
-        line("largest: asked by one search", &|of| of.largest.asked)?;
-        line("  rise of the tally in one search", &|of| {
-            of.largest.rise_in_search
-        })?;
-        line("  rise of the tally in one objective", &|of| {
-            of.largest.rise_in_objective
-        })?;
-        line("  subjects", &|of| of.largest.subjects)?;
-        line("  observations", &|of| of.largest.observations)?;
-        line("  subjects of a finished objective", &|of| {
-            of.largest.finished_subjects
-        })?;
-        line("  observations of a finished objective", &|of| {
-            of.largest.finished_observations
-        })?;
-        line("  K", &|of| of.largest.kept_rows)?;
-        line("  objectives of one session", &|of| of.largest.objectives)
+        for (name, of_largest) in LARGEST {
+            line(name, &|of| of_largest(&of.largest))?;
+        }
+        Ok(())
     }
 }
+
+type OfLargest = fn(&Largest) -> u64;
+
+const LARGEST: [(&str, OfLargest); 9] = [
+    ("largest: asked by one search", |of| of.asked),
+    ("  rise of the tally in one search", |of| of.rise_in_search),
+    ("  rise of the tally in one objective", |of| {
+        of.rise_in_objective
+    }),
+    ("  subjects", |of| of.subjects),
+    ("  observations", |of| of.observations),
+    ("  subjects of a finished objective", |of| {
+        of.finished_subjects
+    }),
+    ("  observations of a finished objective", |of| {
+        of.finished_observations
+    }),
+    ("  K", |of| of.kept_rows),
+    ("  objectives of one session", |of| of.objectives),
+];

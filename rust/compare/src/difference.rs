@@ -7,37 +7,46 @@ use std::fmt::{Debug, Display};
 
 #[derive(Clone, Debug)]
 pub struct Difference {
-    /// The number of the session's step.
-    pub step: usize,
     pub what: String,
     pub original: String,
     pub ours: String,
 }
 
-pub fn parted(what: &str, original: String, ours: String) -> Difference {
+pub fn parted(what: impl Display, original: String, ours: String) -> Difference {
     Difference {
-        step: 0,
-        what: what.into(),
+        what: what.to_string(),
         original,
         ours,
     }
 }
 
-pub fn same<T: PartialEq + Display>(what: &str, original: T, ours: T) -> Result<(), Difference> {
+pub fn same<T: PartialEq + Display>(
+    what: impl Display,
+    original: T,
+    ours: T,
+) -> Result<(), Difference> {
     if original == ours {
         return Ok(());
     }
     Err(parted(what, original.to_string(), ours.to_string()))
 }
 
-pub fn same_as<T: PartialEq + Debug>(what: &str, original: &T, ours: &T) -> Result<(), Difference> {
+pub fn same_as<T: PartialEq + Debug>(
+    what: impl Display,
+    original: &T,
+    ours: &T,
+) -> Result<(), Difference> {
     if original == ours {
         return Ok(());
     }
     Err(parted(what, format!("{original:x?}"), format!("{ours:x?}")))
 }
 
-pub fn same_tally(what: &str, expected: &Expected, ours: &Session) -> Result<(), Difference> {
+pub fn same_tally(
+    what: impl Display,
+    expected: &Expected,
+    ours: &Session,
+) -> Result<(), Difference> {
     let [original, ours] = [expected.tally(), ours.tally()];
     if original == ours {
         return Ok(());
@@ -56,7 +65,7 @@ pub fn same_results(original: &Results, ours: &Results) -> Result<(), Difference
     for (subject, (original, ours)) in estimates.enumerate() {
         if original != ours {
             let what = format!("eta, second eta and nll of subject {subject}");
-            return Err(parted(&what, words(original), words(ours)));
+            return Err(parted(what, words(original), words(ours)));
         }
     }
     let fitted = original.fitted.iter().zip(&ours.fitted);
@@ -64,7 +73,7 @@ pub fn same_results(original: &Results, ours: &Results) -> Result<(), Difference
         if original != ours {
             let what =
                 format!("population and individual prediction of observation {number} of all");
-            return Err(parted(&what, words(original), words(ours)));
+            return Err(parted(what, words(original), words(ours)));
         }
     }
     let lengths = |results: &Results| (results.estimates.len(), results.fitted.len());

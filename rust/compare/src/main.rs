@@ -6,6 +6,8 @@
 
 use compare::arguments::{parse, Arguments, USAGE};
 use std::process::ExitCode;
+#[cfg(source_at_hand)]
+use std::time::{Duration, Instant};
 
 fn main() -> ExitCode {
     match parse(std::env::args().skip(1)) {
@@ -27,42 +29,39 @@ fn compare_sessions(_: Arguments) -> ExitCode {
 fn compare_sessions(arguments: Arguments) -> ExitCode {
     use compare::counts::Counts;
     use compare::pair::Alter;
-    use compare::{report, run};
-    use std::time::{Duration, Instant};
+    use compare::report::report;
+    use compare::run::{run, spoil};
 
     let begun = Instant::now();
-    let mut told = begun;
     let mut counts = Counts::default();
-    let alter = arguments.spoil.then_some(run::spoil as Alter);
-    let ran = run::run(
-        arguments.seed,
-        arguments.sessions,
-        alter,
-        &mut counts,
-        |counts| {
-            if told.elapsed() >= Duration::from_secs(20) {
-                told = Instant::now();
-                let (sessions, evaluations) = (counts.sessions(), counts.evaluations());
-                eprintln!("{sessions} sessions alike, {evaluations} evaluations");
-            }
-        },
-    );
+    let alter = arguments.spoil.then_some(spoil as Alter);
+    let (seed, sessions) = (arguments.seed, arguments.sessions);
+    let ran = run(seed, sessions, alter, &mut counts, progress());
     println!(
-        "{} sessions alike, {} objectives, {} evaluations on both sides, {:.0?}\n",
+        "{} sessions alike, {} objectives, {} evaluations on both sides, {:.0?}\n\n{counts}",
         counts.sessions(),
         counts.objectives(),
         counts.evaluations(),
         begun.elapsed()
     );
-    println!(
-        "{:44}{:>12}{:>13}\n{counts}",
-        "", "one effect", "two effects"
-    );
     match ran {
         Ok(()) => ExitCode::SUCCESS,
         Err(found) => {
-            println!("{}", report::report(found.seed, &found.plan, alter));
+            println!("{}", report(found.seed, &found.plan, alter));
             ExitCode::FAILURE
+        }
+    }
+}
+
+/// Says every now and then how far it is.
+#[cfg(source_at_hand)]
+fn progress() -> impl FnMut(&compare::counts::Counts) {
+    let mut told = Instant::now();
+    move |counts| {
+        if told.elapsed() >= Duration::from_secs(20) {
+            told = Instant::now();
+            let (sessions, evaluations) = (counts.sessions(), counts.evaluations());
+            eprintln!("{sessions} sessions alike, {evaluations} evaluations");
         }
     }
 }

@@ -421,7 +421,7 @@ mod tests {
         };
         let seeds = (0..).map(|seed| draws::draw(&mut Random::new(seed)));
         let parting = seeds.filter(|plan| parts_after(plan).is_some());
-        for plan in parting.take(8) {
+        for plan in parting.take(4) {
             let small = smallest(&plan, parts_after, WITHIN);
             assert!(parts_after(&small).is_some());
             assert!(pair::run(&small, None).difference.is_none());
