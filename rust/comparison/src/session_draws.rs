@@ -18,7 +18,7 @@ use oracle::session::Observed;
 
 /// More than the sessions here come to, but no more than a session of one
 /// effect can: with two effects some searches are cut short by it.
-const AMPLE: u64 = 400;
+pub const AMPLE: u64 = 400;
 
 /// What subjects and objectives start from.
 struct Drawn {
@@ -91,14 +91,14 @@ fn wildness(random: &mut Random) -> u64 {
     random.pick(&[2, 20, 20, 20])
 }
 
-fn kind(random: &mut Random, wildness: u64) -> Kind {
+pub fn kind(random: &mut Random, wildness: u64) -> Kind {
     match random.below(wildness) {
         0 => random.pick(&WILD),
         _ => random.pick(&TAME),
     }
 }
 
-fn kind_2d(random: &mut Random, wildness: u64) -> Kind2 {
+pub fn kind_2d(random: &mut Random, wildness: u64) -> Kind2 {
     match random.below(wildness) {
         0 => random.pick(&WILD_2D),
         _ => random.pick(&TAME_2D),
@@ -148,7 +148,7 @@ fn one_effect(random: &mut Random) -> Drawn {
 }
 
 /// Those of the trial, or others, whose eta is well within the bound.
-fn observed(random: &mut Random, trial: &Trial) -> Vec<Observed> {
+pub fn observed(random: &mut Random, trial: &Trial) -> Vec<Observed> {
     let within = !trial.model.kind.lays_down_the_score() && random.below(4) != 0;
     if !within {
         return trial.observations.clone();
@@ -201,7 +201,7 @@ fn two_effects(random: &mut Random) -> Drawn {
 
 /// The observations get their rows and outputs, no two the same. Now and then
 /// there are some more of the same rows.
-fn arranged(
+pub fn arranged(
     random: &mut Random,
     model: AnyModel,
     mut observations: Vec<Observed>,
@@ -344,7 +344,7 @@ fn objective(random: &mut Random, plan: &Plan, base: Parameters, number: u64) ->
     }
 }
 
-fn vary(random: &mut Random, plan: &Plan, parameters: &mut Parameters) {
+pub fn vary(random: &mut Random, plan: &Plan, parameters: &mut Parameters) {
     match random.below(8) {
         0 | 1 if plan.effects() == 1 => parameters.omega *= random.uniform(0.5, 1.),
         2 => parameters.theta[0] *= random.uniform(0.9, 1.1),
@@ -362,7 +362,7 @@ fn vary(random: &mut Random, plan: &Plan, parameters: &mut Parameters) {
     }
 }
 
-fn fault(random: &mut Random) -> Fault {
+pub fn fault(random: &mut Random) -> Fault {
     let number = random.below(6) as usize;
     let x = random.pick(&[
         f64::NAN,
@@ -393,7 +393,7 @@ fn fault(random: &mut Random) -> Fault {
 }
 
 /// Warm starts of any kind for some of the subjects.
-fn warm(random: &mut Random, plan: &Plan) -> Vec<f64> {
+pub fn warm(random: &mut Random, plan: &Plan) -> Vec<f64> {
     let bound = plan.setup.eta_bound;
     let words = plan.effects() * plan.subjects.len();
     let count = 1 + random.below(words as u64);

@@ -104,6 +104,9 @@ pub struct Ran {
     pub modes: Vec<Mode>,
     /// How many subjects are past 17.
     pub passed: usize,
+    /// How many evaluations each subject's search asked for, kept ones
+    /// included; the last one's too where it was refused.
+    pub asked_for: Vec<usize>,
 }
 
 pub struct Original {
@@ -135,8 +138,6 @@ impl Original {
     pub fn run(&mut self, objective: &Objective, subjects: usize) -> Ran {
         {
             let mut shared = self.shared.borrow_mut();
-            shared.turns_before += shared.asked.len();
-            shared.asked.clear();
             shared.searched = (0, 0);
             shared.taken = 0;
             shared.objective = Some(objective.clone());
@@ -147,17 +148,22 @@ impl Original {
             Err(refusal) => refusal.subject.unwrap_or(subjects),
         };
         let mut modes = Vec::new();
+        let mut asked_for = Vec::new();
         for subject in 0..subjects.min(passed + 1) {
             if let Ok(mode) = self.twin.mode(subject, &objective.parameters) {
                 modes.push(mode);
             }
+            asked_for.push(oracle::asked());
             self.twin.set_warm(subject, self.whole.warm(subject));
         }
+        let asked = std::mem::take(&mut self.shared.borrow_mut().asked);
+        self.shared.borrow_mut().turns_before += asked.len();
         let ran = Ran {
-            asked: self.shared.borrow().asked.clone(),
+            asked,
             end,
             modes,
             passed,
+            asked_for,
         };
         self.hold(&ran);
         ran
@@ -243,9 +249,10 @@ fn repeating(plan: &Rc<Plan>, shared: &Rc<RefCell<Shared>>) -> Simulator {
     let (plan, shared) = (plan.clone(), shared.clone());
     Box::new(move |question: &Question| {
         let mut shared = shared.borrow_mut();
-        let (before, reply) = shared.asked[shared.taken].clone();
-        assert_eq!(before, *question);
+        let number = shared.taken;
         shared.taken += 1;
-        samples_of(&reply, plan.setup.width as usize, plan.effects())
+        let (before, reply) = &shared.asked[number];
+        assert_eq!(before, question);
+        samples_of(reply, plan.setup.width as usize, plan.effects())
     })
 }

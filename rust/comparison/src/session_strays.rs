@@ -64,7 +64,7 @@ fn shorter(random: &mut Random, plan: &Plan) -> Change {
     Change::Lengths(lengths)
 }
 
-fn setup(random: &mut Random, plan: &Plan) -> Setup {
+pub fn setup(random: &mut Random, plan: &Plan) -> Setup {
     let mut setup = plan.setup.clone();
     let not_finite = random.pick(&[f64::NAN, f64::INFINITY, f64::NEG_INFINITY]);
     match random.below(8) {
@@ -108,7 +108,7 @@ fn counts(random: &mut Random, plan: &Plan) -> Vec<u64> {
     counts
 }
 
-fn observations(random: &mut Random, plan: &Plan) -> Vec<Observed> {
+pub fn observations(random: &mut Random, plan: &Plan) -> Vec<Observed> {
     let all = plan
         .subjects
         .iter()

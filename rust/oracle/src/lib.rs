@@ -21,6 +21,8 @@ pub use population_focei::{
     multivariate::two_effects::{determinant, dot, inverse_positive, product, Rows2, TwoEffects},
     one_effect::{row_terms, OneEffect},
 };
+#[cfg(source_at_hand)]
+pub use stand_ins::asked;
 
 /// The source calls this by its path from the root of its crate. Solvers are
 /// the host's affair: every one is accepted.

@@ -5,7 +5,7 @@
 
 use crate::session::SensitivitySample;
 use crate::stand_ins::*;
-use std::collections::{HashMap, VecDeque};
+use std::collections::VecDeque;
 use std::sync::Arc;
 
 /// Reads along in every text that the items format, see `noted`.

@@ -6,7 +6,9 @@
 use crate::session::{Observed, Question, Refusal, SensitivitySample, Settings, Simulator};
 use std::cell::{Cell, RefCell};
 use std::cmp::Ordering;
-use std::collections::BTreeMap;
+use std::collections::{self, BTreeMap};
+use std::hash::Hash;
+use std::ops::Index;
 use std::panic::Location;
 use std::path::Path;
 use std::sync::Arc;
@@ -73,6 +75,55 @@ thread_local! {
     static KEPT_ROWS_LIMIT: Cell<usize> = const { Cell::new(0) };
     static LAST_ETAS: Cell<[f64; 2]> = const { Cell::new([0.; 2]) };
     static NOTED_OBSERVATION: Cell<Option<usize>> = const { Cell::new(None) };
+    static ASKED: Cell<usize> = const { Cell::new(0) };
+}
+
+/// How many evaluations were asked for in the last call of the original on
+/// this thread, whether a kept one, a reply or a refusal answered.
+pub fn asked() -> usize {
+    ASKED.get()
+}
+
+/// The source's map, which counts how often something was looked for in it:
+/// `subject` looks for a kept evaluation each time that one is asked for, and
+/// nothing else in the source calls `get`.
+pub struct HashMap<K, V>(collections::HashMap<K, V>);
+
+impl<K: Eq + Hash, V> HashMap<K, V> {
+    pub fn new() -> Self {
+        HashMap(collections::HashMap::new())
+    }
+
+    pub fn get(&self, key: &K) -> Option<&V> {
+        ASKED.set(ASKED.get() + 1);
+        self.0.get(key)
+    }
+
+    pub fn contains_key(&self, key: &K) -> bool {
+        self.0.contains_key(key)
+    }
+
+    pub fn insert(&mut self, key: K, value: V) -> Option<V> {
+        self.0.insert(key, value)
+    }
+
+    pub fn remove(&mut self, key: &K) -> Option<V> {
+        self.0.remove(key)
+    }
+}
+
+impl<K: Eq + Hash, V> Default for HashMap<K, V> {
+    fn default() -> Self {
+        HashMap::new()
+    }
+}
+
+impl<K: Eq + Hash, V> Index<&K> for HashMap<K, V> {
+    type Output = V;
+
+    fn index(&self, key: &K) -> &V {
+        &self.0[key]
+    }
 }
 
 impl PartialEq<KeptRowsLimit> for usize {
@@ -283,6 +334,7 @@ impl CompiledSensitivityDocument {
     pub fn begin(&self, kept_rows: usize) {
         KEPT_ROWS_LIMIT.set(kept_rows);
         NOTED_OBSERVATION.set(None);
+        ASKED.set(0);
         self.fitted_rows.set(0);
     }
 

@@ -80,6 +80,27 @@ fn one_effect_gives_the_printed_example() {
 }
 
 #[test]
+fn what_is_asked_for_is_counted_kept_or_not() {
+    let cohort = vec![vec![observed(0, 0., 1., 0.)]; 2];
+    let mut few = settings();
+    few.max_evaluations = 40;
+    let mut session = OneEffect::new(few, cohort, line(0., 0., 1));
+    for _ in 0..2 {
+        session.population(1., 1., None).unwrap();
+        assert_eq!((session.calls(), oracle::asked()), (34, 34));
+    }
+    // six more are left, and a refusal answers the seventh
+    assert_eq!(session.mode(0, 2., 1., None), Err(refusal(6, 0, None)));
+    assert_eq!((session.calls(), oracle::asked()), (40, 7));
+    // a 7 is asked for too
+    let cohort = vec![vec![observed(0, 0., 1., 0.)]];
+    let two = [[1., 0.], [0., 1.]];
+    let mut session = TwoEffects::new(settings(), two, cohort, plane()).unwrap();
+    assert_eq!(session.mode(0, [1., -1.]), Err(refusal(7, 0, None)));
+    assert_eq!((session.calls(), oracle::asked()), (1, 1));
+}
+
+#[test]
 fn one_effect_respects_evaluations_and_bounds() {
     let cohort = vec![vec![observed(0, 0., 1., 0.)]];
     let mut few = settings();
