@@ -47,6 +47,12 @@ pub mod mode_2d;
 pub mod refusal;
 pub mod session;
 
+/// The repository's README, so that its Rust is compiled and run with the other
+/// examples.
+#[cfg(doctest)]
+#[doc = include_str!("../../../README.md")]
+pub struct Readme;
+
 use ffi::*;
 use std::error::Error;
 use std::fmt;

@@ -204,47 +204,50 @@ fn progress_of_later_objectives() {
     assert_eq!(told, [standing]);
 }
 
+/// The generator of Knuth's MMIX, from 0 to below 1.
+struct Draws(u64);
+
+impl Draws {
+    fn next(&mut self) -> f64 {
+        let product = self.0.wrapping_mul(6364136223846793005);
+        self.0 = product.wrapping_add(1442695040888963407);
+        (self.0 >> 11) as f64 / (1u64 << 53) as f64
+    }
+}
+
+/// An objective of one subject whose simulator is noisy, so that a repeated question
+/// gets another answer: the evaluations, and whether it came to a mode.
+fn noisy(omega: Omega, draws: &mut Draws) -> (u32, bool) {
+    let mut session = Session::new(setup(omega, u32::MAX), &[measured(1.)]).unwrap();
+    let (shape, noise) = (session.shape(), 4. * draws.next() * draws.next());
+    let ended = session.objective(PARAMETERS, |question, rows| {
+        let [a, b] = question
+            .individual
+            .map(|x| x + noise * (draws.next() - 0.5));
+        let b = if shape.effects == 1 { 1. } else { b };
+        let by: [&[f64]; 2] = [&[b], &[a]];
+        let by = &by[..shape.effects];
+        shape.push_row(rows, 0., true, &[a * b], by).is_ok()
+    });
+    let progress = session.progress();
+    assert!(u64::from(progress.evaluations) <= progress.ceiling);
+    (progress.evaluations, ended.is_ok())
+}
+
 /// Whatever a simulator replies, no subject's search asks for more than its ceiling.
 #[test]
 fn ceilings() {
-    let mut state = 1u64;
-    let mut draw = move || {
-        // the generator of Knuth's MMIX
-        state = state
-            .wrapping_mul(6364136223846793005)
-            .wrapping_add(1442695040888963407);
-        (state >> 11) as f64 / (1u64 << 53) as f64
-    };
+    let mut draws = Draws(1);
     let two = Omega::Two([[1., 0.2], [0.2, 1.]]);
     for (omega, ceiling, runs) in [
         (Omega::One(1.), CEILING_ONE_EFFECT, 3000),
         (two, CEILING_TWO_EFFECTS, 300),
     ] {
-        assert_eq!(omega.ceiling(), ceiling);
-        let (mut most, mut modes) = (0, 0);
-        for _ in 0..runs {
-            let mut session = Session::new(setup(omega, u32::MAX), &[measured(1.)]).unwrap();
-            let (shape, noise) = (session.shape(), 4. * draw() * draw());
-            let ended = session.objective(PARAMETERS, |question, rows| {
-                let values = question.individual.map(|x| x + noise * (draw() - 0.5));
-                let [a, b] = if shape.effects == 1 {
-                    [values[0], 1.]
-                } else {
-                    values
-                };
-                let by: [&[f64]; 2] = [&[b], &[a]];
-                shape
-                    .push_row(rows, 0., true, &[a * b], &by[..shape.effects])
-                    .is_ok()
-            });
-            modes += u32::from(ended.is_ok());
-            most = most.max(session.progress().evaluations);
-            assert!(u64::from(most) <= session.booked_ceiling());
-        }
+        let ends: Vec<(u32, bool)> = (0..runs).map(|_| noisy(omega, &mut draws)).collect();
+        let most = ends.iter().map(|end| end.0).max().unwrap();
+        let modes = ends.iter().filter(|end| end.1).count();
         // both ends are met, and searches longer than those of a smooth model
-        assert!(
-            0 < modes && modes < runs && 30 < most,
-            "{modes} modes, {most} at most"
-        );
+        assert!(0 < modes && modes < runs, "{modes} modes");
+        assert!((30..=ceiling).contains(&most), "{most} evaluations");
     }
 }

@@ -68,58 +68,22 @@ fn two_effects() {
     assert_eq!(session.estimates().len(), 1);
 }
 
-/// What a stranger might hand over, and what it is refused with.
+/// The number that a setup is refused with.
+fn number(setup: Setup, cohort: &[Vec<Observation>]) -> Option<u32> {
+    Session::new(setup, cohort)
+        .err()
+        .map(|refusal| refusal.number)
+}
+
 #[test]
-fn setups_that_are_refused() {
-    let number = |setup: Setup, cohort: &[Vec<Observation>]| {
-        Session::new(setup, cohort)
-            .map(|_| ())
-            .map_err(|refusal| refusal.number)
-    };
+fn cohorts_that_are_refused() {
     let good = setup(Omega::One(1.), 10);
-    let one = [measured(1.)];
-    assert_eq!(number(good, &one), Ok(()));
-    assert_eq!(number(good, &[]), Err(1));
-    assert_eq!(number(good, &[vec![]]), Err(1));
-    assert_eq!(number(good, &vec![measured(1.); 4096]), Ok(()));
-    assert_eq!(number(good, &vec![measured(1.); 4097]), Err(1));
-    assert_eq!(number(good, &[measured(1.).repeat(100_001)]), Err(1));
-    for omega in [
-        Omega::One(0.),
-        Omega::One(f64::NAN),
-        Omega::Two([[1., 0.5], [0.4, 1.]]),
-        Omega::Two([[1., 1.], [1., 1.]]),
-    ] {
-        assert_eq!(number(Setup { omega, ..good }, &one), Err(2), "{omega:?}");
-    }
-    let two = Omega::Two([[1., 0.], [0., 1.]]);
-    for setup in [
-        Setup { width: 0, ..good },
-        Setup { width: 65, ..good },
-        Setup {
-            kept_rows: 0,
-            ..good
-        },
-        Setup {
-            kept_rows: usize::MAX,
-            ..good
-        },
-        Setup {
-            gradient_tolerance: f64::INFINITY,
-            ..good
-        },
-        Setup {
-            additive: Some(-1.),
-            ..good
-        },
-        Setup {
-            omega: two,
-            additive: Some(1.),
-            ..good
-        },
-    ] {
-        assert_eq!(number(setup, &one), Err(3), "{setup:?}");
-    }
+    assert_eq!(number(good, &[measured(1.)]), None);
+    assert_eq!(number(good, &[]), Some(1));
+    assert_eq!(number(good, &[vec![]]), Some(1));
+    assert_eq!(number(good, &vec![measured(1.); 4096]), None);
+    assert_eq!(number(good, &vec![measured(1.); 4097]), Some(1));
+    assert_eq!(number(good, &[measured(1.).repeat(100_001)]), Some(1));
     let no_output = Observation {
         output: 1,
         ..measured(1.)[0]
@@ -130,6 +94,51 @@ fn setups_that_are_refused() {
         observation: 1,
     };
     assert_eq!(Session::new(good, &cohort).unwrap_err(), refused(4, place));
+}
+
+#[test]
+fn omegas_that_are_refused() {
+    for omega in [
+        Omega::One(0.),
+        Omega::One(f64::NAN),
+        Omega::Two([[1., 0.5], [0.4, 1.]]),
+        Omega::Two([[1., 1.], [1., 1.]]),
+    ] {
+        assert_eq!(
+            number(setup(omega, 10), &[measured(1.)]),
+            Some(2),
+            "{omega:?}"
+        );
+    }
+}
+
+#[test]
+fn settings_that_are_refused() {
+    let good = setup(Omega::One(1.), 10);
+    let width = |width| Setup { width, ..good };
+    let kept_rows = |kept_rows| Setup { kept_rows, ..good };
+    let additive = |omega, additive| Setup {
+        omega,
+        additive,
+        ..good
+    };
+    let tolerance = Setup {
+        gradient_tolerance: f64::INFINITY,
+        ..good
+    };
+    let two = Omega::Two([[1., 0.], [0., 1.]]);
+    for setup in [
+        width(0),
+        width(65),
+        kept_rows(0),
+        kept_rows(usize::MAX),
+        tolerance,
+        additive(good.omega, Some(-1.)),
+        additive(two, Some(1.)),
+    ] {
+        assert_eq!(number(setup, &[measured(1.)]), Some(3), "{setup:?}");
+    }
+    assert_eq!(number(additive(two, None), &[measured(1.)]), None);
 }
 
 /// Calls that are not due are refused, and alter nothing that can be read.
