@@ -758,6 +758,21 @@ impl Session {
             })
     }
 
+    /// The words of all results as they are lent, for a host that hands them on as they
+    /// are: for each subject eta, second eta and negative log likelihood, then for each
+    /// observation its predictions at eta zero and at the mode. Where a subject has no
+    /// mode in the objective that was begun last, what an earlier one wrote still stands
+    /// there, or zeros; [`estimates`](Self::estimates) and [`fitted`](Self::fitted) leave
+    /// that out.
+    ///
+    ///     # use curlewstand::session::*;
+    ///     # let one = Observation { output: 0, row: 0, value: 1.2, additive: 1., proportional: 0. };
+    ///     # let session = Session::new(Setup::new(Omega::One(1.), 100), &[vec![one, one]]).unwrap();
+    ///     assert_eq!(session.result_words(), [0; 3 + 2 * 2]);
+    pub fn result_words(&self) -> &[u64] {
+        &self.results
+    }
+
     /// With one effect, where the objective that was begun last is finished:
     /// 1 - ((sum of eta²) / n) / omega over n subjects.
     ///

@@ -104,6 +104,7 @@ fn after_a_refusal() {
     let mut session = session();
     session.objective(PARAMETERS, first_value).unwrap();
     let first = shown(&session).0;
+    let words = session.result_words().to_vec();
     let other = Parameters::one_effect(1.5, 1.);
     let refusal = session.objective(other, |question, rows| {
         question.subject < 2 && first_value(question, rows)
@@ -114,7 +115,10 @@ fn after_a_refusal() {
     assert_eq!((etas.len(), fitted), (2, 3));
     assert!(etas[0] != first[0] && etas[1] != first[1]);
     assert_eq!(session.shrinkage(), None);
-    // the third keeps the start that it had
+    // the third keeps its words, those of its three observations too, and its start
+    assert_eq!(session.result_words()[6..9], words[6..9]);
+    assert_eq!(session.result_words()[9 + 2 * 3..], words[9 + 2 * 3..]);
+    assert_ne!(session.result_words()[..3], words[..3]);
     assert_eq!(session.warm_start(2), Some([first[2], 0.]));
 }
 
