@@ -18,8 +18,8 @@
 //!     cache.rows(slot, &mut copy);
 //!     assert_eq!(copy, rows);
 
-use crate::ffi::*;
 use crate::Sums;
+use crate::ffi::*;
 
 /// The words of a row.
 pub const ROW_WORDS: usize = 3;
@@ -35,16 +35,29 @@ pub const AT_FIRST: [u64; 4] = [1, 1, 0, 0];
 
 /// What an evaluation is kept under. Floats are told apart by their bits, so
 /// the sign of a zero counts. With one effect the second theta and eta are 0.
+///
+///     use curlewstand::cache::CacheKey;
+///
+///     let [zero, minus_zero] = [0., -0.].map(|eta| CacheKey::one_effect(0, 1., eta, None));
+///     assert_ne!(zero, minus_zero);
 #[derive(Clone, Copy, Debug, PartialEq, Eq, Hash)]
 pub struct CacheKey {
+    /// The subject's number.
     pub subject: u64,
+    /// The typical values' bits.
     pub theta: [u64; 2],
+    /// The effects' bits.
     pub eta: [u64; 2],
-    /// The additive override.
+    /// The additive override's bits, where there is one.
     pub additive: Option<u64>,
 }
 
 impl CacheKey {
+    /// The key of an evaluation with one effect.
+    ///
+    ///     # use curlewstand::cache::CacheKey;
+    ///     let key = CacheKey::one_effect(3, 1., -0.5, Some(0.2));
+    ///     assert_eq!((key.subject, key.additive), (3, Some(0.2f64.to_bits())));
     pub fn one_effect(subject: usize, theta: f64, eta: f64, additive: Option<f64>) -> Self {
         CacheKey {
             additive: additive.map(f64::to_bits),
@@ -52,7 +65,11 @@ impl CacheKey {
         }
     }
 
-    /// With two effects there is no override.
+    /// The key of an evaluation with two effects, which have no override.
+    ///
+    ///     # use curlewstand::cache::CacheKey;
+    ///     let key = CacheKey::two_effects(0, [1., 2.], [0., 0.5]);
+    ///     assert_eq!(key.eta, [0, 0.5f64.to_bits()]);
     pub fn two_effects(subject: usize, theta: [f64; 2], eta: [f64; 2]) -> Self {
         CacheKey {
             subject: subject as u64,
@@ -62,7 +79,12 @@ impl CacheKey {
         }
     }
 
-    /// As the C face has it.
+    /// As the C face has it: subject, both thetas, both etas, whether there is an
+    /// override, and it.
+    ///
+    ///     # use curlewstand::cache::CacheKey;
+    ///     let words = CacheKey::one_effect(3, 0., 0., None).words();
+    ///     assert_eq!(words, [3, 0, 0, 0, 0, 0, 0]);
     pub fn words(&self) -> [u64; 7] {
         let [theta, theta1] = self.theta;
         let [eta, eta1] = self.eta;
@@ -81,21 +103,38 @@ impl CacheKey {
 }
 
 /// What an evaluation found, without the prior.
+///
+///     use curlewstand::{Sums, cache::CachedTerms};
+///
+///     let sums = Sums { nll: 0.5, ..Sums::default() };
+///     assert_eq!(CachedTerms::from(sums).nll, 0.5);
 #[derive(Clone, Copy, Debug, Default, PartialEq)]
 pub struct CachedTerms {
+    /// The negative log likelihood.
     pub nll: f64,
+    /// Its derivatives by the effects.
     pub score: [f64; 2],
+    /// The expected information.
     pub information: [[f64; 2]; 2],
 }
 
 impl CachedTerms {
-    /// As the C face has them.
+    /// As the C face has them: negative log likelihood, both scores, information
+    /// by rows, each float as its bits.
+    ///
+    ///     # use curlewstand::cache::CachedTerms;
+    ///     assert_eq!(CachedTerms::default().words(), [0; 7]);
     pub fn words(&self) -> [u64; 7] {
         let [s, t] = self.score;
         let [[a, b], [c, d]] = self.information;
         [self.nll, s, t, a, b, c, d].map(f64::to_bits)
     }
 
+    /// The terms that have these words.
+    ///
+    ///     # use curlewstand::cache::CachedTerms;
+    ///     let terms = CachedTerms { score: [-1., 2.], ..CachedTerms::default() };
+    ///     assert_eq!(CachedTerms::of_words(&terms.words()), terms);
     pub fn of_words(words: &[u64; 7]) -> Self {
         let [nll, s, t, a, b, c, d] = words.map(f64::from_bits);
         CachedTerms {
@@ -126,7 +165,7 @@ impl From<CachedTerms> for Sums {
     }
 }
 
-/// Kept evaluations in words of its own.
+/// Kept evaluations in words of its own. See [the module](self) for an example.
 #[derive(Clone, Debug, PartialEq, Eq)]
 pub struct Cache {
     words: Vec<u64>,
@@ -135,7 +174,14 @@ pub struct Cache {
 }
 
 impl Cache {
-    /// Room for `k` rows, 1 to 100,000, with nothing kept.
+    /// Room for `k` rows with nothing kept.
+    ///
+    ///     # use curlewstand::cache::Cache;
+    ///     assert_eq!(Cache::new(64).cached_rows(), 0);
+    ///
+    /// # Panics
+    ///
+    /// Where `k` is not from 1 to [`MOST_ROWS`].
     pub fn new(k: usize) -> Self {
         assert!((1..=MOST_ROWS).contains(&k), "no room for {k} rows");
         Cache {
@@ -147,16 +193,39 @@ impl Cache {
 
     /// The slot of the evaluation with this key. It stands there until the next
     /// `insert`.
+    ///
+    ///     # use curlewstand::cache::*;
+    ///     let mut cache = Cache::new(64);
+    ///     let key = CacheKey::one_effect(0, 1., 0.5, None);
+    ///     cache.insert(&key, &CachedTerms::default(), &[[0; ROW_WORDS]]);
+    ///     assert!(cache.find(&key).is_some());
+    ///     assert!(cache.find(&CacheKey::one_effect(1, 1., 0.5, None)).is_none());
     pub fn find(&self, key: &CacheKey) -> Option<usize> {
         find(&self.words, self.k, &self.order, &key.words())
     }
 
+    /// The terms in a slot that [`find`](Self::find) gave.
+    ///
+    ///     # use curlewstand::cache::*;
+    ///     # let mut cache = Cache::new(64);
+    ///     # let key = CacheKey::one_effect(0, 1., 0.5, None);
+    ///     let terms = CachedTerms { nll: 0.25, ..CachedTerms::default() };
+    ///     cache.insert(&key, &terms, &[[0; ROW_WORDS]]);
+    ///     assert_eq!(cache.terms(cache.find(&key).unwrap()), terms);
     pub fn terms(&self, slot: usize) -> CachedTerms {
         CachedTerms::of_words(&terms(&self.words, self.k, slot))
     }
 
     /// Copies the rows in a slot, as many as are lent: how many an evaluation
     /// has is for the caller to know. More than K are not copied.
+    ///
+    ///     # use curlewstand::cache::*;
+    ///     # let mut cache = Cache::new(64);
+    ///     # let key = CacheKey::one_effect(0, 1., 0.5, None);
+    ///     cache.insert(&key, &CachedTerms::default(), &[[1, 2, 3]]);
+    ///     let mut copy = [[0; ROW_WORDS]];
+    ///     cache.rows(cache.find(&key).unwrap(), &mut copy);
+    ///     assert_eq!(copy, [[1, 2, 3]]);
     pub fn rows(&self, slot: usize, rows: &mut [[u64; ROW_WORDS]]) {
         let n = rows.len();
         copy_rows(&self.words, self.k, slot, n, rows.as_flattened_mut(), 0);
@@ -164,6 +233,13 @@ impl Cache {
 
     /// Keeps an evaluation that was not found, the oldest out until it fits.
     /// One without rows, or with more than K, is not kept.
+    ///
+    ///     # use curlewstand::cache::*;
+    ///     let mut cache = Cache::new(2);
+    ///     let [old, new] = [0, 1].map(|subject| CacheKey::one_effect(subject, 1., 0.5, None));
+    ///     cache.insert(&old, &CachedTerms::default(), &[[0; ROW_WORDS]]);
+    ///     cache.insert(&new, &CachedTerms::default(), &[[0; ROW_WORDS]; 2]);
+    ///     assert!(cache.find(&old).is_none() && cache.find(&new).is_some());
     pub fn insert(&mut self, key: &CacheKey, terms: &CachedTerms, rows: &[[u64; ROW_WORDS]]) {
         insert(
             &mut self.words,
@@ -177,30 +253,58 @@ impl Cache {
         );
     }
 
+    /// The most rows that are kept.
+    ///
+    ///     # use curlewstand::cache::Cache;
+    ///     assert_eq!(Cache::new(64).k(), 64);
     pub fn k(&self) -> usize {
         self.k
     }
 
+    /// How many evaluations are kept.
+    ///
+    ///     # use curlewstand::cache::*;
+    ///     let mut cache = Cache::new(64);
+    ///     let key = CacheKey::one_effect(0, 1., 0.5, None);
+    ///     cache.insert(&key, &CachedTerms::default(), &[[0; ROW_WORDS]; 5]);
+    ///     assert_eq!((cache.entries(), cache.cached_rows()), (1, 5));
     pub fn entries(&self) -> usize {
         (self.order[1] - self.order[0]) as usize
     }
 
+    /// How many rows they have.
+    ///
+    ///     # use curlewstand::cache::Cache;
+    ///     assert_eq!(Cache::new(64).cached_rows(), 0);
     pub fn cached_rows(&self) -> usize {
         (self.order[3] - self.order[2]) as usize
     }
 
-    /// The words as the C face has them, see `ffi::curlewstand_cache_find`.
+    /// The words as the C face has them, see [`curlewstand_cache_find`].
+    ///
+    ///     # use curlewstand::cache::*;
+    ///     assert_eq!(Cache::new(64).words().len(), 64 * WORDS_FOR_A_ROW);
     pub fn words(&self) -> &[u64] {
         &self.words
     }
 
     /// The order as the C face has it.
+    ///
+    ///     # use curlewstand::cache::*;
+    ///     assert_eq!(Cache::new(64).order(), &AT_FIRST);
     pub fn order(&self) -> &[u64; 4] {
         &self.order
     }
 }
 
-/// The slot of the entry with a key, for words of any kind.
+/// The slot of the entry with a key, for words of any kind: what [`Cache::find`]
+/// is over words of its own.
+///
+///     use curlewstand::cache::*;
+///
+///     let words = [0; WORDS_FOR_A_ROW];
+///     let key = CacheKey::one_effect(0, 1., 0., None);
+///     assert_eq!(find(&words, 1, &AT_FIRST, &key.words()), None);
 pub fn find(words: &[u64], k: usize, order: &[u64; 4], key: &[u64; 7]) -> Option<usize> {
     let mut slot = 0;
     let found =
@@ -209,6 +313,10 @@ pub fn find(words: &[u64], k: usize, order: &[u64; 4], key: &[u64; 7]) -> Option
 }
 
 /// The terms in a slot, for words of any kind.
+///
+///     use curlewstand::cache::*;
+///
+///     assert_eq!(terms(&[0; WORDS_FOR_A_ROW], 1, 0), [0; 7]);
 pub fn terms(words: &[u64], k: usize, slot: usize) -> [u64; 7] {
     let mut terms = [0; 7];
     unsafe { curlewstand_cache_terms(words.as_ptr(), words.len(), k, slot, &mut terms) };
@@ -217,6 +325,12 @@ pub fn terms(words: &[u64], k: usize, slot: usize) -> [u64; 7] {
 
 /// Copies the first `n` rows in a slot to `out`, from word `to` on, where they
 /// fit.
+///
+///     use curlewstand::cache::*;
+///
+///     let mut out = [9; 4];
+///     copy_rows(&[0; WORDS_FOR_A_ROW], 1, 0, 1, &mut out, 1);
+///     assert_eq!(out, [9, 0, 0, 0]);
 pub fn copy_rows(words: &[u64], k: usize, slot: usize, n: usize, out: &mut [u64], to: usize) {
     unsafe {
         curlewstand_cache_copy_rows(
@@ -234,6 +348,13 @@ pub fn copy_rows(words: &[u64], k: usize, slot: usize, n: usize, out: &mut [u64]
 
 /// Keeps an evaluation whose `n` rows stand in `rows` from word `from` on, or
 /// leaves words and order as they are.
+///
+///     use curlewstand::cache::*;
+///
+///     let (mut words, mut order) = ([0; WORDS_FOR_A_ROW], AT_FIRST);
+///     let key = CacheKey::one_effect(0, 1., 0., None).words();
+///     insert(&mut words, 1, &mut order, &key, &[0; 7], 1, &[1, 2, 3], 0);
+///     assert!(find(&words, 1, &order, &key).is_some());
 #[allow(clippy::too_many_arguments)]
 pub fn insert(
     words: &mut [u64],

@@ -38,10 +38,13 @@ use crate::cache::CachedTerms;
 use crate::ffi::{
     curlewstand_check_observations, curlewstand_evaluate, curlewstand_individual_values,
 };
+use crate::refusal::sentence;
+use std::error::Error;
+use std::fmt;
 use std::ops::Range;
 
-pub use crate::ffi::Observation;
 pub use crate::Sums;
+pub use crate::ffi::Observation;
 
 /// The words that tell how an evaluation ended.
 pub const OUT_WORDS: usize = 8;
@@ -49,7 +52,8 @@ pub const OUT_WORDS: usize = 8;
 /// Which of them tells the observation of a refusal.
 pub const REFUSED_AT: usize = 7;
 
-/// What a reply is an answer to, and where its rows go.
+/// What a reply is an answer to, and where its rows go. See [the module](self) for
+/// an example.
 #[derive(Clone, Debug, PartialEq)]
 pub struct Question {
     /// The subject's, among the observations that are lent. Where it begins
@@ -73,6 +77,14 @@ pub struct Question {
 
 impl Question {
     /// As the C face has it.
+    ///
+    ///     # use curlewstand::evaluation::Question;
+    ///     let question = Question {
+    ///         observations: 2..5, individual: [1., 0.], additive: Some(0.5), width: 1,
+    ///         effects: 1, output_budget: 6, block: 0,
+    ///     };
+    ///     let lent = question.lent();
+    ///     assert_eq!((lent.from, lent.to, lent.has_additive), (2, 5, true));
     pub fn lent(&self) -> crate::ffi::Question {
         crate::ffi::Question {
             from: self.observations.start,
@@ -90,6 +102,11 @@ impl Question {
 }
 
 /// Why there are no individual values, or no sums.
+///
+///     use curlewstand::evaluation::Refusal;
+///
+///     let refusal = Refusal { number: 10, observation: Some(2) };
+///     assert_eq!(refusal.to_string(), "10, observation 2: the reply lacks the observation's row");
 #[derive(Clone, Copy, Debug, PartialEq, Eq)]
 pub struct Refusal {
     /// 7 to 12.
@@ -98,7 +115,19 @@ pub struct Refusal {
     pub observation: Option<usize>,
 }
 
-/// Where an observation stands.
+impl fmt::Display for Refusal {
+    fn fmt(&self, f: &mut fmt::Formatter<'_>) -> fmt::Result {
+        write!(f, "{}", self.number)?;
+        if let Some(observation) = self.observation {
+            write!(f, ", observation {observation}")?;
+        }
+        write!(f, ": {}", sentence(self.number))
+    }
+}
+
+impl Error for Refusal {}
+
+/// Where an observation stands, see [`check_observations`].
 #[derive(Clone, Copy, Debug, PartialEq, Eq)]
 pub struct Place {
     /// The number of its subject.
@@ -109,6 +138,11 @@ pub struct Place {
 
 /// The values theta·exp(eta) that the simulator is run with, with one effect a
 /// zero for the second; or 7 where one of them is not finite and above 0.
+///
+///     use curlewstand::evaluation::individual_values;
+///
+///     assert_eq!(individual_values([2., 3.], [0., 0.], 2), Ok([2., 3.]));
+///     assert_eq!(individual_values([-2., 0.], [0., 0.], 1).unwrap_err().number, 7);
 pub fn individual_values(
     theta: [f64; 2],
     eta: [f64; 2],
@@ -127,6 +161,13 @@ pub fn individual_values(
 /// Whether every observation has an output below `width`, a finite value, and
 /// deviations that are finite, not below 0 and not both 0; or the place of the
 /// first that has not. `counts` are the subjects' numbers of observations.
+///
+///     use curlewstand::evaluation::{Observation, Place, check_observations};
+///
+///     let sound = Observation { output: 0, row: 0, value: 3., additive: 1., proportional: 0. };
+///     let unsound = Observation { additive: 0., ..sound };
+///     let place = Place { subject: 1, observation: 0 };
+///     assert_eq!(check_observations(&[sound, sound, unsound], 1, &[2, 1]), Err(place));
 pub fn check_observations(
     observations: &[Observation],
     width: u32,
@@ -157,6 +198,17 @@ pub fn check_observations(
 /// A subject's sums, without the prior. To `work`, from word `block` on, go
 /// prediction, time and side (0 pre, 1 post) of each observation whose row is
 /// present, up to a refusal at it; nothing beyond the end.
+///
+///     use curlewstand::evaluation::{Observation, Question, evaluate};
+///
+///     let observation = Observation { output: 0, row: 0, value: 3., additive: 1., proportional: 0. };
+///     let question = Question {
+///         observations: 0..1, individual: [1., 0.], additive: None, width: 1,
+///         effects: 1, output_budget: 2, block: 0,
+///     };
+///     // no row at all
+///     let refusal = evaluate(&[observation], &question, &[], &mut []).unwrap_err();
+///     assert_eq!((refusal.number, refusal.observation), (10, Some(0)));
 pub fn evaluate(
     observations: &[Observation],
     question: &Question,

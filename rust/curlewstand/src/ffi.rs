@@ -2,8 +2,20 @@
 //! by pointer and length; an answer that is written is written whole or not at
 //! all. Evaluations write word by word instead, and nothing beyond the end of
 //! what they are lent.
+//!
+//! To call these is unsafe for one reason: a pointer must point to as much as
+//! its length says, and what is written must overlap nothing else that is lent.
+//! All else, any float, word, number or order of calls, has its answer. The other
+//! modules of this crate lend what they own, and are safe.
 
 /// One observation of a subject, as it is lent.
+///
+///     use curlewstand::evaluation::Observation;
+///
+///     // 4.2, measured with a deviation of 0.1 and a tenth of the prediction, and
+///     // predicted by the first output of the reply's third row
+///     let measured = Observation { output: 0, row: 2, value: 4.2, additive: 0.1, proportional: 0.1 };
+///     assert_eq!(measured.row, 2);
 #[repr(C)]
 #[derive(Clone, Copy, Debug, PartialEq)]
 pub struct Observation {
@@ -53,8 +65,11 @@ pub struct SessionSetup {
     pub effects: u32,
     /// Omega by rows. With one effect its first entry alone is looked at.
     pub omega_00: f64,
+    /// First row, second column.
     pub omega_01: f64,
+    /// Second row, first column.
     pub omega_10: f64,
+    /// Second row, second column.
     pub omega_11: f64,
     /// The largest absolute eta.
     pub eta_bound: f64,
@@ -78,8 +93,9 @@ pub struct SessionSetup {
 #[repr(C)]
 #[derive(Clone, Copy, Debug, PartialEq)]
 pub struct SessionParameters {
-    /// The typical values; with one effect the second is not looked at.
+    /// The typical value, the first of two.
     pub theta: f64,
+    /// The second, looked at with two effects alone.
     pub theta_2: f64,
     /// With one effect its variance.
     pub omega: f64,
@@ -89,25 +105,40 @@ pub struct SessionParameters {
     pub additive: f64,
 }
 
-/// The evaluations since setup, and the rows that are kept.
+/// What a session has counted since it was opened.
+///
+///     use curlewstand::session::Tally;
+///
+///     let before = Tally::default();
+///     assert_eq!((before.calls, before.cached_rows), (0, 0));
 #[repr(C)]
 #[derive(Clone, Copy, Debug, Default, PartialEq, Eq)]
 pub struct Tally {
+    /// The evaluations that were asked for, the awaited one among them. A kept
+    /// evaluation costs none.
     pub calls: u32,
+    /// The rows of the evaluations that are kept now.
     pub cached_rows: usize,
 }
 
-extern "C" {
+unsafe extern "C" {
     /// Every pattern is accepted; that of a NaN gives a NaN.
     pub fn curlewstand_from_word(word: u64) -> f64;
     /// A NaN gives 7ff8000000000000.
     pub fn curlewstand_to_word(x: f64) -> u64;
+    /// Whether it is neither a NaN nor infinite.
     pub fn curlewstand_is_finite(x: f64) -> bool;
+    /// The absolute value.
     pub fn curlewstand_abs(x: f64) -> f64;
+    /// The larger of the two; a NaN loses.
     pub fn curlewstand_max(a: f64, b: f64) -> f64;
+    /// `low` where `x` is below it, else `high` where `x` is above it, else `x`.
     pub fn curlewstand_clamp(x: f64, low: f64, high: f64) -> f64;
+    /// The natural logarithm, musl's.
     pub fn curlewstand_log(x: f64) -> f64;
+    /// The exponential, musl's; a NaN outside -16..16.
     pub fn curlewstand_exp(x: f64) -> f64;
+    /// The determinant.
     pub fn curlewstand_determinant(matrix: *const [[f64; 2]; 2]) -> f64;
     /// True, with inverse and determinant written, or false with neither.
     pub fn curlewstand_inverse_positive(
@@ -115,11 +146,13 @@ extern "C" {
         inverse: *mut [[f64; 2]; 2],
         det: *mut f64,
     ) -> bool;
+    /// Writes the matrix times the vector.
     pub fn curlewstand_product(
         matrix: *const [[f64; 2]; 2],
         vector: *const [f64; 2],
         product: *mut [f64; 2],
     );
+    /// The scalar product.
     pub fn curlewstand_dot(left: *const [f64; 2], right: *const [f64; 2]) -> f64;
     /// 0 with negative log likelihood, score and information written, or the
     /// number of the refusal with nothing written.

@@ -30,29 +30,35 @@
 //!     };
 //!     assert_eq!(mode.eta, [0.5, -1.]);
 
-use crate::ffi::*;
 use crate::Refusal;
+use crate::ffi::*;
 
-/// What a search is given, the same at each of its steps.
+/// What a search is given, the same at each of its steps. See [the module](self)
+/// for an example.
 #[derive(Clone, Copy, Debug, PartialEq)]
 pub struct Settings2 {
+    /// The largest absolute eta.
     pub eta_bound: f64,
     /// The inverse of omega: `inverse_positive`.
     pub precision: [[f64; 2]; 2],
-    /// The subject's mode in the last objective, zero at first.
+    /// Where to start: the subject's mode in the last objective, zero at first.
     pub warm: [f64; 2],
 }
 
 /// An evaluated point. Nothing of the prior is added to the score.
 #[derive(Clone, Copy, Debug, PartialEq)]
 pub struct Conditional2 {
+    /// The effects.
     pub eta: [f64; 2],
+    /// The negative log likelihood there.
     pub nll: f64,
+    /// Its derivatives by the effects.
     pub score: [f64; 2],
+    /// The expected information.
     pub information: [[f64; 2]; 2],
 }
 
-/// What a search wants next.
+/// What a search wants next, see [`Search2::request`].
 #[derive(Clone, Copy, Debug, PartialEq)]
 pub enum Request2 {
     /// The point to evaluate.
@@ -63,7 +69,7 @@ pub enum Request2 {
     Refused(Refusal),
 }
 
-/// A search between two evaluations.
+/// A search between two evaluations. See [the module](self) for an example.
 #[derive(Clone, Debug, PartialEq, Eq)]
 pub struct Search2 {
     words: [u64; 25],
@@ -74,6 +80,9 @@ const BEST: usize = 16;
 
 impl Search2 {
     /// A search that has asked nothing.
+    ///
+    ///     # use curlewstand::mode_2d::*;
+    ///     assert_eq!(Search2::start(), Search2::start());
     pub fn start() -> Self {
         let mut words = [0; 25];
         unsafe { curlewstand_mode_2d_start(&mut words) };
@@ -81,6 +90,13 @@ impl Search2 {
     }
 
     /// What the search wants next. Asking changes nothing.
+    ///
+    ///     # use curlewstand::mode_2d::*;
+    ///     # let settings = Settings2 {
+    ///     #     eta_bound: 4., precision: [[1., 0.], [0., 1.]], warm: [0.; 2],
+    ///     # };
+    ///     // the point zero comes first
+    ///     assert_eq!(Search2::start().request(&settings), Request2::Point([0.; 2]));
     pub fn request(&self, settings: &Settings2) -> Request2 {
         let mut point = [0.; 2];
         let number = unsafe {
@@ -99,7 +115,21 @@ impl Search2 {
         }
     }
 
-    /// Takes in what stands at the point that was asked for.
+    /// Takes in what stands at the point that was asked for. A search that wants no
+    /// point stays as it is.
+    ///
+    ///     # use curlewstand::mode_2d::*;
+    ///     # let settings = Settings2 {
+    ///     #     eta_bound: 4., precision: [[1., 0.], [0., 1.]], warm: [0.; 2],
+    ///     # };
+    ///     let mut search = Search2::start();
+    ///     let mut asked = 0;
+    ///     while let Request2::Point(eta) = search.request(&settings) {
+    ///         // nothing but the prior
+    ///         search.advance(&settings, &Conditional2 { eta, nll: 0., score: [0.; 2], information: [[0.; 2]; 2] });
+    ///         asked += 1;
+    ///     }
+    ///     assert_eq!(asked, 11);
     pub fn advance(&mut self, settings: &Settings2, at: &Conditional2) {
         let number = unsafe {
             curlewstand_mode_2d_advance(
@@ -119,6 +149,17 @@ impl Search2 {
 
     /// The best candidate of the starts so far, which is the mode once that
     /// was the answer.
+    ///
+    ///     # use curlewstand::mode_2d::*;
+    ///     # let settings = Settings2 {
+    ///     #     eta_bound: 4., precision: [[1., 0.], [0., 1.]], warm: [0.; 2],
+    ///     # };
+    ///     # let mut search = Search2::start();
+    ///     # while let Request2::Point(eta) = search.request(&settings) {
+    ///     #     search.advance(&settings, &Conditional2 { eta, nll: 0., score: [0.; 2], information: [[0.; 2]; 2] });
+    ///     # }
+    ///     assert_eq!(search.request(&settings), Request2::Mode);
+    ///     assert_eq!(search.best().eta, [0.; 2]);
     pub fn best(&self) -> Conditional2 {
         let [x, y, nll, s, t, a, b, c, d] =
             std::array::from_fn(|at| crate::from_word(self.words[BEST + at]));
@@ -130,7 +171,10 @@ impl Search2 {
         }
     }
 
-    /// The words as the C face has them, see `ffi::curlewstand_mode_2d_start`.
+    /// The words as the C face has them, see [`curlewstand_mode_2d_start`].
+    ///
+    ///     # use curlewstand::mode_2d::*;
+    ///     assert_eq!(Search2::start().words()[0], 0);
     pub fn words(&self) -> &[u64; 25] {
         &self.words
     }

@@ -4,9 +4,9 @@
 
 use curlewstand::cache::{Cache, CacheKey, CachedTerms};
 use curlewstand::evaluation::{
-    self, check_observations, evaluate, individual_values, Observation, Place, Question,
+    self, Observation, Place, Question, check_observations, evaluate, individual_values,
 };
-use curlewstand::mode::{eta_tolerance, Conditional, Request, Search, Settings};
+use curlewstand::mode::{Conditional, Request, Search, Settings, eta_tolerance};
 use curlewstand::mode_2d::{Conditional2, Request2, Search2, Settings2};
 use curlewstand::*;
 
@@ -150,7 +150,9 @@ fn two_effect_searches() {
     let [up, down] = [[0., 2.], [0., -2.]];
     assert_eq!(
         points,
-        [zero, zero, zero, right, zero, left, zero, up, zero, down, zero]
+        [
+            zero, zero, zero, right, zero, left, zero, up, zero, down, zero
+        ]
     );
     assert_eq!(search.request(&settings), Request2::Mode);
     assert_eq!(search.best().eta, zero);
