@@ -1,18 +1,19 @@
--- `is_no_deviation` meets its contract. Assumes nothing.
-use mathlib.Core.Path.{refl}
-use Rattle.float64.specs.Pick.{yesOf, noOf}
-use Rattle.float64.proofs.Laws.{free}
-use Rattle.evaluation.specs.Observations.{isNoDeviation}
+-- `is_no_deviation` meets its contract: each exit by its law. Assumes nothing.
+use mathlib.Core.Path.{sym, subst}
+use lib.Dec.{T}
+use lib.Ieee.{ofBits}
+use Rattle.observations.proofs.Largest.{not-below, below}
 use Rattle.observations.proofs.is_no_deviation.Statement.{statement}
 use Rattle.observations.proofs.is_no_deviation.Tie as tie
 
+-- a parameter fits
 returns : tie.Need-returns
-unfolding isNoDeviation
-returns c = yesOf _ (c .before .is-nonfinite .ensures) (c .if1 .taken) refl
+unfolding ofBits
+returns c = not-below _ (subst T (sym (c .before .good .0 .1)) tt) (c .if1 .taken)
 
 returns-2 : tie.Need-returns-2
-unfolding isNoDeviation
-returns-2 c = noOf _ (c .before .is-nonfinite .ensures) (c .if1 .left) refl
+unfolding ofBits
+returns-2 c = below _ (c .if1 .left)
 
 pub is-no-deviation-spec : {M : Type 1} → statement M
-is-no-deviation-spec = tie.close (tie.spec free returns returns-2)
+is-no-deviation-spec = tie.close (tie.spec returns returns-2)
