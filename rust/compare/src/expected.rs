@@ -17,8 +17,22 @@ pub struct Results {
 }
 
 impl Results {
-    /// Those of our side; nothing where it gives none.
-    pub fn of(session: &Session) -> Option<Self> {
+    /// All words of our side's, as they are lent to it.
+    pub fn of(session: &Session) -> Self {
+        let (estimates, fitted) = session.result_words().split_at(3 * session.subjects());
+        let word = |word: u64| word_of(f64::from_bits(word));
+        let estimates = estimates.chunks_exact(3);
+        let fitted = fitted.chunks_exact(2);
+        Results {
+            estimates: estimates
+                .map(|of| [of[0], of[1], of[2]].map(word))
+                .collect(),
+            fitted: fitted.map(|of| [of[0], of[1]].map(word)).collect(),
+        }
+    }
+
+    /// Those that our side tells of the subjects that the objective came to.
+    pub fn told(session: &Session) -> Self {
         let estimates = session.estimates().map(|estimate| {
             let [eta, other] = estimate.eta;
             [eta, other, estimate.negative_log_likelihood].map(word_of)
@@ -26,10 +40,19 @@ impl Results {
         let fitted = session
             .fitted()
             .map(|fitted| [fitted.population, fitted.individual].map(word_of));
-        Some(Results {
+        Results {
             estimates: estimates.collect(),
             fitted: fitted.collect(),
-        })
+        }
+    }
+
+    /// Those of the first subjects, which have so many observations.
+    pub fn first(&self, subjects: usize, counts: &[u64]) -> Self {
+        let observations: u64 = counts[..subjects].iter().sum();
+        Results {
+            estimates: self.estimates[..subjects].to_vec(),
+            fitted: self.fitted[..observations as usize].to_vec(),
+        }
     }
 
     fn zero(counts: &[u64]) -> Self {

@@ -12,7 +12,8 @@ use oracle::session::Observed;
 #[derive(Debug, PartialEq)]
 pub struct Seen {
     pub tally: session::Tally,
-    pub results: Option<Results>,
+    pub results: Results,
+    pub told: Results,
     pub warm_starts: Vec<[u64; 2]>,
 }
 
@@ -21,6 +22,7 @@ pub fn seen(session: &Session) -> Seen {
     Seen {
         tally: session.tally(),
         results: Results::of(session),
+        told: Results::told(session),
         warm_starts: warm_starts.map(|warm| warm.map(word_of)).collect(),
     }
 }

@@ -337,15 +337,14 @@ impl Pair {
         self.hold_warm_starts()?;
         let ours = self.ours.as_ref().expect("it has ended");
         same_tally("tally at the end", &self.expected, ours)?;
-        if let Some(results) = Results::of(ours) {
-            same_results(&self.expected.results, &results)?;
-        }
-        if ran.end.is_ok() && self.plan.effects() == 1 {
-            let expected = shrinkage(&self.expected.results, objective.parameters.omega);
-            let said = ours.shrinkage().map(word_of);
-            same_as("shrinkage", &Some(word_of(expected)), &said)?;
-        }
-        Ok(())
+        let expected = &self.expected.results;
+        same_results(expected, &Results::of(ours))?;
+        let passed = expected.first(ran.passed, &self.lent.counts);
+        same_results(&passed, &Results::told(ours))?;
+        let is_told = ran.end.is_ok() && self.plan.effects() == 1;
+        let shrinkage = is_told.then(|| shrinkage(expected, objective.parameters.omega));
+        let words = [shrinkage, ours.shrinkage()].map(|one| one.map(word_of));
+        same_as("shrinkage", &words[0], &words[1])
     }
 
     fn hold_warm_starts(&self) -> Result<(), Difference> {
