@@ -1,7 +1,7 @@
-//! The table, in markdown.
+//! The tables, in markdown.
 
 use crate::cohort::Cell;
-use crate::timing::{Effort, First, PerEvaluation, Shape};
+use crate::timing::{Effort, First, Nanoseconds, Shape};
 use std::io::Write;
 use std::time::Duration;
 
@@ -12,11 +12,23 @@ const KEPT: [usize; 3] = [64, 1_000, 100_000];
 /// Nanoseconds of a simulator beside which the core's share is told.
 const SIMULATOR: f64 = 10_000.;
 
+const COLUMNS: [&str; 10] = [
+    "rows",
+    "subjects",
+    "K",
+    "asked",
+    "questions",
+    "first, ns: ours / original",
+    "ratio",
+    "share at 10 µs: ours / original",
+    "again, ns: ours / original",
+    "ratio",
+];
+
 /// What a run takes on.
 struct Plan {
     first: Effort,
     again: Effort,
-    kept: &'static [usize],
     most_observations: usize,
 }
 
@@ -28,16 +40,14 @@ impl Plan {
         };
         if quick {
             return Plan {
-                first: effort(100, 1),
+                first: effort(100, 3),
                 again: effort(50, 3),
-                kept: &KEPT[1..2],
-                most_observations: 4_000,
+                most_observations: 1_000,
             };
         }
         Plan {
-            first: effort(700, 3),
+            first: effort(600, 3),
             again: effort(300, 5),
-            kept: &KEPT,
             most_observations: usize::MAX,
         }
     }
@@ -46,83 +56,100 @@ impl Plan {
 pub fn print(quick: bool) {
     let plan = Plan::new(quick);
     for effects in [1, 2] {
+        print_effects(effects, &plan);
+    }
+    if quick {
         println!();
         println!(
-            "{}",
-            if effects == 1 {
-                "One effect:"
-            } else {
-                "Two effects:"
-            }
+            "With --quick, cohorts of more than {} observations are left out.",
+            counted(plan.most_observations)
         );
-        println!();
-        println!("| rows | subjects | K | asked, questions | first: ours / original, ns | ratio | share at 10 µs: ours / original | again: ours / original, ns | ratio |");
-        println!("|---|---|---|---|---|---|---|---|---|");
-        for rows in ROWS {
-            for subjects in SUBJECTS {
-                print_shape(effects, rows, subjects, &plan);
+    }
+}
+
+fn print_effects(effects: usize, plan: &Plan) {
+    let name = if effects == 1 { "One" } else { "Two" };
+    println!("\n{name} effect{}:\n", if effects == 1 { "" } else { "s" });
+    println!("| {} |", COLUMNS.join(" | "));
+    println!("|{}", "---|".repeat(COLUMNS.len()));
+    let mut notes = Vec::new();
+    for rows in ROWS {
+        for subjects in SUBJECTS {
+            let cell = Cell {
+                effects,
+                rows,
+                subjects,
+                k: 0,
+            };
+            if !cell.is_within_domain() {
+                notes.push(format!(
+                    "{} rows for each of {} subjects are beyond document 01's 100,000 observations, and left out.",
+                    counted(rows),
+                    counted(subjects)
+                ));
+            } else if rows * subjects <= plan.most_observations {
+                notes.extend(print_shape(&cell, plan));
             }
         }
     }
+    println!();
+    for note in notes {
+        println!("- {note}");
+    }
 }
 
-fn print_shape(effects: usize, rows: usize, subjects: usize, plan: &Plan) {
-    let cell = Cell {
-        effects,
-        rows,
-        subjects,
-        k: 0,
-    };
-    if !cell.is_within_domain() {
-        println!(
-            "| {} | {} | | beyond the domain: more than 100,000 observations | | | | | |",
-            counted(rows),
-            counted(subjects)
-        );
-        return;
-    }
-    if plan.most_observations < rows * subjects {
-        return;
-    }
-    let shape = Shape::new(effects, rows, subjects);
-    for &k in plan.kept {
+/// Prints the lines of a shape for every K. For a single subject there is a
+/// note of what was taken off.
+fn print_shape(cell: &Cell, plan: &Plan) -> Option<String> {
+    let shape = Shape::new(cell.effects, cell.rows, cell.subjects);
+    let mut simulator = None;
+    for k in KEPT {
         let (first, mut ours, mut original) = shape.first(k, plan.first);
-        let fits = first.questions * rows <= k;
-        let again = match fits {
+        let again = match first.questions * cell.rows <= k {
             true => shape.again(&mut ours, &mut original, plan.again),
             false => None,
         };
-        print_line(rows, subjects, k, &first, again);
+        print_line(cell, k, &first, again);
+        simulator = Some(first.simulator);
     }
+    let simulator = simulator.filter(|_| cell.subjects == 1)?;
+    let (freeing, clock) = shape.taken_off();
+    Some(format!(
+        "Taken off for a question of {} row{}: making the reply, {} ns; freeing it, - / {} ns; the clock, {clock:.0} ns on both sides.",
+        counted(cell.rows),
+        if cell.rows == 1 { "" } else { "s" },
+        both(simulator),
+        counted(freeing.round() as usize)
+    ))
 }
 
-fn print_line(rows: usize, subjects: usize, k: usize, first: &First, again: Option<PerEvaluation>) {
-    let (ours, original) = (first.times.ours, first.times.original);
+fn print_line(cell: &Cell, k: usize, first: &First, again: Option<Nanoseconds>) {
     let again = match again {
-        Some(times) => format!("{} | {:.2}", both(times), times.ours / times.original),
+        Some(times) => format!("{} | {}", both(times), ratio(times)),
         None => "n/a | n/a".to_string(),
     };
     println!(
-        "| {} | {} | {} | {}, {} | {} | {:.2} | {} / {} | {again} |",
-        counted(rows),
-        counted(subjects),
+        "| {} | {} | {} | {} | {} | {} | {} | {} / {} | {again} |",
+        counted(cell.rows),
+        counted(cell.subjects),
         counted(k),
         counted(first.asked),
         counted(first.questions),
-        both(first.times),
-        ours / original,
-        share(first, ours),
-        share(first, original),
+        both(first.core),
+        ratio(first.core),
+        share(first, first.core.ours),
+        share(first, first.core.original),
     );
     std::io::stdout().flush().expect("the table is printed");
 }
 
-fn both(times: PerEvaluation) -> String {
-    format!(
-        "{} / {}",
-        counted(times.ours.round() as usize),
-        counted(times.original.round() as usize)
-    )
+fn ratio(times: Nanoseconds) -> String {
+    format!("{:.2}", times.ours / times.original)
+}
+
+fn both(times: Nanoseconds) -> String {
+    let [ours, original] = [times.ours, times.original].map(|time| counted(time.round() as usize));
+    format!("{ours} / {original}")
 }
 
 /// The core's part of an objective beside the simulator.
@@ -137,7 +164,7 @@ fn counted(number: usize) -> String {
     let digits = number.to_string();
     let mut text = String::new();
     for (place, digit) in digits.chars().enumerate() {
-        if place > 0 && (digits.len() - place) % 3 == 0 {
+        if place > 0 && (digits.len() - place).is_multiple_of(3) {
             text.push(',');
         }
         text.push(digit);

@@ -14,9 +14,9 @@ pub struct Effort {
     pub rounds: usize,
 }
 
-/// Nanoseconds of the core for an evaluation that is asked for.
+/// Nanoseconds of both sides.
 #[derive(Clone, Copy, Debug)]
-pub struct PerEvaluation {
+pub struct Nanoseconds {
     pub ours: f64,
     pub original: f64,
 }
@@ -24,7 +24,10 @@ pub struct PerEvaluation {
 /// A first objective.
 #[derive(Clone, Copy, Debug)]
 pub struct First {
-    pub times: PerEvaluation,
+    /// The core's, for an evaluation that is asked for.
+    pub core: Nanoseconds,
+    /// The simulator's, for making a reply.
+    pub simulator: Nanoseconds,
     /// The evaluations that were asked for, kept ones included, and the
     /// questions to the simulator.
     pub asked: usize,
@@ -81,19 +84,25 @@ impl Shape {
         let (mut ours, mut original) = self.opened(k);
         hold_all(&mut ours, &mut original);
         let questions = ours.tally().0;
-        let [mut of_ours, mut of_original] = [Vec::new(), Vec::new()];
+        let mut timed: Vec<(Timed, Timed)> = Vec::new();
         let begun = Instant::now();
-        while of_ours.len() < effort.rounds || begun.elapsed() < effort.time {
+        while timed.len() < effort.rounds || begun.elapsed() < effort.time {
             (ours, original) = self.opened(k);
-            let (a, b) = in_turn(of_ours.len(), &mut ours, &mut original);
-            hold(&a, &b, &ours, &original);
-            of_ours.push(self.core(&a, 0.));
-            of_original.push(self.core(&b, self.freeing));
+            let both = in_turn(timed.len(), &mut ours, &mut original);
+            hold(&both.0, &both.1, &ours, &original);
+            timed.push(both);
         }
+        let each = |of: &dyn Fn(&(Timed, Timed)) -> f64, over: usize| {
+            median(timed.iter().map(of).collect()) / over as f64
+        };
         let first = First {
-            times: PerEvaluation {
-                ours: median(of_ours) / self.asked as f64,
-                original: median(of_original) / self.asked as f64,
+            core: Nanoseconds {
+                ours: each(&|both| self.core(&both.0, 0.), self.asked),
+                original: each(&|both| self.core(&both.1, self.freeing), self.asked),
+            },
+            simulator: Nanoseconds {
+                ours: each(&|both| self.simulator(&both.0), questions),
+                original: each(&|both| self.simulator(&both.1), questions),
             },
             asked: self.asked,
             questions,
@@ -108,6 +117,17 @@ impl Shape {
         nanoseconds(timed.whole - timed.simulating) - f64::from(timed.questions) * for_a_question
     }
 
+    /// An objective's replies, without the clock.
+    fn simulator(&self, timed: &Timed) -> f64 {
+        nanoseconds(timed.simulating) - f64::from(timed.questions) * self.reading.seen
+    }
+
+    /// What the original takes to free a reply, and what the clock takes for a
+    /// question without seeing it.
+    pub fn taken_off(&self) -> (f64, f64) {
+        (self.freeing, self.reading.unseen)
+    }
+
     /// The same objective again and again, once every evaluation that it asks
     /// for is kept; nothing where they are not all kept.
     pub fn again(
@@ -115,7 +135,7 @@ impl Shape {
         ours: &mut Ours,
         original: &mut Original,
         effort: Effort,
-    ) -> Option<PerEvaluation> {
+    ) -> Option<Nanoseconds> {
         let objectives = settled(ours, original)?;
         let asked = self.asked_after(objectives) as f64;
         let one = nanoseconds(ours.timed().whole);
@@ -127,7 +147,7 @@ impl Shape {
             of_original.push(of_a_block(block, original) / asked);
         }
         hold(&ours.timed(), &original.timed(), ours, original);
-        Some(PerEvaluation {
+        Some(Nanoseconds {
             ours: median(of_ours),
             original: median(of_original),
         })
@@ -159,7 +179,7 @@ fn freeing(cell: &Cell, model: &Model, reading: Reading) -> f64 {
 
 /// Both sides timed, now one first and now the other.
 fn in_turn(round: usize, ours: &mut Ours, original: &mut Original) -> (Timed, Timed) {
-    if round % 2 == 0 {
+    if round.is_multiple_of(2) {
         let first = ours.timed();
         return (first, original.timed());
     }
@@ -219,4 +239,40 @@ fn of_a_block(objectives: usize, side: &mut impl Side) -> f64 {
     let whole = begun.elapsed();
     assert_eq!(side.stopwatch().runs(), 0);
     nanoseconds(whole) / objectives as f64
+}
+
+#[cfg(test)]
+mod tests {
+    use super::*;
+
+    const ONCE: Effort = Effort {
+        time: Duration::ZERO,
+        rounds: 1,
+    };
+
+    #[test]
+    fn both_sides_come_to_the_same() {
+        for effects in [1, 2] {
+            for (rows, subjects) in [(1, 1), (10, 3), (100, 2)] {
+                let shape = Shape::new(effects, rows, subjects);
+                for k in [1, 64, 100_000] {
+                    let (first, mut ours, mut original) = shape.first(k, ONCE);
+                    assert!(first.questions <= first.asked);
+                    let again = shape.again(&mut ours, &mut original, ONCE);
+                    // all that was asked is kept just where it fits in K rows
+                    assert_eq!(again.is_some(), first.questions * rows <= k);
+                }
+            }
+        }
+    }
+
+    #[test]
+    fn what_is_asked_is_what_ours_asks_with_nothing_kept() {
+        for effects in [1, 2] {
+            // two rows are more than one that may be kept
+            let shape = Shape::new(effects, 2, 3);
+            let (first, ours, _) = shape.first(1, ONCE);
+            assert_eq!(ours.tally(), (first.asked, 0));
+        }
+    }
 }
