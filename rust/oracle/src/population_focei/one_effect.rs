@@ -174,6 +174,19 @@ impl OneEffect {
             .map_err(|error| self.model.objective_refusal(&error, &self.cohort))
     }
 
+    /// The value alone of one objective, without the copies of all else that
+    /// `population` tells: for timing.
+    pub fn ofv(
+        &mut self,
+        theta: f64,
+        omega: f64,
+        additive_sd: Option<f64>,
+    ) -> Result<f64, Refusal> {
+        self.lent(|evaluator| evaluator.population(theta, omega, additive_sd))
+            .map(|evaluation| evaluation.ofv)
+            .map_err(|error| self.model.objective_refusal(&error, &self.cohort))
+    }
+
     pub fn calls(&self) -> usize {
         self.calls
     }

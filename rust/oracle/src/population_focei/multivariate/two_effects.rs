@@ -127,6 +127,14 @@ impl TwoEffects {
             .map_err(|error| self.model.objective_refusal(&error, &self.cohort))
     }
 
+    /// The value alone of one objective, without the copies of all else that
+    /// `population` tells: for timing.
+    pub fn ofv(&mut self, theta: [f64; 2]) -> Result<f64, Refusal> {
+        self.lent(|evaluator| evaluator.population(theta))
+            .map(|evaluation| evaluation.ofv)
+            .map_err(|error| self.model.objective_refusal(&error, &self.cohort))
+    }
+
     pub fn precision(&self) -> [[f64; 2]; 2] {
         self.setup.precision
     }
