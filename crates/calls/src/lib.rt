@@ -79,7 +79,7 @@ pub fn begin_objective(
 {
     let lent = session::lent_by(observations, cache, work, warm, results);
     let progress = state.progress;
-    match session::admit_objective(setup, parameters, progress, tally, check, lent, counts) {
+    match call_checks::admit_objective(setup, parameters, progress, tally, check, lent, counts) {
         Admission::Accepted => {
             let start = session::start_of(parameters, warm, setup.effects, state.order);
             runs::run(setup, start, tally, counts, cache, work, warm, results)
@@ -112,7 +112,7 @@ pub fn fail(
     ensures { λ r. ⌜ called r (now (cache .entry)) (now (work .exit)) (now (warm .entry)) (now (results .entry)) ≡ entered setup (now (counts .entry)) (enterFailure words setup (now (counts .entry)) observations check (heldOf state tally (now (cache .entry)) (now (work .entry)) (now (warm .entry)) (now (results .entry)))) ⌝ }
 {
     let lent = session::lent_by(observations, cache, work, warm, results);
-    let awaited = session::admit_awaited(setup, state, tally, check, lent, counts);
+    let awaited = call_checks::admit_awaited(setup, state, tally, check, lent, counts);
     let admission = awaited.admission;
     match admission {
         Admission::Accepted => {

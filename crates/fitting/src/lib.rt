@@ -77,7 +77,7 @@ fn answer(
     let rows = population::rows_of(counts, progress.subject);
     let n = records::reply(input, progress.first, rows, individual.first, reply);
     let setup = settings();
-    recorded::reply(
+    recorded_calls::reply(
         setup,
         state,
         tally,
@@ -173,7 +173,7 @@ fn run(
 {
     let setup = settings();
     let parameters = first_parameters();
-    let first = recorded::objective(
+    let first = recorded_calls::objective(
         setup,
         parameters,
         state,
@@ -218,7 +218,7 @@ fn fit(
         calls: Calls(0),
         cached_rows: CachedRows(0),
     };
-    let opened = recorded::open(
+    let opened = recorded_calls::open(
         setup,
         none,
         observations,

@@ -4,7 +4,7 @@
 // gives all that it answers and writes. What is lent to be written must overlap nothing else that is lent
 // to the same call.
 //
-// All that decides anything is by value, in `word_calls` and below; here the tally is copied out, the
+// All that decides anything is by value, in `word_calls`, `word_replies` and below; here the tally is copied out, the
 // observations are gone through, and the tally is written back.
 ghost use mathlib.Core.Path.{_≡_};
 ghost use Rattle.evaluation.specs.Subject.{evaluating};
@@ -159,9 +159,9 @@ fn reply_checked(
 {
     let n = observations.len();
     let lent = session::lent_of(n, cache.len(), work.len(), warm.len(), results.len());
-    let admitted = word_calls::admit_reply(setup, tally, check, lent, counts, reply, state);
+    let admitted = word_replies::admit_reply(setup, tally, check, lent, counts, reply, state);
     let evaluation = evaluate(observations, admitted, reply, work);
-    word_calls::finish_reply(
+    word_replies::finish_reply(
         setup,
         tally,
         admitted,

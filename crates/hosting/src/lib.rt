@@ -208,7 +208,7 @@ pub fn told(called: Called, state: &mut [u64], answer: &mut [u64]) -> Done
         return Done { number, tally };
     }
     let next = called.state;
-    session_words::save(next, state);
+    session_saved::save(next, state);
     Done { number, tally }
 }
 
@@ -236,7 +236,7 @@ pub fn opened(begun: Begun, state: &mut [u64], answer: &mut [u64]) -> Done
                 fourth: 0,
             };
             write_answer(words, answer);
-            session_words::save(next, state);
+            session_saved::save(next, state);
             Done { number: 0, tally }
         }
         Opening::Refused(number, place) => {

@@ -1,25 +1,18 @@
-// A session's calls with the observations in lent words, five each: output, row, value, additive and
-// proportional deviation, the floats by their bits. For programs that read them from a file.
+// Observations in lent words, five each: output, row, value, additive and proportional deviation, the floats
+// by their bits. For programs that read them from a file; `recorded_calls` has a session's calls over them.
 ghost use mathlib.Core.Path.{_≡_};
 ghost use Prim.Native.Nat.{_-_};
 ghost use lib.ListN.{length, take, drop, getD};
 ghost use Rattle.float64.specs.Arithmetic.{word};
 ghost use Rattle.evaluation.specs.Observations.{checkObservations};
 ghost use Rattle.evaluation.specs.Subject.{evaluating, addObservations};
-ghost use Rattle.session.specs.Calls.{begunWith, called, heldOf};
-ghost use Rattle.session.specs.Session.{objective, failure, firstCheck};
-ghost use Rattle.recorded.specs.Recorded.{observationIn, observationsOf, smaller, callOf, replyOf, openOf};
-use admission::Parameters;
-use admission::Setup;
+ghost use Rattle.session.specs.Session.{firstCheck};
+ghost use Rattle.recorded.specs.Recorded.{observationIn, observationsOf, smaller};
 use evaluation::Check;
 use evaluation::Evaluation;
 use evaluation::Position;
 use evaluation::Trial;
 use likelihood::population_focei::Observation;
-use session::Begun;
-use session::Called;
-use session::State;
-use subjects::Tally;
 
 // The words of an observation.
 pub const OBSERVATION_WORDS: usize = 5;
@@ -115,130 +108,4 @@ pub fn add_words(
         i += 1;
     }
     sums
-}
-
-// ---- a session's calls
-
-// 1 to 5; where they pass, tally, kept, work and warm words are zeroed.
-pub fn open(
-    setup: Setup,
-    tally: Tally,
-    observations: &[u64],
-    counts: &[u64],
-    cache: &mut [u64],
-    work: &mut [u64],
-    warm: &mut [u64],
-    results: &[u64],
-) -> Begun
-    ensures { λ r. ⌜ begunWith r (now (cache .exit)) (now (work .exit)) (now (warm .exit)) ≡ openOf setup (now (counts .entry)) (now (observations .entry)) tally (now (cache .entry)) (now (work .entry)) (now (warm .entry)) (now (results .entry)) ⌝ }
-{
-    let check = check_words(observations, setup.width, counts);
-    let n = count_of(observations);
-    calls::open(setup, tally, check, n, counts, cache, work, warm, results)
-}
-
-// A new objective.
-pub fn objective(
-    setup: Setup,
-    parameters: Parameters,
-    state: State,
-    tally: Tally,
-    observations: &[u64],
-    counts: &[u64],
-    cache: &[u64],
-    work: &mut [u64],
-    warm: &mut [u64],
-    results: &mut [u64],
-) -> Called
-    ensures { λ r. ⌜ called r (now (cache .entry)) (now (work .exit)) (now (warm .exit)) (now (results .exit)) ≡ callOf setup (now (counts .entry)) (now (observations .entry)) (objective parameters) (heldOf state tally (now (cache .entry)) (now (work .entry)) (now (warm .entry)) (now (results .entry))) ⌝ }
-{
-    let check = check_words(observations, setup.width, counts);
-    let n = count_of(observations);
-    calls::begin_objective(
-        setup,
-        parameters,
-        state,
-        tally,
-        check,
-        n,
-        counts,
-        cache,
-        work,
-        warm,
-        results,
-    )
-}
-
-// The simulator's reply to the question that was asked.
-pub fn reply(
-    setup: Setup,
-    state: State,
-    tally: Tally,
-    observations: &[u64],
-    counts: &[u64],
-    reply: &[u64],
-    cache: &mut [u64],
-    work: &mut [u64],
-    warm: &mut [u64],
-    results: &mut [u64],
-) -> Called
-    ensures { λ r. ⌜ called r (now (cache .exit)) (now (work .exit)) (now (warm .exit)) (now (results .exit)) ≡ callOf setup (now (counts .entry)) (now (observations .entry)) (replyOf (now (reply .entry))) (heldOf state tally (now (cache .entry)) (now (work .entry)) (now (warm .entry)) (now (results .entry))) ⌝ }
-{
-    let check = check_words(observations, setup.width, counts);
-    let n = count_of(observations);
-    let lent = session::lent_by(n, cache, work, warm, results);
-    let admitted = session::admit_reply(setup, state, tally, check, lent, counts, reply);
-    let begun = admitted.evaluation;
-    let trial = admitted.trial;
-    let evaluation = add_words(
-        observations,
-        admitted.from,
-        admitted.to,
-        begun,
-        trial,
-        reply,
-        work,
-    );
-    replies::finish_reply(
-        setup,
-        state,
-        tally,
-        admitted,
-        evaluation,
-        counts,
-        cache,
-        work,
-        warm,
-        results,
-    )
-}
-
-// The simulator failed.
-pub fn failure(
-    setup: Setup,
-    state: State,
-    tally: Tally,
-    observations: &[u64],
-    counts: &[u64],
-    cache: &[u64],
-    work: &mut [u64],
-    warm: &[u64],
-    results: &[u64],
-) -> Called
-    ensures { λ r. ⌜ called r (now (cache .entry)) (now (work .exit)) (now (warm .entry)) (now (results .entry)) ≡ callOf setup (now (counts .entry)) (now (observations .entry)) failure (heldOf state tally (now (cache .entry)) (now (work .entry)) (now (warm .entry)) (now (results .entry))) ⌝ }
-{
-    let check = check_words(observations, setup.width, counts);
-    let n = count_of(observations);
-    calls::fail(
-        setup,
-        state,
-        tally,
-        check,
-        n,
-        counts,
-        cache,
-        work,
-        warm,
-        results,
-    )
 }

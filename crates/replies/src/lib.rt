@@ -1,5 +1,5 @@
 // The second part of a reply's call over lent words: the evaluation is at its end, and what follows of it.
-// The first part, which lets the reply in, is `session::admit_reply`; between the two a loop adds the
+// The first part, which lets the reply in, is `call_checks::admit_reply`; between the two a loop adds the
 // observations to the evaluation.
 ghost use mathlib.Core.Path.{_≡_};
 ghost use Rattle.session.specs.Calls.{called, heldOf, receivedState, followed, finishReply};

@@ -163,7 +163,7 @@ fn open(
     let setup = host.setup;
     let state = host.state;
     let tally = host.tally;
-    let begun = recorded::open(
+    let begun = recorded_calls::open(
         setup,
         tally,
         observations,
@@ -189,7 +189,7 @@ fn objective(
     let state = host.state;
     let tally = host.tally;
     let parameters = host.parameters;
-    let called = recorded::objective(
+    let called = recorded_calls::objective(
         setup,
         parameters,
         state,
@@ -217,7 +217,7 @@ fn reply(
     let setup = host.setup;
     let state = host.state;
     let tally = host.tally;
-    let called = recorded::reply(
+    let called = recorded_calls::reply(
         setup,
         state,
         tally,
@@ -244,7 +244,7 @@ fn failure(
     let setup = host.setup;
     let state = host.state;
     let tally = host.tally;
-    let called = recorded::failure(
+    let called = recorded_calls::failure(
         setup,
         state,
         tally,

@@ -1,16 +1,12 @@
-// A session's calls with the state and the answer as words (see `hosting`). The tally goes by value here, and
-// of the observations what was found of them. Each function is defined for all values and words. Words that
+// Setup, new objective and failure with the state and the answer as words (see `hosting`). The tally goes by
+// value here, and of the observations what was found of them. Each function is defined for all values and words. Words that
 // are no state get 19, and so does a setup that is lent fewer.
 ghost use mathlib.Core.Path.{_≡_};
-ghost use Rattle.session_words.specs.SessionWords.{loadedState};
-ghost use Rattle.hosting.specs.Hosting.{setupOf, parametersOf, out, openWith, objectiveWith, failureWith, admitWith, finishWith};
-use admission::Lent;
+ghost use Rattle.hosting.specs.Hosting.{setupOf, parametersOf, out, openWith, objectiveWith, failureWith};
 use evaluation::Check;
-use evaluation::Evaluation;
 use hosting::Done;
 use hosting::SessionParameters;
 use hosting::SessionSetup;
-use session::Admitted;
 use session_words::LoadedState;
 use subjects::Tally;
 
@@ -120,70 +116,6 @@ pub fn fail(
                 results,
             );
             hosting::told(failed, state, answer)
-        }
-        LoadedState::None => hosting::no_state(tally, answer),
-    }
-}
-
-// The first part of a reply. The state is only read.
-pub fn admit_reply(
-    setup: SessionSetup,
-    tally: Tally,
-    check: Check,
-    lent: Lent,
-    counts: &[u64],
-    reply: &[u64],
-    state: &mut [u64],
-) -> Admitted
-    ensures { λ r. ⌜ (r ≡ admitWith (setupOf setup) (now (counts .entry)) lent check tally (now (reply .entry)) (loadedState (now (state .entry)))) × (now (state .exit) ≡ now (state .entry)) ⌝ }
-{
-    match session_words::load(state) {
-        LoadedState::Given(at) => {
-            session::admit_reply(
-                hosting::setup_of(setup),
-                at,
-                tally,
-                check,
-                lent,
-                counts,
-                reply,
-            )
-        }
-        LoadedState::None => session::unadmitted(),
-    }
-}
-
-// The second part of a reply, with the evaluation that the observations were added to.
-pub fn finish_reply(
-    setup: SessionSetup,
-    tally: Tally,
-    admitted: Admitted,
-    evaluation: Evaluation,
-    counts: &[u64],
-    state: &mut [u64],
-    answer: &mut [u64],
-    cache: &mut [u64],
-    work: &mut [u64],
-    warm: &mut [u64],
-    results: &mut [u64],
-) -> Done
-    ensures { λ r. ⌜ out r (now (state .exit)) (now (answer .exit)) (now (cache .exit)) (now (work .exit)) (now (warm .exit)) (now (results .exit)) ≡ finishWith (setupOf setup) (now (counts .entry)) (admitted .awaited) evaluation tally (now (state .entry)) (now (answer .entry)) (now (cache .entry)) (now (work .entry)) (now (warm .entry)) (now (results .entry)) ⌝ }
-{
-    match session_words::load(state) {
-        LoadedState::Given(at) => {
-            let finished = replies::finish_reply(
-                hosting::setup_of(setup),
-                at,
-                tally,
-                admitted,
-                evaluation,
-                counts,
-                cache,
-                work,
-                warm,
-                results,
-            );
-            hosting::told(finished, state, answer)
         }
         LoadedState::None => hosting::no_state(tally, answer),
     }

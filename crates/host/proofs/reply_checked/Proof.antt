@@ -83,18 +83,18 @@ use Rattle.session.proofs.lent_of as j
 use Rattle.session.proofs.lent_of.Symbol as j-def
 use Rattle.session.proofs.lent_of.Symbol.{name as #j}
 use Rattle.session.proofs.lent_of.Met as j-thm
-use Rattle.word_calls.proofs.admit_reply as m
-use Rattle.word_calls.proofs.admit_reply.Symbol as m-def
-use Rattle.word_calls.proofs.admit_reply.Symbol.{name as #m}
-use Rattle.word_calls.proofs.admit_reply.Met as m-thm
+use Rattle.word_replies.proofs.admit_reply as m
+use Rattle.word_replies.proofs.admit_reply.Symbol as m-def
+use Rattle.word_replies.proofs.admit_reply.Symbol.{name as #m}
+use Rattle.word_replies.proofs.admit_reply.Met as m-thm
 use Rattle.host.proofs.evaluate as p
 use Rattle.host.proofs.evaluate.Symbol as p-def
 use Rattle.host.proofs.evaluate.Symbol.{name as #p}
 use Rattle.host.proofs.evaluate.Met as p-thm
-use Rattle.word_calls.proofs.finish_reply as s
-use Rattle.word_calls.proofs.finish_reply.Symbol as s-def
-use Rattle.word_calls.proofs.finish_reply.Symbol.{name as #s}
-use Rattle.word_calls.proofs.finish_reply.Met as s-thm
+use Rattle.word_replies.proofs.finish_reply as s
+use Rattle.word_replies.proofs.finish_reply.Symbol as s-def
+use Rattle.word_replies.proofs.finish_reply.Symbol.{name as #s}
+use Rattle.word_replies.proofs.finish_reply.Met as s-thm
 use Rattle.host.proofs.reply_checked.Key.{name as #f}
 use Rattle.host.proofs.reply_checked as f
 use Rattle.host.proofs.reply_checked.Statement as stated
@@ -245,6 +245,6 @@ reply-checked-spec 𝓤 H 𝓜 𝓖 𝓡 =
     (tables 𝓤 H 𝓜 𝓡 code.env .C) (tables 𝓤 H 𝓜 𝓡 code.env .Λ) #f code.function (code.unfolded 𝓤 H 𝓜 𝓡)
     (meets 𝓤 H (𝓖 .A) (givenOf 𝓤 H 𝓜 𝓖) (𝓜 .mem) (𝓡 .run) (tablesOf 𝓤 H 𝓜 (tables 𝓤 H 𝓜 𝓡 code.env))
     (cited 𝓤 H (j-con 𝓤 H (𝓖 .A) (𝓜 .mem) (𝓡 .run)) 𝓜 𝓡 code.env #j j-def.routine code.calls-session·lent-of (j-thm.met 𝓤 H 𝓜 𝓖 𝓡))
-    (cited 𝓤 H (m-con 𝓤 H (𝓖 .A) (𝓜 .mem) (𝓡 .run)) 𝓜 𝓡 code.env #m m-def.routine code.calls-word-calls·admit-reply (m-thm.met 𝓤 H 𝓜 𝓖 𝓡))
+    (cited 𝓤 H (m-con 𝓤 H (𝓖 .A) (𝓜 .mem) (𝓡 .run)) 𝓜 𝓡 code.env #m m-def.routine code.calls-word-replies·admit-reply (m-thm.met 𝓤 H 𝓜 𝓖 𝓡))
     (cited 𝓤 H (p-con 𝓤 H (𝓖 .A) (𝓜 .mem) (𝓡 .run)) 𝓜 𝓡 code.env #p p-def.routine code.calls-host·evaluate (p-thm.met 𝓤 H 𝓜 𝓖 𝓡))
-    (cited 𝓤 H (s-con 𝓤 H (𝓖 .A) (𝓜 .mem) (𝓡 .run)) 𝓜 𝓡 code.env #s s-def.routine code.calls-word-calls·finish-reply (s-thm.met 𝓤 H 𝓜 𝓖 𝓡)))
+    (cited 𝓤 H (s-con 𝓤 H (𝓖 .A) (𝓜 .mem) (𝓡 .run)) 𝓜 𝓡 code.env #s s-def.routine code.calls-word-replies·finish-reply (s-thm.met 𝓤 H 𝓜 𝓖 𝓡)))

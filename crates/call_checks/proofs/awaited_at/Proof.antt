@@ -1,0 +1,27 @@
+-- `awaited_at` meets its contract: each case by its law. Assumes nothing.
+use borrow.Author.Needs.{needs}
+use Rattle.float64.proofs.Laws.{free}
+use Rattle.session.proofs.Paths.{point-awaited, mode-unawaited, refusal-unawaited}
+use Rattle.call_checks.proofs.awaited_at.Statement.{statement}
+use Rattle.call_checks.proofs.awaited_at.Tie as tie
+
+enum-known-wanted : tie.Need-enum-known-wanted
+enum-known-wanted c = search needs
+
+enum-told : tie.Need-enum-told
+enum-told c = search needs
+
+enum-told-2 : tie.Need-enum-told-2
+enum-told-2 c = search needs
+
+returns : tie.Need-returns
+returns c = point-awaited _ _ _ _ _ (c .before .before .before .wanted .given .1) (c .before .with-parameters .ensures) (c .checks .ensures)
+
+returns-2 : tie.Need-returns-2
+returns-2 c = mode-unawaited _ _ _ _ _ (c .before .enum-told .given .1) (c .unawaited .ensures)
+
+returns-3 : tie.Need-returns-3
+returns-3 c = refusal-unawaited _ _ _ _ _ (c .before .enum-told2 .given .1) (c .unawaited2 .ensures)
+
+pub awaited-at-spec : {M : Type 1} → statement M
+awaited-at-spec = tie.close (tie.spec enum-known-wanted free free enum-told free enum-told-2 free returns returns-2 returns-3)
