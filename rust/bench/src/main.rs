@@ -11,11 +11,6 @@
 //!   is the simulator's affair and taken off with it. It frees them itself;
 //!   what that takes is measured apart, and taken off too.
 //! - Opening a session is not timed.
-//!
-//! The program starts itself anew with glibc's malloc told to hold on to what
-//! is freed. Else freeing a reply of a thousand rows merges its parts and gives
-//! them back to the system, now and then, and no measure of it apart would be
-//! worth anything. That makes the original faster, and ours allocates nothing.
 
 #[cfg(source_at_hand)]
 mod cohort;
@@ -28,16 +23,6 @@ mod table;
 #[cfg(source_at_hand)]
 mod timing;
 
-/// Freed parts of a reply wait in lists by their sizes, and nothing goes back
-/// to the system.
-#[cfg(source_at_hand)]
-const TUNABLES: [&str; 4] = [
-    "glibc.malloc.tcache_count=16384",
-    "glibc.malloc.trim_threshold=4294967296",
-    "glibc.malloc.mmap_threshold=4294967296",
-    "glibc.malloc.top_pad=16777216",
-];
-
 #[cfg(source_at_hand)]
 fn main() {
     let quick = match std::env::args().nth(1).as_deref() {
@@ -48,26 +33,7 @@ fn main() {
             std::process::exit(2);
         }
     };
-    start_anew_with_tunables();
     table::print(quick);
-}
-
-/// Goes on in a process with the tunables, which glibc reads at its start.
-#[cfg(source_at_hand)]
-fn start_anew_with_tunables() {
-    use std::os::unix::process::CommandExt;
-    const NAME: &str = "GLIBC_TUNABLES";
-    let wanted = TUNABLES.join(":");
-    if std::env::var(NAME).as_deref() == Ok(&wanted) {
-        return;
-    }
-    let program = std::env::current_exe().expect("the program has a path");
-    let error = std::process::Command::new(program)
-        .args(std::env::args_os().skip(1))
-        .env(NAME, wanted)
-        .exec();
-    eprintln!("bench: it could not start anew: {error}");
-    std::process::exit(1);
 }
 
 #[cfg(not(source_at_hand))]

@@ -102,7 +102,7 @@ fn print_effects(effects: usize, plan: &Plan) {
 /// note of what was taken off.
 fn print_shape(cell: &Cell, plan: &Plan) -> Option<String> {
     let shape = Shape::new(cell.effects, cell.rows, cell.subjects);
-    let mut simulator = None;
+    let mut last = None;
     for k in KEPT {
         let (first, mut ours, mut original) = shape.first(k, plan.first);
         let again = match first.questions * cell.rows <= k {
@@ -110,16 +110,16 @@ fn print_shape(cell: &Cell, plan: &Plan) -> Option<String> {
             false => None,
         };
         print_line(cell, k, &first, again);
-        simulator = Some(first.simulator);
+        last = Some(first);
     }
-    let simulator = simulator.filter(|_| cell.subjects == 1)?;
-    let (freeing, clock) = shape.taken_off();
+    let first = last.filter(|_| cell.subjects == 1)?;
+    let clock = shape.clock();
     Some(format!(
         "Taken off for a question of {} row{}: making the reply, {} ns; freeing it, - / {} ns; the clock, {clock:.0} ns on both sides.",
         counted(cell.rows),
         if cell.rows == 1 { "" } else { "s" },
-        both(simulator),
-        counted(freeing.round() as usize)
+        both(first.simulator),
+        counted(first.freeing.round() as usize)
     ))
 }
 

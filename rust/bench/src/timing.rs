@@ -28,10 +28,20 @@ pub struct First {
     pub core: Nanoseconds,
     /// The simulator's, for making a reply.
     pub simulator: Nanoseconds,
+    /// What the original takes to free a reply.
+    pub freeing: f64,
     /// The evaluations that were asked for, kept ones included, and the
     /// questions to the simulator.
     pub asked: usize,
     pub questions: usize,
+}
+
+/// Nanoseconds of a round: of each side's objective its core and its replies,
+/// and of a reply what freeing it takes.
+struct Round {
+    core: [f64; 2],
+    simulator: [f64; 2],
+    freeing: f64,
 }
 
 /// Cohorts of one shape, for every K.
@@ -40,8 +50,6 @@ pub struct Shape {
     model: Rc<Model>,
     cohort: Vec<Vec<Measured>>,
     reading: Reading,
-    /// What the original takes to free a reply.
-    freeing: f64,
     /// The evaluations that a first objective asks for.
     asked: usize,
 }
@@ -62,7 +70,6 @@ impl Shape {
         let mut unkept = Original::new(&cell, &model, &cohort);
         unkept.objective();
         Shape {
-            freeing: freeing(&cell, &model, reading),
             asked: unkept.tally().0,
             cell,
             model,
@@ -84,30 +91,40 @@ impl Shape {
         let (mut ours, mut original) = self.opened(k);
         hold_all(&mut ours, &mut original);
         let questions = ours.tally().0;
-        let mut timed: Vec<(Timed, Timed)> = Vec::new();
+        let mut rounds: Vec<Round> = Vec::new();
         let begun = Instant::now();
-        while timed.len() < effort.rounds || begun.elapsed() < effort.time {
+        while rounds.len() < effort.rounds || begun.elapsed() < effort.time {
             (ours, original) = self.opened(k);
-            let both = in_turn(timed.len(), &mut ours, &mut original);
-            hold(&both.0, &both.1, &ours, &original);
-            timed.push(both);
+            let (a, b) = in_turn(rounds.len(), &mut ours, &mut original);
+            hold(&a, &b, &ours, &original);
+            // in each round, since it is taken off what the same round took
+            let freeing = freeing(&self.cell, &self.model, self.reading);
+            rounds.push(Round {
+                core: [self.core(&a, 0.), self.core(&b, freeing)],
+                simulator: [self.simulator(&a), self.simulator(&b)],
+                freeing,
+            });
         }
-        let each = |of: &dyn Fn(&(Timed, Timed)) -> f64, over: usize| {
-            median(timed.iter().map(of).collect()) / over as f64
+        (self.told(&rounds, questions), ours, original)
+    }
+
+    fn told(&self, rounds: &[Round], questions: usize) -> First {
+        let each = |of: &dyn Fn(&Round) -> f64, over: usize| {
+            median(rounds.iter().map(of).collect()) / over as f64
         };
-        let first = First {
+        First {
             core: Nanoseconds {
-                ours: each(&|both| self.core(&both.0, 0.), self.asked),
-                original: each(&|both| self.core(&both.1, self.freeing), self.asked),
+                ours: each(&|round| round.core[0], self.asked),
+                original: each(&|round| round.core[1], self.asked),
             },
             simulator: Nanoseconds {
-                ours: each(&|both| self.simulator(&both.0), questions),
-                original: each(&|both| self.simulator(&both.1), questions),
+                ours: each(&|round| round.simulator[0], questions),
+                original: each(&|round| round.simulator[1], questions),
             },
+            freeing: each(&|round| round.freeing, 1),
             asked: self.asked,
             questions,
-        };
-        (first, ours, original)
+        }
     }
 
     /// An objective without the simulator, the clock, and the freeing of the
@@ -122,10 +139,9 @@ impl Shape {
         nanoseconds(timed.simulating) - f64::from(timed.questions) * self.reading.seen
     }
 
-    /// What the original takes to free a reply, and what the clock takes for a
-    /// question without seeing it.
-    pub fn taken_off(&self) -> (f64, f64) {
-        (self.freeing, self.reading.unseen)
+    /// What the clock takes for a question without seeing it.
+    pub fn clock(&self) -> f64 {
+        self.reading.unseen
     }
 
     /// The same objective again and again, once every evaluation that it asks
@@ -167,7 +183,7 @@ impl Shape {
 
 /// Nanoseconds for freeing a reply of the original's form, just made.
 fn freeing(cell: &Cell, model: &Model, reading: Reading) -> f64 {
-    const REPLIES: usize = 200;
+    const REPLIES: usize = 15;
     let of_a_reply = |_| {
         let stopwatch = Stopwatch::default();
         let reply = samples(cell.effects, model, THETA);
