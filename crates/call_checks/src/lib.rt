@@ -5,8 +5,9 @@ ghost use mathlib.Core.Path.{_≡_};
 ghost use Prim.Native.Nat.{_+_};
 ghost use lib.ListN.{length};
 ghost use Rattle.evaluation.specs.Observations.{smaller};
-ghost use Rattle.session.specs.Calls.{admitObjective, unawaited, awaitedAt, admitAwaited, trialBy, nothingAdmitted, unadmitted, admitReply};
+ghost use Rattle.session.specs.Calls.{admitObjective, unawaited, admitAwaited, trialBy, nothingAdmitted, unadmitted, admitReply};
 ghost use Rattle.session.specs.Session.{countWithin, searchWithin, searchWithin2, isPlaced, isStanding};
+ghost use Rattle.call_checks.specs.SubjectReply.{awaitedPoint, awaitedFor, admittedOver, admitSubjectReply};
 use admission::Admission;
 use admission::Lent;
 use admission::Parameters;
@@ -122,25 +123,34 @@ pub fn admit_objective(
 
 // ---- a reply, and its failure
 
-// 1 to 5, for the point that is wanted; 19 where none is.
-fn awaited_at(
+// 19: a reply is awaited, and the state's positions are right among so many observations; then what the
+// search wants.
+fn awaited_point(
     setup: Setup,
-    parameters: Parameters,
-    wanted: Wanted,
-    check: Check,
-    lent: Lent,
+    state: State,
+    tally: Tally,
     counts: &[u64],
-) -> Awaited
-    ensures { λ r. ⌜ r ≡ awaitedAt setup (now (counts .entry)) lent check parameters wanted ⌝ }
+    observations: usize,
+) -> Wanted
+    ensures { λ r. ⌜ r ≡ awaitedPoint setup (now (counts .entry)) observations state tally ⌝ }
+{
+    let progress = state.progress;
+    if progress.awaits {
+        if is_standing(setup, counts, observations, tally, progress) {
+            let fit = subjects::fit_of(setup, state.parameters);
+            return points::wanted_by(fit, progress);
+        }
+        return Wanted::Refused(19);
+    }
+    Wanted::Refused(19)
+}
+
+// The checks of what is lent count where a point is wanted; else 19.
+fn awaited_for(wanted: Wanted, admission: Admission) -> Awaited
+    ensures { λ r. ⌜ r ≡ awaitedFor admission wanted ⌝ }
 {
     match wanted {
-        Wanted::Point(eta) => {
-            let own = admission::with_parameters(setup, parameters);
-            Awaited {
-                admission: setup_checks::checks(own, counts, lent, check),
-                eta,
-            }
-        }
+        Wanted::Point(eta) => Awaited { admission, eta },
         Wanted::Mode => unawaited(),
         Wanted::Refused(_) => unawaited(),
     }
@@ -169,17 +179,9 @@ pub fn admit_awaited(
 ) -> Awaited
     ensures { λ r. ⌜ r ≡ admitAwaited setup (now (counts .entry)) lent check state tally ⌝ }
 {
-    let progress = state.progress;
-    if progress.awaits {
-        if is_standing(setup, counts, lent.observations, tally, progress) {
-            let parameters = state.parameters;
-            let fit = subjects::fit_of(setup, parameters);
-            let wanted = points::wanted_by(fit, progress);
-            return awaited_at(setup, parameters, wanted, check, lent, counts);
-        }
-        return unawaited();
-    }
-    unawaited()
+    let wanted = awaited_point(setup, state, tally, counts, lent.observations);
+    let own = admission::with_parameters(setup, state.parameters);
+    awaited_for(wanted, setup_checks::checks(own, counts, lent, check))
 }
 
 // The trial block of the subject's rows, and what its rows are computed with.
@@ -212,8 +214,41 @@ fn end_of(first: usize, rows: usize, observations: usize) -> usize
     first + rows
 }
 
-// The first part of a reply: 19, 1 to 5, then 8 and 9. The observations are added to the evaluation after
-// it, one after the other.
+// What is begun with a reply, over the observations lent from number `from` up to, but without, `to`: 8
+// and 9 where it is let in. The observations are added to the evaluation after it, one after the other.
+fn admitted_over(
+    setup: Setup,
+    trial: Trial,
+    reply: &[u64],
+    awaited: Awaited,
+    from: usize,
+    to: usize,
+) -> Admitted
+    ensures { λ r. ⌜ r ≡ admittedOver setup trial (now (reply .entry)) awaited from to (awaited .admission) ⌝ }
+{
+    let admission = awaited.admission;
+    match admission {
+        Admission::Accepted => {
+            let evaluation = evaluation::begin(
+                reply,
+                setup.width,
+                setup.effects,
+                setup.output_budget,
+            );
+            Admitted {
+                awaited,
+                from,
+                to,
+                evaluation,
+                trial,
+            }
+        }
+        Admission::Refused(number) => nothing_admitted(awaited, trial, number),
+        Admission::Unsound(_) => nothing_admitted(awaited, trial, 4),
+    }
+}
+
+// The first part of a reply: 19, 1 to 5, then 8 and 9.
 pub fn admit_reply(
     setup: Setup,
     state: State,
@@ -226,29 +261,34 @@ pub fn admit_reply(
     ensures { λ r. ⌜ r ≡ admitReply setup (now (counts .entry)) lent check state tally (now (reply .entry)) ⌝ }
 {
     let awaited = admit_awaited(setup, state, tally, check, lent, counts);
-    let admission = awaited.admission;
     let progress = state.progress;
     let rows = population::rows_of(counts, progress.subject);
     let trial = trial_by(setup, state, rows);
-    match admission {
-        Admission::Accepted => {
-            let evaluation = evaluation::begin(
-                reply,
-                setup.width,
-                setup.effects,
-                setup.output_budget,
-            );
-            Admitted {
-                awaited,
-                from: progress.first,
-                to: end_of(progress.first, rows, lent.observations),
-                evaluation,
-                trial,
-            }
-        }
-        Admission::Refused(number) => nothing_admitted(awaited, trial, number),
-        Admission::Unsound(_) => nothing_admitted(awaited, trial, 4),
-    }
+    let to = end_of(progress.first, rows, lent.observations);
+    admitted_over(setup, trial, reply, awaited, progress.first, to)
+}
+
+// The same for a reply that lends the observations of the awaited subject alone, which `check` is of.
+pub fn admit_subject_reply(
+    setup: Setup,
+    state: State,
+    tally: Tally,
+    check: Check,
+    lent: Lent,
+    counts: &[u64],
+    reply: &[u64],
+) -> Admitted
+    ensures { λ r. ⌜ r ≡ admitSubjectReply setup (now (counts .entry)) lent check state tally (now (reply .entry)) ⌝ }
+{
+    let progress = state.progress;
+    let subject = progress.subject;
+    let wanted = awaited_point(setup, state, tally, counts, work::MOST_ROWS);
+    let own = admission::with_parameters(setup, state.parameters);
+    let admission = setup_checks::subject_checks(own, counts, subject, lent, check);
+    let awaited = awaited_for(wanted, admission);
+    let rows = population::rows_of(counts, subject);
+    let trial = trial_by(setup, state, rows);
+    admitted_over(setup, trial, reply, awaited, 0, lent.observations)
 }
 
 fn nothing_admitted(awaited: Awaited, trial: Trial, number: u32) -> Admitted

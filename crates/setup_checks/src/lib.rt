@@ -3,6 +3,7 @@
 ghost use mathlib.Core.Path.{_≡_};
 ghost use Prim.Native.Nat.{_≤_};
 ghost use Rattle.admission.specs.Admission.{countObservations, isCohort, isShort, admitted, checks};
+ghost use Rattle.setup_checks.specs.SubjectChecks.{subjectChecks};
 use admission::Admission;
 use admission::Counts;
 use admission::Lent;
@@ -118,4 +119,30 @@ pub fn checks(setup: Setup, counts: &[u64], lent: Lent, check: Check) -> Admissi
         }
         Counts::Outside => Admission::Refused(1),
     }
+}
+
+// ---- where one subject's observations are lent
+
+// Checks 1 to 5 in their order, of this subject's count and its observations, which `check` is of. The
+// other subjects' are not looked at: a host that lends them no more has had them checked before.
+pub fn subject_checks(
+    setup: Setup,
+    counts: &[u64],
+    subject: usize,
+    lent: Lent,
+    check: Check,
+) -> Admission
+    ensures { λ r. ⌜ r ≡ subjectChecks setup (now (counts .entry)) subject lent check ⌝ }
+{
+    let count = cache::read(counts, subject) as usize;
+    if count == 0 {
+        return Admission::Refused(1);
+    }
+    if work::MOST_ROWS < count {
+        return Admission::Refused(1);
+    }
+    if is_cohort(setup.effects, counts.len(), count, lent.observations) {
+        return admitted(setup, counts.len(), count, count, lent, check);
+    }
+    Admission::Refused(1)
 }

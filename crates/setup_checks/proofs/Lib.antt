@@ -1,0 +1,2 @@
+-- Subject: the exits of `subject_checks`.
+mod Subject
