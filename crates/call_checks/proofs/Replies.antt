@@ -127,5 +127,5 @@ module _ (setup : Setup) (counts : List ℕ) (lent : Lent) (check : Check) (stat
   unfolding admitSubjectReply subjectAwaited
   subject-reply {w} q o d ew e =
       let at : w ≡ subjectAwaited setup counts lent check state tally =
-              ew ∙ (λ i. awaitedFor ((d ∙ ap (λ (s : Setup). subjectChecks s counts (state .progress .subject) lent check) o) i) (q i)) in
+      ew ∙ (λ i. awaitedFor ((d ∙ ap (λ (s : Setup). subjectChecks s counts (state .progress .subject) lent check) o) i) (q i)) in
       e ∙ (λ i. admittedOver setup (own-trial i) reply (at i) 0 (lent .observations) (at i .admission))

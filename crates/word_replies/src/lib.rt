@@ -4,9 +4,11 @@
 ghost use mathlib.Core.Path.{_≡_};
 ghost use Rattle.session_words.specs.SessionWords.{loadedState};
 ghost use Rattle.hosting.specs.Hosting.{setupOf, out, admitWith, finishWith};
+ghost use Rattle.word_replies.specs.SubjectReplies.{subjectFirst, admitSubjectWith};
 use admission::Lent;
 use evaluation::Check;
 use evaluation::Evaluation;
+use evaluation::Position;
 use hosting::Done;
 use hosting::SessionSetup;
 use session::Admitted;
@@ -28,6 +30,47 @@ pub fn admit_reply(
     match session_words::load(state) {
         LoadedState::Given(at) => {
             call_checks::admit_reply(
+                hosting::setup_of(setup),
+                at,
+                tally,
+                check,
+                lent,
+                counts,
+                reply,
+            )
+        }
+        LoadedState::None => call_checks::unadmitted(),
+    }
+}
+
+// Where the check begins of the observations of the awaited subject, which alone are lent. The state is
+// only read.
+pub fn subject_first(state: &mut [u64]) -> Check
+    ensures { λ r. ⌜ (r ≡ subjectFirst (now (state .entry))) × (now (state .exit) ≡ now (state .entry)) ⌝ }
+{
+    let subject = cache::read(state, 8) as usize;
+    Check::Sound(Position {
+        subject,
+        observation: 0,
+    })
+}
+
+// The first part of a reply that lends the observations of the awaited subject alone. The state is only
+// read.
+pub fn admit_subject_reply(
+    setup: SessionSetup,
+    tally: Tally,
+    check: Check,
+    lent: Lent,
+    counts: &[u64],
+    reply: &[u64],
+    state: &mut [u64],
+) -> Admitted
+    ensures { λ r. ⌜ (r ≡ admitSubjectWith (setupOf setup) (now (counts .entry)) lent check tally (now (reply .entry)) (loadedState (now (state .entry)))) × (now (state .exit) ≡ now (state .entry)) ⌝ }
+{
+    match session_words::load(state) {
+        LoadedState::Given(at) => {
+            call_checks::admit_subject_reply(
                 hosting::setup_of(setup),
                 at,
                 tally,
