@@ -4,35 +4,20 @@
 // gives all that it answers and writes. What is lent to be written must overlap nothing else that is lent
 // to the same call.
 //
-// All that decides anything is by value, in `word_calls`, `word_replies` and below; here the tally is copied out, the
-// observations are gone through, and the tally is written back.
+// All that decides anything is by value, in `word_calls`, `word_replies` and below; here the tally is copied
+// out, the observations are gone through, and the tally is written back.
 ghost use mathlib.Core.Path.{_≡_};
-ghost use Rattle.evaluation.specs.Subject.{evaluating};
 ghost use Rattle.session.specs.Session.{allChecked, objective, reply as replies, failure};
 ghost use Rattle.hosting.specs.Hosting.{setupOf, parametersOf, out, setupOver, callOver};
-ghost use Rattle.host.specs.Host.{done, evaluateOver};
+ghost use Rattle.lending.specs.Lending.{done};
 use evaluation::Check;
-use evaluation::Evaluation;
 use hosting::Done;
 use hosting::SessionParameters;
 use hosting::SessionSetup;
 use likelihood::population_focei::Observation;
-use session::Admitted;
 use subjects::Tally;
 
 // ---- what is lent
-
-fn tally_now(tally: &mut Tally) -> Tally
-    ensures { λ r. ⌜ (r ≡ now (tally .entry)) × (now (tally .exit) ≡ now (tally .entry)) ⌝ }
-{
-    *tally
-}
-
-fn keep_tally(tally: &mut Tally, value: Tally)
-    ensures { λ _. ⌜ now (tally .exit) ≡ value ⌝ }
-{
-    *tally = value;
-}
 
 // The check of all the observations.
 fn check_lent(setup: SessionSetup, observations: &[Observation], counts: &[u64]) -> Check
@@ -41,26 +26,6 @@ fn check_lent(setup: SessionSetup, observations: &[Observation], counts: &[u64])
     let first = session::first_check();
     let n = observations.len();
     observations::check_observations(observations, 0, n, first, setup.width, counts)
-}
-
-// The observations of a reply that is let in are added to its evaluation.
-fn evaluate(
-    observations: &[Observation],
-    admitted: Admitted,
-    reply: &[u64],
-    work: &mut [u64],
-) -> Evaluation
-    ensures { λ r. ⌜ evaluating r (now (work .exit)) ≡ evaluateOver (now (observations .entry)) admitted (now (reply .entry)) (now (work .entry)) ⌝ }
-{
-    observations::add_observations(
-        observations,
-        admitted.from,
-        admitted.to,
-        admitted.evaluation,
-        admitted.trial,
-        reply,
-        work,
-    )
 }
 
 // ---- the calls
@@ -81,7 +46,7 @@ pub extern "C" fn curlewstand_setup(
 ) -> u32
     ensures { λ r. ⌜ out (done r (now (tally .exit))) (now (state .exit)) (now (answer .exit)) (now (cache .exit)) (now (work .exit)) (now (warm .exit)) (now (results .entry)) ≡ setupOver (setupOf setup) (now (counts .entry)) (now (observations .entry)) (now (tally .entry)) (now (state .entry)) (now (answer .entry)) (now (cache .entry)) (now (work .entry)) (now (warm .entry)) (now (results .entry)) ⌝ }
 {
-    let before = tally_now(tally);
+    let before = lending::tally_now(tally);
     let check = check_lent(setup, observations, counts);
     let n = observations.len();
     let opened = word_calls::open(
@@ -97,7 +62,7 @@ pub extern "C" fn curlewstand_setup(
         warm,
         results,
     );
-    keep_tally(tally, opened.tally);
+    lending::keep_tally(tally, opened.tally);
     opened.number
 }
 
@@ -118,7 +83,7 @@ pub extern "C" fn curlewstand_objective(
 ) -> u32
     ensures { λ r. ⌜ out (done r (now (tally .exit))) (now (state .exit)) (now (answer .exit)) (now (cache .entry)) (now (work .exit)) (now (warm .exit)) (now (results .exit)) ≡ callOver (setupOf setup) (now (counts .entry)) (now (observations .entry)) (now (tally .entry)) (now (state .entry)) (now (answer .entry)) (now (cache .entry)) (now (work .entry)) (now (warm .entry)) (now (results .entry)) (objective (parametersOf parameters)) ⌝ }
 {
-    let before = tally_now(tally);
+    let before = lending::tally_now(tally);
     let check = check_lent(setup, observations, counts);
     let n = observations.len();
     let begun = word_calls::begin_objective(
@@ -135,7 +100,7 @@ pub extern "C" fn curlewstand_objective(
         warm,
         results,
     );
-    keep_tally(tally, begun.tally);
+    lending::keep_tally(tally, begun.tally);
     begun.number
 }
 
@@ -160,7 +125,7 @@ fn reply_checked(
     let n = observations.len();
     let lent = session::lent_of(n, cache.len(), work.len(), warm.len(), results.len());
     let admitted = word_replies::admit_reply(setup, tally, check, lent, counts, reply, state);
-    let evaluation = evaluate(observations, admitted, reply, work);
+    let evaluation = lending::evaluate(observations, admitted, reply, work);
     word_replies::finish_reply(
         setup,
         tally,
@@ -195,7 +160,7 @@ pub extern "C" fn curlewstand_reply(
 ) -> u32
     ensures { λ r. ⌜ out (done r (now (tally .exit))) (now (state .exit)) (now (answer .exit)) (now (cache .exit)) (now (work .exit)) (now (warm .exit)) (now (results .exit)) ≡ callOver (setupOf setup) (now (counts .entry)) (now (observations .entry)) (now (tally .entry)) (now (state .entry)) (now (answer .entry)) (now (cache .entry)) (now (work .entry)) (now (warm .entry)) (now (results .entry)) (replies (now (reply .entry))) ⌝ }
 {
-    let before = tally_now(tally);
+    let before = lending::tally_now(tally);
     let check = check_lent(setup, observations, counts);
     let taken = reply_checked(
         setup,
@@ -211,7 +176,7 @@ pub extern "C" fn curlewstand_reply(
         warm,
         results,
     );
-    keep_tally(tally, taken.tally);
+    lending::keep_tally(tally, taken.tally);
     taken.number
 }
 
@@ -231,7 +196,7 @@ pub extern "C" fn curlewstand_failure(
 ) -> u32
     ensures { λ r. ⌜ out (done r (now (tally .exit))) (now (state .exit)) (now (answer .exit)) (now (cache .entry)) (now (work .exit)) (now (warm .entry)) (now (results .entry)) ≡ callOver (setupOf setup) (now (counts .entry)) (now (observations .entry)) (now (tally .entry)) (now (state .entry)) (now (answer .entry)) (now (cache .entry)) (now (work .entry)) (now (warm .entry)) (now (results .entry)) failure ⌝ }
 {
-    let before = tally_now(tally);
+    let before = lending::tally_now(tally);
     let check = check_lent(setup, observations, counts);
     let n = observations.len();
     let failed = word_calls::fail(
@@ -247,6 +212,6 @@ pub extern "C" fn curlewstand_failure(
         warm,
         results,
     );
-    keep_tally(tally, failed.tally);
+    lending::keep_tally(tally, failed.tally);
     failed.number
 }

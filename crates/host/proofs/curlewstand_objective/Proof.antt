@@ -68,19 +68,19 @@ use Rattle.hosting.proofs.Done.Laws as DO′
 use Rattle.session.specs.Session.{allChecked, objective}
 use Rattle.hosting.specs.Hosting.{setupOf, out, parametersOf, objectiveWith, callOver}
 use Rattle.hosting.proofs.Whole.{objective-over}
-use Rattle.host.specs.Host.{done as done-with}
-use Rattle.host.proofs.tally_now as n
-use Rattle.host.proofs.tally_now.Symbol as n-def
-use Rattle.host.proofs.tally_now.Symbol.{name as #n}
-use Rattle.host.proofs.tally_now.Met as n-thm
+use Rattle.lending.specs.Lending.{done as done-with}
+use Rattle.lending.proofs.tally_now as n
+use Rattle.lending.proofs.tally_now.Symbol as n-def
+use Rattle.lending.proofs.tally_now.Symbol.{name as #n}
+use Rattle.lending.proofs.tally_now.Met as n-thm
 use Rattle.host.proofs.check_lent as c
 use Rattle.host.proofs.check_lent.Symbol as c-def
 use Rattle.host.proofs.check_lent.Symbol.{name as #c}
 use Rattle.host.proofs.check_lent.Met as c-thm
-use Rattle.host.proofs.keep_tally as k2
-use Rattle.host.proofs.keep_tally.Symbol as k2-def
-use Rattle.host.proofs.keep_tally.Symbol.{name as #k2}
-use Rattle.host.proofs.keep_tally.Met as k2-thm
+use Rattle.lending.proofs.keep_tally as k2
+use Rattle.lending.proofs.keep_tally.Symbol as k2-def
+use Rattle.lending.proofs.keep_tally.Symbol.{name as #k2}
+use Rattle.lending.proofs.keep_tally.Met as k2-thm
 use Rattle.word_calls.proofs.begin_objective as j
 use Rattle.word_calls.proofs.begin_objective.Symbol as j-def
 use Rattle.word_calls.proofs.begin_objective.Symbol.{name as #j}
@@ -225,7 +225,7 @@ curlewstand-objective-spec 𝓤 H 𝓜 𝓖 𝓡 =
     entered 𝓤 H (tripleOf 𝓤 H (𝓖 .A) f.signature (f.spec 𝓤 H (𝓖 .A) (𝓜 .mem) (𝓡 .run)))
     (tables 𝓤 H 𝓜 𝓡 code.env .C) (tables 𝓤 H 𝓜 𝓡 code.env .Λ) #f code.function (code.unfolded 𝓤 H 𝓜 𝓡)
     (meets 𝓤 H (𝓖 .A) (givenOf 𝓤 H 𝓜 𝓖) (𝓜 .mem) (𝓡 .run) (tablesOf 𝓤 H 𝓜 (tables 𝓤 H 𝓜 𝓡 code.env))
-    (cited 𝓤 H (n-con 𝓤 H (𝓖 .A) (𝓜 .mem) (𝓡 .run)) 𝓜 𝓡 code.env #n n-def.routine code.calls-host·tally-now (n-thm.met 𝓤 H 𝓜 𝓖 𝓡))
+    (cited 𝓤 H (n-con 𝓤 H (𝓖 .A) (𝓜 .mem) (𝓡 .run)) 𝓜 𝓡 code.env #n n-def.routine code.calls-lending·tally-now (n-thm.met 𝓤 H 𝓜 𝓖 𝓡))
     (cited 𝓤 H (c-con 𝓤 H (𝓖 .A) (𝓜 .mem) (𝓡 .run)) 𝓜 𝓡 code.env #c c-def.routine code.calls-host·check-lent (c-thm.met 𝓤 H 𝓜 𝓖 𝓡))
-    (cited 𝓤 H (k2-con 𝓤 H (𝓖 .A) (𝓜 .mem) (𝓡 .run)) 𝓜 𝓡 code.env #k2 k2-def.routine code.calls-host·keep-tally (k2-thm.met 𝓤 H 𝓜 𝓖 𝓡))
+    (cited 𝓤 H (k2-con 𝓤 H (𝓖 .A) (𝓜 .mem) (𝓡 .run)) 𝓜 𝓡 code.env #k2 k2-def.routine code.calls-lending·keep-tally (k2-thm.met 𝓤 H 𝓜 𝓖 𝓡))
     (cited 𝓤 H (j-con 𝓤 H (𝓖 .A) (𝓜 .mem) (𝓡 .run)) 𝓜 𝓡 code.env #j j-def.routine code.calls-word-calls·begin-objective (j-thm.met 𝓤 H 𝓜 𝓖 𝓡)))

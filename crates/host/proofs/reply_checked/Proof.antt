@@ -74,7 +74,7 @@ use Rattle.hosting.proofs.Done.Laws as DO′
 use Rattle.session.specs.Session.{allChecked}
 use Rattle.hosting.specs.Hosting.{setupOf, out, admitWith, finishWith}
 use Rattle.hosting.proofs.Whole.{reply-over}
-use Rattle.host.specs.Host.{evaluateOver}
+use Rattle.lending.specs.Lending.{evaluateOver}
 use Rattle.evaluation.specs.Subject.{evaluating}
 use Rattle.session.specs.Calls.{lentBy}
 use Rattle.session_words.specs.SessionWords.{loadedState}
@@ -87,10 +87,10 @@ use Rattle.word_replies.proofs.admit_reply as m
 use Rattle.word_replies.proofs.admit_reply.Symbol as m-def
 use Rattle.word_replies.proofs.admit_reply.Symbol.{name as #m}
 use Rattle.word_replies.proofs.admit_reply.Met as m-thm
-use Rattle.host.proofs.evaluate as p
-use Rattle.host.proofs.evaluate.Symbol as p-def
-use Rattle.host.proofs.evaluate.Symbol.{name as #p}
-use Rattle.host.proofs.evaluate.Met as p-thm
+use Rattle.lending.proofs.evaluate as p
+use Rattle.lending.proofs.evaluate.Symbol as p-def
+use Rattle.lending.proofs.evaluate.Symbol.{name as #p}
+use Rattle.lending.proofs.evaluate.Met as p-thm
 use Rattle.word_replies.proofs.finish_reply as s
 use Rattle.word_replies.proofs.finish_reply.Symbol as s-def
 use Rattle.word_replies.proofs.finish_reply.Symbol.{name as #s}
@@ -246,5 +246,5 @@ reply-checked-spec 𝓤 H 𝓜 𝓖 𝓡 =
     (meets 𝓤 H (𝓖 .A) (givenOf 𝓤 H 𝓜 𝓖) (𝓜 .mem) (𝓡 .run) (tablesOf 𝓤 H 𝓜 (tables 𝓤 H 𝓜 𝓡 code.env))
     (cited 𝓤 H (j-con 𝓤 H (𝓖 .A) (𝓜 .mem) (𝓡 .run)) 𝓜 𝓡 code.env #j j-def.routine code.calls-session·lent-of (j-thm.met 𝓤 H 𝓜 𝓖 𝓡))
     (cited 𝓤 H (m-con 𝓤 H (𝓖 .A) (𝓜 .mem) (𝓡 .run)) 𝓜 𝓡 code.env #m m-def.routine code.calls-word-replies·admit-reply (m-thm.met 𝓤 H 𝓜 𝓖 𝓡))
-    (cited 𝓤 H (p-con 𝓤 H (𝓖 .A) (𝓜 .mem) (𝓡 .run)) 𝓜 𝓡 code.env #p p-def.routine code.calls-host·evaluate (p-thm.met 𝓤 H 𝓜 𝓖 𝓡))
+    (cited 𝓤 H (p-con 𝓤 H (𝓖 .A) (𝓜 .mem) (𝓡 .run)) 𝓜 𝓡 code.env #p p-def.routine code.calls-lending·evaluate (p-thm.met 𝓤 H 𝓜 𝓖 𝓡))
     (cited 𝓤 H (s-con 𝓤 H (𝓖 .A) (𝓜 .mem) (𝓡 .run)) 𝓜 𝓡 code.env #s s-def.routine code.calls-word-replies·finish-reply (s-thm.met 𝓤 H 𝓜 𝓖 𝓡)))

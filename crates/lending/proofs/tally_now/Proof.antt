@@ -50,10 +50,10 @@ use denote.Exit.{yes}
 use Rattle.subjects.specs.declared.Tally.{Tally}
 use Rattle.subjects.proofs.Tally as T
 use Rattle.subjects.proofs.Tally.Laws as T′
-use Rattle.host.proofs.tally_now.Key.{name as #f}
-use Rattle.host.proofs.tally_now as f
-use Rattle.host.proofs.tally_now.Statement as stated
-use Rattle.host.proofs.tally_now.Code as code
+use Rattle.lending.proofs.tally_now.Key.{name as #f}
+use Rattle.lending.proofs.tally_now as f
+use Rattle.lending.proofs.tally_now.Statement as stated
+use Rattle.lending.proofs.tally_now.Code as code
 
 abbrev stayed : Stays (f.ended .signature .params) (f.ended .kept)
 stayed = (stay-ref (0 ∷ []) tt (plain (λ _. T.the-row)), tt)

@@ -60,15 +60,15 @@ use Rattle.evaluation.specs.declared.Trial.{Trial}
 use Rattle.evaluation.proofs.Trial as TR
 use Rattle.evaluation.proofs.Trial.Laws as TR′
 use Rattle.evaluation.specs.Subject.{evaluating}
-use Rattle.host.specs.Host.{evaluateOver}
+use Rattle.lending.specs.Lending.{evaluateOver}
 use Rattle.observations.proofs.add_observations as p
 use Rattle.observations.proofs.add_observations.Symbol as p-def
 use Rattle.observations.proofs.add_observations.Symbol.{name as #p}
 use Rattle.observations.proofs.add_observations.Met as p-thm
-use Rattle.host.proofs.evaluate.Key.{name as #f}
-use Rattle.host.proofs.evaluate as f
-use Rattle.host.proofs.evaluate.Statement as stated
-use Rattle.host.proofs.evaluate.Code as code
+use Rattle.lending.proofs.evaluate.Key.{name as #f}
+use Rattle.lending.proofs.evaluate as f
+use Rattle.lending.proofs.evaluate.Statement as stated
+use Rattle.lending.proofs.evaluate.Code as code
 
 -- what whoever holds an Admitted knows of its fields but the first
 admitted-is : (r : Admitted) → Is AD.the-row r (LL.vals AD.the-type AD′.the-laws r) → Is usize (r .from) (vint w64 (r .from) ∷ []) × (Is usize (r .to) (vint w64 (r .to) ∷ []) × (Is E.the-row (r .evaluation) (EL.vals E.the-type E′.the-laws (r .evaluation)) × (Is TR.the-row (r .trial) (LL.vals TR.the-type TR′.the-laws (r .trial)) × Unit {0})))

@@ -1,0 +1,2 @@
+-- Paths: what the parts of the reply answered, put together.
+mod Paths

@@ -1,0 +1,112 @@
+// A reply for C and Rust that lends the observations of the awaited subject alone: what it takes does not
+// grow with the number of subjects. It is for a host that changes neither the counts nor any observation
+// from call to call: then it is the reply of `host` (see `claims`, SubjectReply), which checks all that
+// there are at every call. It is defined for every input, refuses what is not right of what is lent with
+// document 01's number and place, and its contract gives all that it answers and writes.
+ghost use mathlib.Core.Path.{_≡_};
+ghost use Rattle.evaluation.specs.Observations.{checkObservations};
+ghost use Rattle.hosting.specs.Hosting.{setupOf, out};
+ghost use Rattle.lending.specs.Lending.{done};
+ghost use Rattle.word_replies.specs.SubjectReplies.{subjectChecked, subjectReplyOver};
+use evaluation::Check;
+use hosting::Done;
+use hosting::SessionSetup;
+use likelihood::population_focei::Observation;
+use subjects::Tally;
+
+// The check of the subject's observations, from where it begins.
+fn check_subject(
+    setup: SessionSetup,
+    observations: &[Observation],
+    counts: &[u64],
+    first: Check,
+) -> Check
+    ensures { λ r. ⌜ r ≡ checkObservations (setupOf setup .width) (now (counts .entry)) (now (observations .entry)) first ⌝ }
+{
+    let n = observations.len();
+    observations::check_observations(observations, 0, n, first, setup.width, counts)
+}
+
+// The reply, with the tally by value, where `check` is the observations'.
+fn reply_checked(
+    setup: SessionSetup,
+    tally: Tally,
+    check: Check,
+    observations: &[Observation],
+    counts: &[u64],
+    reply: &[u64],
+    state: &mut [u64],
+    answer: &mut [u64],
+    cache: &mut [u64],
+    work: &mut [u64],
+    warm: &mut [u64],
+    results: &mut [u64],
+) -> Done
+    requires { ⌜ check ≡ subjectChecked (setupOf setup) (now counts) (now observations) (now state) ⌝ }
+    ensures { λ r. ⌜ out r (now (state .exit)) (now (answer .exit)) (now (cache .exit)) (now (work .exit)) (now (warm .exit)) (now (results .exit)) ≡ subjectReplyOver (setupOf setup) (now (counts .entry)) (now (observations .entry)) tally (now (state .entry)) (now (answer .entry)) (now (cache .entry)) (now (work .entry)) (now (warm .entry)) (now (results .entry)) (now (reply .entry)) ⌝ }
+{
+    let n = observations.len();
+    let lent = session::lent_of(n, cache.len(), work.len(), warm.len(), results.len());
+    let admitted = word_replies::admit_subject_reply(
+        setup,
+        tally,
+        check,
+        lent,
+        counts,
+        reply,
+        state,
+    );
+    let evaluation = lending::evaluate(observations, admitted, reply, work);
+    word_replies::finish_reply(
+        setup,
+        tally,
+        admitted,
+        evaluation,
+        counts,
+        state,
+        answer,
+        cache,
+        work,
+        warm,
+        results,
+    )
+}
+
+// Takes the simulator's reply to the question that was asked, and runs on until it has a question or an
+// end. The observations are those of the subject that was asked for, the counts those of all subjects.
+#[no_mangle]
+pub extern "C" fn curlewstand_subject_reply(
+    setup: SessionSetup,
+    observations: &[Observation],
+    counts: &[u64],
+    reply: &[u64],
+    tally: &mut Tally,
+    state: &mut [u64],
+    answer: &mut [u64],
+    cache: &mut [u64],
+    work: &mut [u64],
+    warm: &mut [u64],
+    results: &mut [u64],
+) -> u32
+    ensures { λ r. ⌜ out (done r (now (tally .exit))) (now (state .exit)) (now (answer .exit)) (now (cache .exit)) (now (work .exit)) (now (warm .exit)) (now (results .exit)) ≡ subjectReplyOver (setupOf setup) (now (counts .entry)) (now (observations .entry)) (now (tally .entry)) (now (state .entry)) (now (answer .entry)) (now (cache .entry)) (now (work .entry)) (now (warm .entry)) (now (results .entry)) (now (reply .entry)) ⌝ }
+{
+    let before = lending::tally_now(tally);
+    let first = word_replies::subject_first(state);
+    let check = check_subject(setup, observations, counts, first);
+    let taken = reply_checked(
+        setup,
+        before,
+        check,
+        observations,
+        counts,
+        reply,
+        state,
+        answer,
+        cache,
+        work,
+        warm,
+        results,
+    );
+    lending::keep_tally(tally, taken.tally);
+    taken.number
+}
