@@ -1,7 +1,8 @@
 /* Curlewstand: whole sessions of FOCEI population fits, proved.
  *
- * Link target/staticlib/libhost.a, which `rt staticlib host` writes. The functions keep nothing of their
- * own: all that a session has stands in what the host lends. Between the calls of a session the host
+ * Link target/staticlib/libhost.a, which `rt staticlib host` writes, and for curlewstand_subject_reply
+ * target/staticlib/libsubject_replies.a (`rt staticlib subject_replies`). The functions keep nothing of
+ * their own: all that a session has stands in what the host lends. Between the calls of a session the host
  * changes none of it but the reply, and between objectives the warm starts.
  *
  * A slice is a pointer and a number of elements. A pointer of an empty slice is not null either. What is
@@ -50,6 +51,11 @@ extern "C" {
 /* The words of a session's state and of an answer. */
 #define CURLEWSTAND_STATE_WORDS 63
 #define CURLEWSTAND_ANSWER_WORDS 5
+
+/* The words of the state that have the subject which is searched, and the number of its first observation
+ * among those of all subjects. */
+#define CURLEWSTAND_STATE_SUBJECT 8
+#define CURLEWSTAND_STATE_FIRST 9
 
 /* The first word of an answer, and what the other four are. */
 enum curlewstand_kind {
@@ -141,6 +147,27 @@ uint32_t curlewstand_reply(struct curlewstand_setup setup,
                            uint64_t *work, size_t n_work,
                            uint64_t *warm, size_t n_warm,
                            uint64_t *results, size_t n_results);
+
+/* The same, with the observations of the awaited subject alone: those from number CURLEWSTAND_STATE_FIRST on,
+ * as many as its count says. It does not look at the observations of the other subjects, and at their counts
+ * only where a search comes to them, so that its time does not grow with the number of subjects. It is for a
+ * host that has changed no count and no observation since setup: then it does what curlewstand_reply does
+ * with all of them, and where that is refused with 1 to 5, which no such host sees, this may not be.
+ *
+ * 1 to 5 are tested of what is lent: 1 of the subject's count, which is the number of observations lent; 4 of
+ * these; 5 of 12 work words for each of these, 24 cache words for each of k, a warm word for each subject and
+ * effect, and 2 results for each of these and 3 for each subject. */
+uint32_t curlewstand_subject_reply(struct curlewstand_setup setup,
+                                   const struct curlewstand_observation *observations, size_t n_observations,
+                                   const uint64_t *counts, size_t n_counts,
+                                   const uint64_t *reply, size_t n_reply,
+                                   struct curlewstand_tally *tally,
+                                   uint64_t *state, size_t n_state,
+                                   uint64_t *answer, size_t n_answer,
+                                   uint64_t *cache, size_t n_cache,
+                                   uint64_t *work, size_t n_work,
+                                   uint64_t *warm, size_t n_warm,
+                                   uint64_t *results, size_t n_results);
 
 /* The simulator failed: the objective ends with 8. */
 uint32_t curlewstand_failure(struct curlewstand_setup setup,

@@ -1,5 +1,5 @@
-/* A session from C: setup, an objective of two subjects, the same again from kept evaluations, a call that
- * is not due, and a simulator that fails. Exits with 0 where all of it is as document 01 says. */
+/* A session from C: setup, an objective of two subjects, the same with replies that lend one subject's
+ * observations, the same again from kept evaluations, calls that are not due, and a simulator that fails. Exits with 0 where all of it is as document 01 says. */
 #include "curlewstand.h"
 
 #include <stdio.h>
@@ -52,11 +52,48 @@ static uint32_t reply(const uint64_t *words, size_t n) {
                              cache, 24 * K, work, 12, warm, SUBJECTS, results, 5 * SUBJECTS);
 }
 
-int main(void) {
-    EXPECT(curlewstand_setup(setup, observations, SUBJECTS, counts, SUBJECTS, &tally, state, CURLEWSTAND_STATE_WORDS,
+/* the same, with the observations of the awaited subject alone */
+static uint32_t subject_reply(const uint64_t *words, size_t n) {
+    const struct curlewstand_observation *own = observations + state[CURLEWSTAND_STATE_FIRST];
+    return curlewstand_subject_reply(setup, own, counts[state[CURLEWSTAND_STATE_SUBJECT]], counts, SUBJECTS, words, n,
+                                     &tally, state, CURLEWSTAND_STATE_WORDS, answer, CURLEWSTAND_ANSWER_WORDS,
+                                     cache, 24 * K, work, 12, warm, SUBJECTS, results, 5 * SUBJECTS);
+}
+
+static uint32_t open_session(void) {
+    return curlewstand_setup(setup, observations, SUBJECTS, counts, SUBJECTS, &tally, state, CURLEWSTAND_STATE_WORDS,
                              answer, CURLEWSTAND_ANSWER_WORDS, cache, 24 * K, work, 12, warm, SUBJECTS,
-                             results, 5 * SUBJECTS) == 0);
+                             results, 5 * SUBJECTS);
+}
+
+int main(void) {
+    EXPECT(open_session() == 0);
     EXPECT(answer[0] == CURLEWSTAND_ENDED && tally.calls == 0 && tally.cached_rows == 0);
+
+    /* an objective whose replies lend the awaited subject's observations: what it leaves is set aside */
+    static uint64_t results_alone[5 * SUBJECTS], cache_alone[24 * K], state_alone[CURLEWSTAND_STATE_WORDS];
+    uint32_t alone = objective(1.);
+    while (alone == 0 && answer[0] == CURLEWSTAND_ASKED) {
+        uint64_t row[4] = {word(0.), 0, answer[3], word(1.)};
+        alone = subject_reply(row, 4);
+    }
+    EXPECT(alone == 0 && answer[0] == CURLEWSTAND_ENDED);
+    uint64_t objective_alone = answer[1];
+    struct curlewstand_tally tally_alone = tally;
+    memcpy(results_alone, results, sizeof results);
+    memcpy(cache_alone, cache, sizeof cache);
+    memcpy(state_alone, state, sizeof state);
+
+    /* one that nobody asked for, and one that lends what the subject's count does not say */
+    EXPECT(subject_reply(counts, SUBJECTS) == 19);
+    EXPECT(objective(2.) == 0 && answer[0] == CURLEWSTAND_ASKED);
+    EXPECT(curlewstand_subject_reply(setup, observations, SUBJECTS, counts, SUBJECTS, counts, SUBJECTS, &tally,
+                                     state, CURLEWSTAND_STATE_WORDS, answer, CURLEWSTAND_ANSWER_WORDS, cache, 24 * K,
+                                     work, 12, warm, SUBJECTS, results, 5 * SUBJECTS) == 1);
+    EXPECT(answer[0] == CURLEWSTAND_REFUSED && answer[2] == CURLEWSTAND_NOWHERE);
+
+    /* a new session, whose replies lend all observations */
+    EXPECT(open_session() == 0);
 
     /* the simulator predicts the individual value itself */
     uint32_t refused = objective(1.), questions = 0;
@@ -68,6 +105,9 @@ int main(void) {
     EXPECT(refused == 0 && answer[0] == CURLEWSTAND_ENDED);
     EXPECT(questions <= 82 * SUBJECTS && tally.calls == questions);
     double value = number(answer[1]);
+    EXPECT(answer[1] == objective_alone && tally.calls == tally_alone.calls);
+    EXPECT(tally.cached_rows == tally_alone.cached_rows && memcmp(state, state_alone, sizeof state) == 0);
+    EXPECT(memcmp(results, results_alone, sizeof results) == 0 && memcmp(cache, cache_alone, sizeof cache) == 0);
     EXPECT(number(results[0]) > 0. && number(results[3]) < 0.);
     EXPECT(number(warm[0]) == number(results[0]) && number(warm[1]) == number(results[3]));
 

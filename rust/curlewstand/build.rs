@@ -1,4 +1,4 @@
-//! Links the seven static libraries, of the leaves, of the searches, of the kept
+//! Links the eight static libraries, of the leaves, of the searches, of the kept
 //! evaluations, of the evaluations themselves and of whole sessions.
 //!
 //! Each is looked for in the directory that `CURLEWSTAND_LIB_DIR` names, then in the
@@ -10,7 +10,7 @@ use std::io::ErrorKind;
 use std::path::{Path, PathBuf};
 use std::process::Command;
 
-const LIBRARIES: [&str; 7] = [
+const LIBRARIES: [&str; 8] = [
     "floats",
     "curlewstand",
     "searches",
@@ -18,6 +18,7 @@ const LIBRARIES: [&str; 7] = [
     "kept",
     "evaluations",
     "host",
+    "subject_replies",
 ];
 
 fn main() {

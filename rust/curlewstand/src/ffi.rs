@@ -396,6 +396,32 @@ unsafe extern "C" {
         results: *mut u64,
         results_len: usize,
     ) -> u32;
+    /// Takes a reply, with the observations of the awaited subject alone: those
+    /// from the number in the state's word 9 on, as many as its count says. 0, or
+    /// the number of a refusal. Where no count and no observation has changed
+    /// since setup it is `curlewstand_reply` with all observations.
+    pub fn curlewstand_subject_reply(
+        setup: SessionSetup,
+        observations: *const Observation,
+        observations_len: usize,
+        counts: *const u64,
+        counts_len: usize,
+        reply: *const u64,
+        reply_len: usize,
+        tally: *mut Tally,
+        state: *mut u64,
+        state_len: usize,
+        answer: *mut u64,
+        answer_len: usize,
+        cache: *mut u64,
+        cache_len: usize,
+        work: *mut u64,
+        work_len: usize,
+        warm: *mut u64,
+        warm_len: usize,
+        results: *mut u64,
+        results_len: usize,
+    ) -> u32;
     /// The simulator failed; 8, or the number of an earlier refusal.
     pub fn curlewstand_failure(
         setup: SessionSetup,

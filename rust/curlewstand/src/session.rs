@@ -75,6 +75,8 @@ const ANSWER_WORDS: usize = 5;
 const OMEGA: usize = 3;
 /// The state's word that has the subject which is searched.
 const SUBJECT: usize = 8;
+/// The state's word that has the number of that subject's first observation.
+const FIRST: usize = 9;
 /// The state's word that has the sum of the squares of eta.
 const ETA_SQUARES: usize = 13;
 
@@ -494,11 +496,15 @@ impl Session {
     ///     // three words are no whole row of four
     ///     assert_eq!(session.reply(&[0; 3]).unwrap_err().number, 8);
     pub fn reply(&mut self, rows: &[u64]) -> Result<Step, Refusal> {
+        // nobody changes the counts and observations of a session that is open, so
+        // those of the other subjects need not be looked at again
+        let observations = self.awaited_observations();
+        let (observations, n_observations) = (observations.as_ptr(), observations.len());
         let number = unsafe {
-            ffi::curlewstand_reply(
+            ffi::curlewstand_subject_reply(
                 self.setup,
-                self.observations.as_ptr(),
-                self.observations.len(),
+                observations,
+                n_observations,
                 self.counts.as_ptr(),
                 self.counts.len(),
                 rows.as_ptr(),
@@ -519,6 +525,14 @@ impl Session {
             )
         };
         self.step(number)
+    }
+
+    /// The observations of the subject that is searched.
+    fn awaited_observations(&self) -> &[Observation] {
+        let first = self.state[FIRST] as usize;
+        let count = self.counts.get(self.state[SUBJECT] as usize);
+        let end = first.saturating_add(count.map_or(0, |&count| count as usize));
+        self.observations.get(first..end).unwrap_or_default()
     }
 
     /// The simulator has failed: the objective ends with 8. Where no reply is
