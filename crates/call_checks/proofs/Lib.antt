@@ -1,2 +1,2 @@
 -- Replies: the parts of a reply's admission, put together.
-mod Replies
+pub mod Replies

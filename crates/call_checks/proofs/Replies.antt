@@ -74,7 +74,7 @@ module _ (setup : Setup) (counts : List ℕ) (lent : Lent) (check : Check) (stat
   through : {X Y : Type 0} (f : X → Y) (b : Bool) {x y : X} {p q : Y} → f x ≡ p → f y ≡ q → f (pick b x y) ≡ pick b p q
   through f b {p = p} {q = q} ep eq = cases (λ v. f v ≡ pick b p q) b (λ t. yes _ t ep) (λ t. no _ t eq)
 
-  whole-awaited : awaitedFor tested (awaitedPoint setup counts (lent .observations) state tally) ≡ admitAwaited setup counts lent check state tally
+  pub whole-awaited : awaitedFor tested (awaitedPoint setup counts (lent .observations) state tally) ≡ admitAwaited setup counts lent check state tally
   unfolding awaitedPoint awaitedFor admitAwaited
   whole-awaited = through (awaitedFor tested) (state .progress .awaits) (through (awaitedFor tested) (isStanding setup counts (lent .observations) tally (state .progress)) (at-wanted _) refl) refl
 
@@ -106,7 +106,7 @@ module _ (setup : Setup) (counts : List ℕ) (lent : Lent) (check : Check) (stat
   abbrev own-trial : trial ≡ trialBy setup state (rowsOf counts (state .progress .subject))
   own-trial = et ∙ ap (trialBy setup state) er
 
-  by-admission : (a : Admission) (w : Awaited) → admittedOver setup (trialBy setup state (rowsOf counts (state .progress .subject))) reply w (state .progress .first) (smaller (state .progress .first + rowsOf counts (state .progress .subject)) (lent .observations)) a
+  pub by-admission : (a : Admission) (w : Awaited) → admittedOver setup (trialBy setup state (rowsOf counts (state .progress .subject))) reply w (state .progress .first) (smaller (state .progress .first + rowsOf counts (state .progress .subject)) (lent .observations)) a
       ≡ admittedBy setup counts (lent .observations) state reply w a
   unfolding admittedOver admittedBy
   by-admission A.Accepted w = refl

@@ -32,7 +32,7 @@ some-subject effects subjects total observations q =
     positive subjects (not-first _ _ false-not-true (b .1) .0)
 
 -- ---- the counts
-each-count : (counts : List ℕ) (total largest : ℕ) {t l : ℕ} → countFrom total largest counts ≡ Within t l
+pub each-count : (counts : List ℕ) (total largest : ℕ) {t l : ℕ} → countFrom total largest counts ≡ Within t l
     → (largest ≤ l) × ((i : ℕ) → i < length counts → (1 ≤ getD counts i 0) × (getD counts i 0 ≤ l))
 unfolding countFrom
 each-count [] total largest {t} {l} e = let q : largest ≡ l = cc in (omega arith, λ i h. absurd (not-suc-le-zero h))

@@ -13,4 +13,6 @@ pub mod Searches
 pub mod Session
 pub mod Standing
 pub mod Stores
+pub mod SubjectChecks
+pub mod SubjectReply
 pub mod Turns

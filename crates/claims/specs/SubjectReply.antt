@@ -1,0 +1,30 @@
+-- A reply that lends the observations of the awaited subject alone is the reply that lends all of them, where the latter is let in: where the state's positions are right, and 1 to 5 pass of all that
+-- there is. It is so for any words and any state.
+use mathlib.Core.Path.{_≡_}
+use mathlib.Core.Bool.{true}
+use mathlib.Core.List.{List}
+use Prim.Native.Nat.{ℕ}
+use lib.ListN.{length, take, drop}
+use Rattle.float64.specs.Answer.{given}
+use Rattle.likelihood.specs.declared.population_focei.Observation.{Observation}
+use Rattle.admission.specs.Admission.{checks, withParameters}
+use Rattle.admission.specs.declared.Setup.{Setup}
+use Rattle.admission.specs.declared.Admission.the-variants.{Accepted}
+use Rattle.subjects.specs.declared.Tally.{Tally}
+use Rattle.population.specs.Population.{rowsOf}
+use Rattle.session.specs.Calls.{lentBy}
+use Rattle.session.specs.Session.{allChecked, isStanding, reply}
+use Rattle.session.specs.declared.State.{State}
+use Rattle.session_words.specs.SessionWords.{loadedState}
+use Rattle.hosting.specs.Hosting.{callOver}
+use Rattle.word_replies.specs.SubjectReplies.{subjectReplyOver}
+
+-- those of the subject that the state stands at
+abbrev pub ownOf : List ℕ → List Observation → State → List Observation
+ownOf counts observations s = take (rowsOf counts (s .progress .subject)) (drop (s .progress .first) observations)
+
+abbrev pub EverySubjectReply : Type 0
+EverySubjectReply = (setup : Setup) (counts : List ℕ) (observations : List Observation) (tally : Tally) (state answer cache work warm results : List ℕ) (words : List ℕ) (s : State) → loadedState state ≡ given s
+    → isStanding setup counts (length observations) tally (s .progress) ≡ true
+    → checks (withParameters setup (s .parameters)) counts (lentBy (length observations) (length cache) (length work) (length warm) (length results)) (allChecked setup counts observations) ≡ Accepted
+    → subjectReplyOver setup counts (ownOf counts observations s) tally state answer cache work warm results words ≡ callOver setup counts observations tally state answer cache work warm results (reply words)
