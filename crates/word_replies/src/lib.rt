@@ -70,15 +70,8 @@ pub fn admit_subject_reply(
 {
     match session_words::load(state) {
         LoadedState::Given(at) => {
-            call_checks::admit_subject_reply(
-                hosting::setup_of(setup),
-                at,
-                tally,
-                check,
-                lent,
-                counts,
-                reply,
-            )
+            let own = hosting::setup_of(setup);
+            call_checks::admit_subject_reply(own, at, tally, check, lent, counts, reply)
         }
         LoadedState::None => call_checks::unadmitted(),
     }
