@@ -1,10 +1,12 @@
 pub mod Accepted
+pub mod Always
 pub mod Copies
 pub mod Domains
 pub mod Entries
 pub mod Evaluated
 pub mod Fitting
 pub mod Lengths
+pub mod Limits
 pub mod Opening
 pub mod Plain
 pub mod Points
