@@ -8,6 +8,7 @@ pub mod Fitting
 pub mod Lengths
 pub mod Limits
 pub mod Opening
+pub mod Placed
 pub mod Plain
 pub mod Points
 pub mod Refined
