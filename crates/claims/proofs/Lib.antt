@@ -6,6 +6,7 @@ pub mod Entries
 pub mod Evaluated
 pub mod Fitting
 pub mod Lengths
+pub mod LetIn
 pub mod Limits
 pub mod Opening
 pub mod Placed

@@ -4,9 +4,9 @@ use mathlib.Core.Bool.{true}
 use Prim.Native.Nat.{ℕ, _+_, _<_}
 use native.Mathlib.Omega.{arith}
 use borrow.Author.Tests.{ltb-true, lt-ltb}
-use lib.Dec.{ltb, eqb}
+use lib.Dec.{ltb}
 use Rattle.float64.specs.Pick.{both, cases, pick-yes}
-use Rattle.matrix.specs.Matrix.{Inverse, some, none, inversePositive}
+use Rattle.matrix.specs.Matrix.{Inverse, some, none}
 use Rattle.matrix.specs.declared.Pair.{Pair}
 use Rattle.mode.specs.Rules.{screened, firstStage, entered, chosen, tried, advanceAt, advance, start}
 use Rattle.mode.specs.declared.population_focei.Settings.{Settings}

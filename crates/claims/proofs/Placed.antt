@@ -1,7 +1,6 @@
 -- Where a session stands keeps to what is lent: its subject, its first observation and its searches stay in their limits, the lent words as many, and the tally's kept rows those of the kept
 -- evaluations. Every turn, entry and setting of warm starts keeps that. Assumes nothing.
 use mathlib.Core.Path.{_≡_, refl, sym, ap, subst, _∙_}
-use mathlib.Core.Bool.{true, false}
 use mathlib.Core.List.{List, [], _∷_}
 use mathlib.Core.Option.{Option, none, some}
 use Prim.Native.Nat.{ℕ, zero, suc, _+_, _-_, _≤_, _<_}
@@ -13,16 +12,14 @@ use lib.ListN.{getD, length, take, drop}
 use lib.Ieee.{Float}
 use Rattle.float64.specs.Answer.{Answer, given, refused}
 use Rattle.float64.specs.Float64.{nonfinite}
-use Rattle.float64.specs.Pick.{pick, both, cases}
+use Rattle.float64.specs.Pick.{both, cases}
 use Rattle.matrix.specs.declared.Pair.{Pair}
 use Rattle.likelihood.specs.declared.population_focei.Observation.{Observation}
-use Rattle.evaluation.specs.Subject.{finish}
 use Rattle.evaluation.specs.declared.Check.{Check}
 use Rattle.evaluation.specs.declared.Sums.{Sums}
 use Rattle.evaluation.specs.declared.Evaluation.{Evaluation}
 use Rattle.evaluation.specs.declared.Evaluation.the-variants as E
 use Rattle.work.specs.Work.{mostRows, zeros, block, isSameGrid}
-use Rattle.cache.specs.Cache.{find}
 use Rattle.admission.specs.Admission.{larger, countFrom, countObservations}
 use Rattle.admission.specs.declared.Setup.{Setup}
 use Rattle.admission.specs.declared.Lent.{Lent}
@@ -47,7 +44,7 @@ use Rattle.subjects.specs.declared.Wanted.{Wanted}
 use Rattle.subjects.specs.declared.Wanted.the-variants as Wants
 use Rattle.sessions.specs.Machine.{Moved}
 use Rattle.population.specs.Kept.{Recalled, words, orderRows}
-use Rattle.population.specs.Population.{rowsOf, take as takes, answered, atPoint, Worked, nextSubject, raised, Ended, ended, closing, atMode, servedBy, served, isOver, turned, Whole, wholeOf, moved, turn, receive}
+use Rattle.population.specs.Population.{rowsOf, take as takes, answered, atPoint, Worked, nextSubject, raised, Ended, ended, closing, atMode, servedBy, served, turned, Whole, wholeOf, moved, turn, receive}
 use Rattle.population.specs.declared.Turned.{Turned}
 use Rattle.population.specs.declared.Turned.the-variants.{On, Halt}
 use Rattle.session.specs.Session as N

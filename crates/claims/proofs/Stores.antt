@@ -23,7 +23,7 @@ use Rattle.cache.proofs.Walked.{same-true}
 use Rattle.subjects.specs.Subjects.{sumsOf}
 use Rattle.sessions.specs.Log.{Every, none as no-entry, more}
 use Rattle.work.specs.Work.{zeros}
-use Rattle.population.specs.Kept.{Recalled, Store, recallAt, words}
+use Rattle.population.specs.Kept.{Recalled, Store, recallAt, orderRows, words}
 use Rattle.claims.proofs.Plain.{split}
 use Rattle.claims.proofs.Lengths.{AsLong, zeros-length, recalled-length}
 use Rattle.claims.proofs.Points.{In16}
@@ -128,3 +128,12 @@ module _ (k : ℕ) (some-room : 1 ≤ k) (most : k ≤ 100000) where
   pub kept-few : (n : ℕ) (c : Cache) → words-trusted .Holds n c → c .order .next ≤ n + 1
   unfolding words-trusted
   kept-few n c s = s .few
+
+  -- at most k rows, in words that are enough
+  pub kept-rows : (n : ℕ) (c : Cache) → words-trusted .Holds n c → words .rows c ≤ k
+  unfolding words-trusted orderRows
+  kept-rows n c s = omega (arith, refinement .rows (c .words) k (c .order) (s .list) (s .stands), refinement .atMost (c .words) k (c .order) (s .list) (s .stands))
+
+  pub kept-lent : (n : ℕ) (c : Cache) → words-trusted .Holds n c → 24 * k ≤ length (c .words)
+  unfolding words-trusted
+  kept-lent n c s = s .stands .good .long

@@ -1,6 +1,7 @@
 -- What a reader must believe: Inner (how a session's state is read as a search, with one effect and with two), Claim (demand 3 for every session), Refined (the words of the kept evaluations do not
--- show in what a session does), Setup (what an accepted setup gives back is where such a session begins).
+-- show in what a session does), Setup (what an accepted setup gives back is where such a session begins), LetIn (an awaited reply is let in).
 pub mod Inner
 pub mod Claim
 pub mod Refined
 pub mod Setup
+pub mod LetIn
