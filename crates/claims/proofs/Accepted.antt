@@ -1,11 +1,12 @@
 -- What holds of a setup, its counts and what is lent, where checks 1 to 5 have passed. Assumes nothing.
-use mathlib.Core.Path.{_≡_, refl, sym}
+use mathlib.Core.Path.{_≡_, refl, sym, subst}
 use mathlib.Core.Bool.{true, false}
 use mathlib.Core.List.{List, [], _∷_}
+use mathlib.Core.Logic.{_⊎_, inl, inr, ⊎-elim}
 use Prim.Native.Nat.{ℕ, zero, suc, _+_, _-_, _*_, _≤_, _<_}
 use native.Mathlib.Nat.{not-suc-le-zero, le-of-suc-le-suc}
 use native.Mathlib.Omega.{arith}
-use borrow.Author.Tests.{ltb-true, ltb-false}
+use borrow.Author.Tests.{ltb-true, ltb-false, eqb-true}
 use lib.Dec.{ltb, eqb}
 use lib.ListN.{getD, length}
 use Rattle.float64.specs.Pick.{cases}
@@ -22,14 +23,24 @@ use Rattle.admission.specs.declared.Admission.{Admission}
 use Rattle.admission.specs.declared.Admission.the-variants as A
 use Rattle.admission.proofs.Bounds.{not-first, counts-low, cohort-low}
 use Rattle.population.specs.Population.{rowsOf}
-use Rattle.claims.proofs.Plain.{true-not-false, false-not-true, positive}
+use Rattle.claims.proofs.Plain.{true-not-false, false-not-true, positive, split}
 
-some-subject : (effects subjects total observations : ℕ) → isCohort effects subjects total observations ≡ true → 1 ≤ subjects
+record Cohort (effects subjects total observations : ℕ) : Type 0 where
+  one-or-two : (effects ≡ 1) ⊎ (effects ≡ 2)
+  some : 1 ≤ subjects
+  adds : total ≡ observations
+
+is-cohort : (effects subjects total observations : ℕ) → isCohort effects subjects total observations ≡ true → Cohort effects subjects total observations
 unfolding isCohort
-some-subject effects subjects total observations q =
+is-cohort effects subjects total observations q =
     let a = not-first _ _ false-not-true q in
     let b = not-first _ _ false-not-true (a .1) in
-    positive subjects (not-first _ _ false-not-true (b .1) .0)
+    let c = not-first _ _ false-not-true (b .1) in
+    let d = not-first _ _ false-not-true (c .1) in
+    record { one-or-two = either effects (positive effects (a .0)) (ltb-false _ _ (b .0)); some = positive subjects (c .0); adds = eqb-true _ _ (d .1) }
+  where
+    either : (n : ℕ) → 1 ≤ n → n ≤ 2 → (n ≡ 1) ⊎ (n ≡ 2)
+    either n low high = ⊎-elim (λ (l : n < 2). inl (omega arith)) (λ (l : 2 ≤ n). inr (omega arith)) (split n 2)
 
 -- ---- the counts
 pub each-count : (counts : List ℕ) (total largest : ℕ) {t l : ℕ} → countFrom total largest counts ≡ Within t l
@@ -53,6 +64,9 @@ each-count (count ∷ rest) total largest {t} {l} e =
 -- ---- all that the checks say
 pub record Accepts (setup : Setup) (counts : List ℕ) (lent : Lent) : Type 0 where
   pub largest : ℕ
+  pub effects : (setup .effects ≡ 1) ⊎ (setup .effects ≡ 2)
+  -- the counts add up to the records lent
+  pub adds : countObservations counts ≡ Within (lent .observations) largest
   pub some : 1 ≤ length counts
   pub most : length counts ≤ 4096
   pub small : largest ≤ 100000
@@ -91,9 +105,12 @@ module _ (setup : Setup) (counts : List ℕ) (lent : Lent) (check : Check) where
       let low = counts-low {r = countObservations counts} counts refl c in
       let cohort = cohort-low {b = true} (setup .effects) (length counts) total (lent .observations) (sym h) refl in
       let f = each-count counts 0 0 c in
+      let g = is-cohort (setup .effects) (length counts) total (lent .observations) h in
       record {
         largest = largest;
-        some = some-subject (setup .effects) (length counts) total (lent .observations) h;
+        effects = g .one-or-two;
+        adds = subst (λ (n : ℕ). countObservations counts ≡ Within n largest) (g .adds) c;
+        some = g .some;
         most = cohort .1;
         small = low .1;
         each = λ i l. rows-are largest (low .1) i (f .1 i l);

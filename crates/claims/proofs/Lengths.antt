@@ -1,13 +1,21 @@
 -- What a step writes keeps the number of words that are lent. Assumes nothing.
 use mathlib.Core.Path.{_≡_, refl, ap, _∙_}
 use mathlib.Core.List.{List}
+use mathlib.Core.Option.{some}
 use Prim.Native.Nat.{ℕ, zero, suc, _+_, _*_}
+use native.Mathlib.Omega.{arith}
 use lib.Dec.{ltb, eqb}
 use lib.ListN.{getD, set, length, length-set}
+use lib.Ieee.{Float}
 use Rattle.float64.specs.Pick.{both}
+use Rattle.matrix.specs.declared.Pair.{Pair}
 use Rattle.cache.specs.Cache.{rowWords, rowsFrom, isRoom, copied, copyFrom, rowsTo, firstOf}
-use Rattle.work.specs.Work.{zeros, rowsLength, block, copyWords, copyBlock, moveRows}
+use Rattle.cache.specs.declared.Found.{Found}
+use Rattle.cache.specs.declared.Found.the-variants.{At, Nothing}
+use Rattle.work.specs.Work.{zeros, rowsLength, block, copyWords, copyBlock, moveRows, resultWritten, fittedRow, fittedFrom, fittedWritten}
 use Rattle.work.specs.declared.Sources.{Sources}
+use Rattle.population.specs.Kept.{Recalled, recallAt}
+use Rattle.population.specs.Population.{warmStored}
 
 -- as many words as there were
 abbrev pub AsLong : List ℕ → List ℕ → Type 0
@@ -44,3 +52,23 @@ unfolding copied rowsTo
 copied-length w k slot n out to =
     both (AsLong out) (isRoom k) (both (AsLong out) (ltb k n) refl (both (AsLong out) (ltb (length w) ((rowsFrom + rowWords) * k)) refl
     (both (AsLong out) (ltb (length out) (to + rowWords * n)) refl (copy-from-length (rowWords * n) w k (rowWords * firstOf w k slot) out to 0)))) refl
+
+pub recalled-length : (w : List ℕ) (k rows : ℕ) (work : List ℕ) (to : ℕ) (f : Found) (r : Recalled) → recallAt w k rows work to f ≡ some r → AsLong work (r .work)
+unfolding recallAt
+recalled-length w k rows work to (At slot) r q = let v : r .work ≡ copied w k slot rows work to = cc in ap length v ∙ copied-length w k slot rows work to
+recalled-length w k rows work to Nothing r q = absurd (let z : _≡_ {A = ℕ} 0 1 = cc in omega arith)
+
+-- ---- a mode's warm start and results
+pub warm-stored-length : (effects subject : ℕ) (eta : Pair) (warm : List ℕ) → AsLong warm (warmStored effects subject eta warm)
+unfolding warmStored
+warm-stored-length effects subject eta warm = both (AsLong warm) _ (simp length-set) (simp length-set)
+
+fitted-from-length : (n at : ℕ) (work : List ℕ) (rows i : ℕ) (results : List ℕ) → AsLong results (fittedFrom n at work rows i results)
+unfolding fittedFrom fittedRow
+fitted-from-length zero at work rows i results = refl
+fitted-from-length (suc n) at work rows i results = fitted-from-length n at work rows (i + 1) _ ∙ simp length-set
+
+pub results-length : (subjects first : ℕ) (work : List ℕ) (rows subject : ℕ) (eta : Pair) (nll : Float) (results : List ℕ)
+    → AsLong results (fittedWritten subjects first work rows (resultWritten subject eta nll results))
+unfolding fittedWritten resultWritten
+results-length subjects first work rows subject eta nll results = fitted-from-length _ _ work rows 0 _ ∙ simp length-set

@@ -1,11 +1,15 @@
 pub mod Accepted
+pub mod Always
 pub mod Copies
 pub mod Domains
 pub mod Entries
 pub mod Evaluated
 pub mod Fitting
 pub mod Lengths
+pub mod LetIn
+pub mod Limits
 pub mod Opening
+pub mod Placed
 pub mod Plain
 pub mod Points
 pub mod Refined

@@ -45,7 +45,8 @@ use Rattle.subjects.specs.declared.Place.{Place}
 use Rattle.subjects.specs.declared.Wanted.{Wanted}
 use Rattle.subjects.specs.declared.Wanted.the-variants as Wants
 use Rattle.sessions.specs.Log.{Every, none as no-entry, more}
-use Rattle.sessions.specs.Machine.{Moved, on, halt, Ran, onward, loop, call, run, set}
+use Rattle.sessions.specs.Machine.{Moved, on, halt, Ran, onward, loop, Machine, call, run, set}
+use Rattle.sessions.specs.Observed.{View}
 use Rattle.population.specs.Kept.{Recalled, words, entries, recallAt, recallEntry, orderRows}
 use Rattle.population.specs.Population.{rowsOf, take as takes, answered, atPoint, Ended, ended, isOver, servedBy, served, turned, moved, turn, spent, receive, wholeOf}
 use Rattle.population.specs.declared.Turned.{Turned}
@@ -57,6 +58,7 @@ use Rattle.claims.proofs.Copies.{same-copy}
 use Rattle.claims.proofs.Plain.{split}
 use Rattle.claims.specs.Inner.{Inner, inner1, inner2, view}
 use Rattle.claims.proofs.Accepted.{Accepts, accepts}
+use Rattle.claims.proofs.Always.{After, after-turn, after-entry}
 use Rattle.claims.proofs.Entries.{block-end, enters}
 use Rattle.claims.proofs.Evaluated.{work-length}
 use Rattle.claims.proofs.Fitting.{Fits}
@@ -67,9 +69,6 @@ use Rattle.admission.proofs.Bounds.{shape-low}
 use Rattle.claims.proofs.Standing.{Standing, Waiting, fit-k}
 use Rattle.claims.proofs.Stores.{every-append, every-drop, Trusted, words-trusted, kept-few, not-found, zeros-are}
 use Rattle.claims.proofs.Turns.{turns}
-use Rattle.sessions.specs.Lawful.{Turn, Enters}
-use Rattle.sessions.specs.Lawful.Enters.{same, begins, replied, failed}
-use Rattle.sessions.specs.Lawful.Turn.{hit, short, wild, miss, next, barred, last, fails}
 
 -- ---- one key, one entry
 entry-of : (P : Entry → Type 0) (key : CacheKey) (l : List Entry) (x : Entry) → Every P l → lookup key l ≡ some x → P x × (x .key ≡ key)
@@ -106,7 +105,7 @@ module _ (setup : Setup) (lent lent' : Lent) (w : lent .work ≡ lent' .work) (v
   checks-of-same subjects k (Within total largest) = let a = admitted-same subjects total largest k in cc
   checks-of-same subjects k Outside = refl
 
-  checks-same : (counts : List ℕ) (k : Check) → checks setup counts lent k ≡ checks setup counts lent' k
+  pub checks-same : (counts : List ℕ) (k : Check) → checks setup counts lent k ≡ checks setup counts lent' k
   unfolding checks
   checks-same counts k = checks-of-same (length counts) k (countObservations counts)
 
@@ -181,6 +180,12 @@ module _ (setup : Setup) (counts : List ℕ) (observations : List Observation) (
   abbrev U : Trusted words (setup .k)
   U = words-trusted (setup .k) (room .some) (room .most)
 
+  abbrev M : Machine
+  M = session words setup counts observations
+
+  abbrev Y : View (I .rules) M
+  Y = view words setup counts observations I
+
   abbrev Standing' : Held words → Type 0
   Standing' = Standing words setup counts observations I Q U
 
@@ -189,29 +194,6 @@ module _ (setup : Setup) (counts : List ℕ) (observations : List Observation) (
 
   abbrev Pair' : Moved (Held words) Step → Moved (Held entries) Step → Type 0
   Pair' = Both (setup .k) counts
-
-  -- where a call, a turn or an entry leaves a session
-  StandsAfter : Moved (Held words) Step → Type 0
-  StandsAfter (on h) = Standing' h
-  StandsAfter (halt x h) = Standing' h
-
-  after-turn : (h : Held words) {m : Moved (Held words) Step} → Turn (I .rules) (I .claims) (session words setup counts observations) (view words setup counts observations I) Standing' h m → StandsAfter m
-  unfolding StandsAfter
-  after-turn h (hit e r v) = v .kept .sound
-  after-turn h (short e m o) = o .sound
-  after-turn h (wild e m o) = o .sound
-  after-turn h (miss e m q f t n) = q .sound
-  after-turn h (next e b) = b .sound
-  after-turn h (barred e m o) = o .sound
-  after-turn h (last e m j o) = o .sound
-  after-turn h (fails e m o) = o .sound
-
-  after-entry : (c : Call) (h : Held words) {m : Moved (Held words) Step} → Standing' h → Enters (I .rules) (I .claims) (session words setup counts observations) (view words setup counts observations I) Standing' c h m → StandsAfter m
-  unfolding StandsAfter
-  after-entry c h s (same e) = s
-  after-entry c h s (begins i b) = b .sound
-  after-entry c h s (replied t r v) = v .kept .sound
-  after-entry c h s (failed t e o) = o .sound
 
   rows-are : (i : ℕ) → i < length counts → (1 ≤ rowsOf counts i) × (rowsOf counts i ≤ 100000)
   rows-are i l = let e = a .each i l in (e .0, let f = e .1 in omega (arith, f, a .small))
@@ -384,20 +366,20 @@ module _ (setup : Setup) (counts : List ℕ) (observations : List Observation) (
       by-alike : (h : Held words) (g : Held entries) → Alike (setup .k) h g → Every (OwnRows (setup .k) counts) (g .whole .kept) → Standing' h → Pair' (N.enter words setup counts observations x h) (N.enter entries setup counts observations x g)
       by-alike h g (alike parameters p tally c l work warm results st) own s = enter-both parameters p tally c l work warm results st own s x
 
-  onward-both : {m : Moved (Held words) Step} {n : Moved (Held entries) Step} (f : Held words → Ran (Held words) Step) (f' : Held entries → Ran (Held entries) Step) → Pair' m n → StandsAfter m
+  onward-both : {m : Moved (Held words) Step} {n : Moved (Held entries) Step} (f : Held words → Ran (Held words) Step) (f' : Held entries → Ran (Held entries) Step) → Pair' m n → After Standing' m
       → ((h : Held words) (g : Held entries) → Standing' h → Link h g → BothRan (f h) (f' g)) → BothRan (onward m f) (onward n f')
-  unfolding onward StandsAfter
+  unfolding onward After
   onward-both f f' (both-on {h} {g} i) s k = k h g s i
   onward-both f f' (both-halt i) s k = record { answer = refl; linked = i; stands = s }
 
   loop-both : (n : ℕ) (h : Held words) (g : Held entries) → Standing' h → Link h g → BothRan (loop (N.turnHeld words setup counts) spent n h) (loop (N.turnHeld entries setup counts) spent n g)
   unfolding loop
   loop-both zero h g s i = record { answer = refl; linked = i; stands = s }
-  loop-both (suc n) h g s i = onward-both _ _ (turn-of h g s i) (after-turn h (turns words setup counts observations I Q U bound (a .most) h s)) (loop-both n)
+  loop-both (suc n) h g s i = onward-both _ _ (turn-of h g s i) (after-turn (I .rules) (I .claims) M Y Standing' h (turns words setup counts observations I Q U bound (a .most) h s)) (loop-both n)
 
   call-both : (x : Call) (h : Held words) (g : Held entries) → Standing' h → Link h g → BothRan (call (session words setup counts observations) x h) (call (session entries setup counts observations) x g)
   unfolding call
-  call-both x h g s i = onward-both _ _ (enter-of x h g s i) (after-entry x h s (enters words setup counts observations I Q U bound (omega (arith, limit)) (a .some) rows-are x h s)) (loop-both (N.fuel))
+  call-both x h g s i = onward-both _ _ (enter-of x h g s i) (after-entry (I .rules) (I .claims) M Y Standing' x h s (enters words setup counts observations I Q U bound (omega (arith, limit)) (a .some) rows-are x h s)) (loop-both (N.fuel))
 
   -- the host sets the warm starts
   set-both : (warm : List ℕ) (h : Held words) (g : Held entries) → Link h g → Link (N.setWarm words setup counts warm h) (N.setWarm entries setup counts warm g)

@@ -11,7 +11,7 @@ use lib.ListN.{getD, length}
 use Rattle.float64.specs.Arithmetic.{word}
 use Rattle.float64.specs.Pick.{cases}
 use Rattle.evaluation.specs.Subject.{hasNonfiniteSum}
-use Rattle.cache.specs.Cache.{half, rowWords, order, Cache, find, copied, sameKey}
+use Rattle.cache.specs.Cache.{half, rowWords, order, Cache, find, sameKey}
 use Rattle.cache.specs.Claim.{Room}
 use Rattle.cache.specs.Kept.{Entry, lookup, dropTo, cachedRows, Evaluated, Lent, entryFor, foundEntry, entryOf, Stands}
 use Rattle.cache.specs.declared.CacheKey.{CacheKey}
@@ -23,9 +23,9 @@ use Rattle.cache.proofs.Walked.{same-true}
 use Rattle.subjects.specs.Subjects.{sumsOf}
 use Rattle.sessions.specs.Log.{Every, none as no-entry, more}
 use Rattle.work.specs.Work.{zeros}
-use Rattle.population.specs.Kept.{Recalled, Store, recallAt, words}
+use Rattle.population.specs.Kept.{Recalled, Store, recallAt, orderRows, words}
 use Rattle.claims.proofs.Plain.{split}
-use Rattle.claims.proofs.Lengths.{AsLong, zeros-length, copied-length}
+use Rattle.claims.proofs.Lengths.{AsLong, zeros-length, recalled-length}
 use Rattle.claims.proofs.Points.{In16}
 
 -- a kept evaluation that a search may go on with
@@ -88,8 +88,7 @@ module _ (k : ℕ) (some-room : 1 ≤ k) (most : k ≤ 100000) where
       let x = entryOf (c .words) k slot in
       let g : lookup key l ≡ some x = sym (refinement .finds (c .words) k (c .order) l st key) ∙ ap (foundEntry (c .words) k) e in
       let d : r .terms ≡ x .terms = cc (refinement .readsTerms (c .words) k slot room) in
-      let v : r .work ≡ copied (c .words) k slot rows work to = cc in
-      (subst (Fine key) (sym d) (found-fine key l x h g), ap length v ∙ copied-length (c .words) k slot rows work to)
+      (subst (Fine key) (sym d) (found-fine key l x h g), recalled-length (c .words) k rows work to (At slot) r q)
   recalled c l st h key rows work to r Nothing e q = absurd (let z : _≡_ {A = ℕ} 0 1 = cc in omega arith)
 
   pub not-found : (c : Cache) (l : List Entry) → Stands (c .words) k (c .order) l → (key : CacheKey) (rows : ℕ) (work : List ℕ) (to : ℕ)
@@ -129,3 +128,12 @@ module _ (k : ℕ) (some-room : 1 ≤ k) (most : k ≤ 100000) where
   pub kept-few : (n : ℕ) (c : Cache) → words-trusted .Holds n c → c .order .next ≤ n + 1
   unfolding words-trusted
   kept-few n c s = s .few
+
+  -- at most k rows, in words that are enough
+  pub kept-rows : (n : ℕ) (c : Cache) → words-trusted .Holds n c → words .rows c ≤ k
+  unfolding words-trusted orderRows
+  kept-rows n c s = omega (arith, refinement .rows (c .words) k (c .order) (s .list) (s .stands), refinement .atMost (c .words) k (c .order) (s .list) (s .stands))
+
+  pub kept-lent : (n : ℕ) (c : Cache) → words-trusted .Holds n c → 24 * k ≤ length (c .words)
+  unfolding words-trusted
+  kept-lent n c s = s .stands .good .long

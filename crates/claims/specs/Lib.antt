@@ -1,8 +1,9 @@
 -- What a reader must believe: Inner (how a session's state is read as a search, with one effect and with two), Claim (demand 3 for every session), Refined (the words of the kept evaluations do not
--- show in what a session does), Setup (what an accepted setup gives back is where such a session begins),
--- SubjectReply (a reply that lends one subject's observations is the reply that lends all of them).
+-- show in what a session does), Setup (what an accepted setup gives back is where such a session begins), LetIn (what a session lets in wherever it stands), SubjectReply (a reply that lends one
+-- subject's observations is the reply that lends all of them).
 pub mod Inner
 pub mod Claim
 pub mod Refined
 pub mod Setup
+pub mod LetIn
 pub mod SubjectReply

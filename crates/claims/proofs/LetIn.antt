@@ -1,0 +1,161 @@
+-- A session lets in what it awaits, `let-in` (specs/LetIn.antt). Assumes nothing.
+use mathlib.Core.Path.{_≡_, refl, sym, ap, subst, _∙_}
+use mathlib.Core.Bool.{Bool, true, false}
+use mathlib.Core.List.{List}
+use mathlib.Core.Logic.{_⊎_, ⊎-elim}
+use Prim.Native.Nat.{ℕ, _+_, _≤_, _<_}
+use native.Mathlib.Omega.{arith}
+use borrow.Author.Tests.{lt-ltb, le-ltb}
+use lib.Dec.{eqb}
+use lib.ListN.{length}
+use Rattle.float64.specs.Pick.{both, cases, pick-yes, pick-no}
+use Rattle.matrix.specs.declared.Pair.{Pair}
+use Rattle.likelihood.specs.declared.population_focei.Observation.{Observation}
+use Rattle.evaluation.specs.declared.Check.{Check}
+use Rattle.evaluation.specs.declared.Check.the-variants.{Sound, Unsound}
+use Rattle.cache.specs.Claim.{Room}
+use Rattle.admission.specs.Admission.{isNoOmega, isNoShape, isCohort, admitted, checksOf, checks, countObservations, roomy, isShort, withParameters}
+use Rattle.admission.specs.declared.Setup.{Setup}
+use Rattle.admission.specs.declared.Parameters.{Parameters}
+use Rattle.admission.specs.declared.Lent.{Lent}
+use Rattle.admission.specs.declared.Counts.{Counts}
+use Rattle.admission.specs.declared.Counts.the-variants.{Within, Outside}
+use Rattle.admission.specs.declared.Admission.{Admission}
+use Rattle.admission.specs.declared.Admission.the-variants as A
+use Rattle.admission.proofs.Bounds.{not-first, shape-low}
+use Rattle.subjects.specs.Subjects as B
+use Rattle.subjects.specs.declared.Step.{Step}
+use Rattle.subjects.specs.declared.Wanted.{Wanted}
+use Rattle.subjects.specs.declared.Wanted.the-variants as Wants
+use Rattle.sessions.specs.Machine.{Moved, Machine, Act, run}
+use Rattle.sessions.specs.Observed.{View}
+use Rattle.population.specs.Kept.{words}
+use Rattle.population.specs.Population.{rowsOf}
+use Rattle.session.specs.Session as N
+use Rattle.session.specs.Session.{Held, session}
+use Rattle.claims.specs.Inner.{Inner, inner1, inner2, pointWanted, view}
+use Rattle.claims.specs.LetIn.{admission, wantedPoint, LetIn, EveryCall}
+use Rattle.claims.proofs.Accepted.{Accepts, accepts}
+use Rattle.claims.proofs.Always.{after-turn, after-entry, after-both, run-keeps}
+use Rattle.claims.proofs.Entries.{enters}
+use Rattle.claims.proofs.Fitting.{Fits}
+use Rattle.claims.proofs.Limits.{within2-true}
+use Rattle.claims.proofs.Placed.{Going, turns-going, enters-going, sets-going, opens-going, observations-lent}
+use Rattle.claims.proofs.Refined.{checks-same}
+use Rattle.claims.proofs.Searches.{Suits, suits1, suits2}
+use Rattle.claims.proofs.Session.{sets, opens-standing, some-room}
+use Rattle.claims.proofs.Standing.{Standing}
+use Rattle.claims.proofs.Stores.{Trusted, words-trusted, kept-rows, kept-lent}
+use Rattle.claims.proofs.Turns.{turns}
+
+-- ---- 1 to 5 with an objective's own parameters: only 2 and 3 can refuse where the setup's own pass
+module _ (setup : Setup) (parameters : Parameters) (subjects : ℕ) (lent : Lent) (o : isNoOmega (withParameters setup parameters) ≡ false) (s : isNoShape (withParameters setup parameters) ≡ false) where
+  own-room : (total largest : ℕ) (check : Check) → roomy (withParameters setup parameters) subjects total largest lent check ≡ roomy setup subjects total largest lent check
+  unfolding roomy isShort withParameters
+  own-room total largest (Sound place) = refl
+  own-room total largest (Unsound place) = refl
+
+  own-admitted : (total largest : ℕ) (check : Check) → admitted setup subjects total largest lent check ≡ A.Accepted → admitted (withParameters setup parameters) subjects total largest lent check ≡ A.Accepted
+  unfolding admitted
+  own-admitted total largest check e =
+      let a = not-first (isNoOmega setup) _ (λ q. let z : _≡_ {A = ℕ} 0 1 = cc in omega arith) e in
+      let b = not-first (isNoShape setup) _ (λ q. let z : _≡_ {A = ℕ} 0 1 = cc in omega arith) (a .1) in
+      pick-no _ _ _ o ∙ pick-no _ _ _ s ∙ own-room total largest check ∙ b .1
+
+  own-checks : (check : Check) (c : Counts) → checksOf setup subjects lent check c ≡ A.Accepted → checksOf (withParameters setup parameters) subjects lent check c ≡ A.Accepted
+  unfolding checksOf withParameters
+  own-checks check (Within total largest) e =
+      cases (λ (x : Admission). x ≡ A.Accepted → checksOf (withParameters setup parameters) subjects lent check (Within total largest) ≡ A.Accepted) (isCohort (setup .effects) subjects total (lent .observations))
+      (λ t q. pick-yes _ _ _ t ∙ own-admitted total largest check q) (λ t q. absurd (let z : _≡_ {A = ℕ} 0 1 = cc in omega arith)) e
+  own-checks check Outside e = e
+
+module _ (setup : Setup) (counts : List ℕ) (observations : List Observation) (I : Inner) (Q : Suits I (setup .effects)) (bound : Fits (setup .«eta_bound»)) (limit : setup .«max_evaluations» < 4294967296)
+    (lent : Lent) (results : List ℕ) (many : length observations ≡ lent .observations) (long : length results ≡ lent .results) (opens : N.opens words setup counts observations lent ≡ A.Accepted) (a : Accepts setup counts lent) (room : Room (setup .k)) where
+  abbrev U : Trusted words (setup .k)
+  U = words-trusted (setup .k) (room .some) (room .most)
+
+  abbrev M : Machine
+  M = session words setup counts observations
+
+  abbrev Y : View (I .rules) M
+  Y = view words setup counts observations I
+
+  abbrev Stands : Held words → Type 0
+  Stands = Standing words setup counts observations I Q U
+
+  abbrev Goes : Held words → Type 0
+  Goes = Going setup counts observations lent (a .some) (a .most)
+
+  rows-are : (i : ℕ) → i < length counts → (1 ≤ rowsOf counts i) × (rowsOf counts i ≤ 100000)
+  rows-are i l = let e = a .each i l in (e .0, let f = e .1 in omega (arith, f, a .small))
+
+  -- ---- a whole session
+  both-hold : (acts : List (Act M)) → Stands (run M (N.opened words setup counts lent results) acts) × Goes (run M (N.opened words setup counts lent results) acts)
+  both-hold acts =
+      run-keeps M (λ (h : Held words). Stands h × Goes h)
+      (λ h p. after-both Stands Goes _ (after-turn (I .rules) (I .claims) M Y Stands h (turns words setup counts observations I Q U bound (a .most) h (p .0))) (turns-going setup counts observations lent (a .some) (a .most) h (p .1)))
+      (λ c h p. after-both Stands Goes _ (after-entry (I .rules) (I .claims) M Y Stands c h (p .0) (enters words setup counts observations I Q U bound (omega (arith, limit)) (a .some) rows-are c h (p .0)))
+      (enters-going setup counts observations lent (a .some) (a .most) h (p .1) c))
+      (λ warm h p. (sets words setup counts observations I Q U bound limit lent results a warm h (p .0), sets-going setup counts observations lent (a .some) (a .most) h (p .1) warm))
+      acts (N.opened words setup counts lent results)
+      (opens-standing words setup counts observations I Q U bound limit lent results a, opens-going setup counts observations lent (a .some) (a .most) results long)
+
+  -- ---- wherever it stands
+  module _ (h : Held words) (s : Stands h) (g : Goes h) where
+    abbrev n : ℕ
+    n = length observations
+
+    abbrev check : Check
+    check = N.allChecked setup counts observations
+
+    few-rows : h .whole .tally .«cached_rows» .0 ≤ setup .k
+    few-rows = subst (λ (m : ℕ). m ≤ setup .k) (sym (g .rows)) (kept-rows (setup .k) (room .some) (room .most) (s .count) (h .whole .kept) (s .trust))
+
+    rows-lent : h .whole .progress .first + rowsOf counts (h .whole .progress .subject) ≤ n
+    rows-lent = let l = observations-lent setup counts observations lent (a .some) (a .most) (lent .observations) (a .largest) (a .adds) h g in omega (arith, l, many)
+
+    placed : N.isStanding setup counts n (h .whole .tally) (h .whole .progress) ≡ true
+    unfolding N.isStanding N.isPlaced
+    placed =
+        pick-no _ _ _ (le-ltb _ _ few-rows) ∙ pick-yes _ _ false (lt-ltb _ _ (g .place .subject)) ∙ pick-no _ false _ (le-ltb _ _ rows-lent)
+        ∙ both (λ (b : Bool). b ≡ true) (eqb (setup .effects) 2) (within2-true _ (g .place .two)) (g .place .one)
+
+    others : (parameters : Parameters) → isNoOmega (withParameters setup parameters) ≡ false → isNoShape (withParameters setup parameters) ≡ false → admission setup counts observations parameters h ≡ A.Accepted
+    unfolding N.admitted withParameters checks
+    others parameters o k =
+        checks-same (withParameters setup parameters) (N.lentOf words setup n (h .whole)) lent (g .work) (g .warm) (g .results) many (kept-lent (setup .k) (room .some) (room .most) (s .count) (h .whole .kept) (s .trust)) (a .cache-lent) counts check
+        ∙ own-checks setup parameters (length counts) lent o k check (countObservations counts) opens
+
+    accepted : admission setup counts observations (h .parameters) h ≡ A.Accepted
+    accepted = others (h .parameters) (s .omega-in) (s .shape-in)
+
+    awaited : h .whole .progress .awaits ≡ true → (go : Pair → Moved (Held words) Step) → N.whenAwaited words setup counts n check h go ≡ go (wantedPoint setup counts observations h)
+    unfolding N.whenAwaited
+    awaited t go = pick-yes _ _ _ t ∙ pick-yes _ _ _ placed ∙ at (B.wantedBy (B.fitOf setup (h .parameters)) (h .whole .progress)) (s .waiting t .eta) (s .waiting t .wants)
+      where
+        at : (v : Wanted) (eta : Pair) → v ≡ Wants.Point eta → N.atWanted words setup counts n check h go v ≡ go (pointWanted v)
+        at (Wants.Point x) eta e = unfold N.atWanted N.whenAdmitted in ap (N.whenAdmitted words setup counts h (go x)) accepted
+        at Wants.Mode eta e = absurd (let z : _≡_ {A = ℕ} 0 1 = cc in omega arith)
+        at (Wants.Refused k) eta e = absurd (let z : _≡_ {A = ℕ} 0 1 = cc in omega arith)
+
+    lets-in : LetIn setup counts observations h
+    unfolding N.enterReply N.enterFailure N.enterObjective
+    lets-in = record {
+      placed = placed;
+      accepted = accepted;
+      others = others;
+      replies = λ t reply. awaited t _;
+      fails = λ t. awaited t _;
+      begins = λ t parameters. pick-no _ _ _ t ∙ pick-yes _ _ _ placed;
+    }
+
+  holds : (acts : List (Act M)) → LetIn setup counts observations (run M (N.opened words setup counts lent results) acts)
+  holds acts = let b = both-hold acts in lets-in _ (b .0) (b .1)
+
+pub let-in : EveryCall
+let-in setup counts observations bound limit lent results many long e acts =
+    let a = accepts setup counts lent (N.allChecked setup counts observations) e in
+    let room : Room (setup .k) = record { some = some-room setup (a .shape-in); most = shape-low {b = false} setup (sym (a .shape-in)) refl } in
+    ⊎-elim (λ (one : setup .effects ≡ 1). holds setup counts observations inner1 (subst (Suits inner1) (sym one) suits1) bound limit lent results many long e a room acts)
+    (λ (two : setup .effects ≡ 2). holds setup counts observations inner2 (subst (Suits inner2) (sym two) suits2) bound limit lent results many long e a room acts)
+    (a .effects)

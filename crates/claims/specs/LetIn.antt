@@ -1,0 +1,54 @@
+-- What a session lets in, wherever it stands: a reply or a failure that is awaited, and a new objective while none is. None of these meets 19, and 1 to 5 refuse nothing but a new objective, for its
+-- own parameters.
+use mathlib.Core.Path.{_≡_}
+use mathlib.Core.Bool.{true, false}
+use mathlib.Core.List.{List}
+use Prim.Native.Nat.{ℕ, _<_}
+use lib.Dec.{T}
+use lib.ListN.{length}
+use lib.Ieee.{binary64, fits}
+use Rattle.matrix.specs.declared.Pair.{Pair}
+use Rattle.likelihood.specs.declared.population_focei.Observation.{Observation}
+use Rattle.admission.specs.Admission.{isNoOmega, isNoShape, withParameters}
+use Rattle.admission.specs.declared.Setup.{Setup}
+use Rattle.admission.specs.declared.Parameters.{Parameters}
+use Rattle.admission.specs.declared.Lent.{Lent}
+use Rattle.admission.specs.declared.Admission.{Admission}
+use Rattle.admission.specs.declared.Admission.the-variants.{Accepted}
+use Rattle.subjects.specs.Subjects.{fitOf, wantedBy}
+use Rattle.subjects.specs.declared.Place.the-variants.{Subject}
+use Rattle.sessions.specs.Machine.{on, Act, run}
+use Rattle.population.specs.Kept.{words}
+use Rattle.session.specs.Session.{Held, isStanding, whenAdmitted, begun, over, admitted, allChecked, enterObjective, enterReply, enterFailure, answered, session, opened, opens}
+use Rattle.claims.specs.Inner.{pointWanted}
+
+module _ (setup : Setup) (counts : List ℕ) (observations : List Observation) where
+  -- what 1 to 5 say of an objective with these parameters
+  abbrev pub admission : Parameters → Held words → Admission
+  admission parameters h = admitted words setup counts (length observations) (allChecked setup counts observations) parameters (h .whole)
+
+  -- the point that the search asks for
+  abbrev pub wantedPoint : Held words → Pair
+  wantedPoint h = pointWanted (wantedBy (fitOf setup (h .parameters)) (h .whole .progress))
+
+  pub record LetIn (h : Held words) : Type 0 where
+    -- 19's positions
+    pub placed : isStanding setup counts (length observations) (h .whole .tally) (h .whole .progress) ≡ true
+    -- 1 to 5 of the objective's own parameters; of others only 2 and 3 can refuse
+    pub accepted : admission (h .parameters) h ≡ Accepted
+    pub others : (parameters : Parameters) → isNoOmega (withParameters setup parameters) ≡ false → isNoShape (withParameters setup parameters) ≡ false → admission parameters h ≡ Accepted
+    -- a reply is awaited: it is evaluated at the point that was asked for, and its failure ends the objective with 8
+    pub replies : h .whole .progress .awaits ≡ true → (reply : List ℕ) → enterReply words setup counts observations reply h ≡ answered words setup counts observations reply (wantedPoint h) h
+    pub fails : h .whole .progress .awaits ≡ true
+        → enterFailure words setup counts (length observations) (allChecked setup counts observations) h ≡ over words setup counts 8 (Subject (h .whole .progress .subject)) h
+    -- none is awaited: a new objective begins where 1 to 5 pass
+    pub begins : h .whole .progress .awaits ≡ false → (parameters : Parameters)
+        → enterObjective words setup counts (length observations) (allChecked setup counts observations) parameters h
+        ≡ whenAdmitted words setup counts h (on (begun words setup counts parameters (h .whole))) (admission parameters h)
+
+-- after any list of calls, in the session that an accepted setup opened: `lent` counts the observations and the results that are there. eta_bound is a float of the format, and max_evaluations a
+-- u32, as every value of the code is.
+abbrev pub EveryCall : Type 0
+EveryCall = (setup : Setup) (counts : List ℕ) (observations : List Observation) → T (fits binary64 (setup .«eta_bound»)) → setup .«max_evaluations» < 4294967296
+    → (lent : Lent) (results : List ℕ) → length observations ≡ lent .observations → length results ≡ lent .results → opens words setup counts observations lent ≡ Accepted
+    → (acts : List (Act (session words setup counts observations))) → LetIn setup counts observations (run (session words setup counts observations) (opened words setup counts lent results) acts)
