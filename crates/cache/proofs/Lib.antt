@@ -1,5 +1,5 @@
 -- Paths: the ways through the code, for its proofs. Run has the theorem, `refinement`. It rests on Refine (insert, and the list's own laws), Placed (one more entry), Dropped
--- (eviction), Walked (find) and Filter (a chain's filter).
+-- (eviction), Walked (find) and Filter (a chain's filter). Runs: words copied one after another, for the proofs of kept_entries and keeping.
 pub mod Paths
 pub mod Filter
 pub mod Walked
@@ -7,3 +7,4 @@ pub mod Dropped
 pub mod Placed
 pub mod Refine
 pub mod Run
+pub mod Runs

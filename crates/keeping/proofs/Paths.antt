@@ -14,8 +14,9 @@ use Rattle.float64.specs.Pick.{pick, yes, no, yesOf, noOf}
 use Rattle.cache.specs.declared.CacheKey.{CacheKey}
 use Rattle.cache.specs.declared.CachedTerms.{CachedTerms}
 use Rattle.cache.specs.declared.CacheOrder.{CacheOrder}
-use Rattle.cache.specs.Cache.{rowWords, rowsFrom, half, hash, headOf, chain, bits, withBit, latestOf, filterOf, entryPlace, linkPlace, countOf, isRoom, order, raised, evict, putRing, entryWords, written, isKept, after, placed, insert}
+use Rattle.cache.specs.Cache.{rowWords, rowsFrom, half, hash, headOf, chain, bits, withBit, latestOf, filterOf, entryPlace, linkPlace, countOf, isRoom, order, raised, evict, copyRun, putRing, entryWords, written, isKept, after, placed, insert}
 use Rattle.cache.proofs.Paths.{picked, passed, room-says}
+use Rattle.cache.proofs.Runs.{ring-moves, one-run, two-runs, near, far}
 
 -- ---- a chain's filter
 power-lt : (bit : ℕ) → bit < 32 → 2 ^ bit < 4294967296
@@ -85,6 +86,24 @@ module _ (base c x : ℕ) (v : List ℕ) (from n i : ℕ) (w : List ℕ) where
       let z : n - i ≡ suc (n - (i + 1)) = omega arith in
       let t : w' ≡ set w (base + (x + i) % c) (getD v (from + i) 0) = r ∙ (λ d. set w (base + p d) (q d)) in
       ap (λ (l : List ℕ). putRing (n - (i + 1)) l base c x v from (i + 1)) t ∙ ap (λ (m : ℕ). putRing m w base c x v from i) (sym z)
+
+-- ---- around a ring in one run, or in two
+module _ (w : List ℕ) (base c x : ℕ) (v : List ℕ) (from n : ℕ) (some : 0 < c) where
+  before-end : (t : ℕ) → t < c - x % c → base + (x + t) % c ≡ base + x % c + t
+  before-end t h =
+      let m : x % c < c = mod-lt x some in
+      let z : base + (x % c + t) ≡ base + x % c + t = omega arith in
+      ap (λ (y : ℕ). base + y) (near c x t (omega (arith, m, h))) ∙ z
+
+  pub in-one-run : {w₁ : List ℕ} → n ≤ c - x % c → w₁ ≡ copyRun n v from w (base + x % c) 0 → w₁ ≡ putRing n w base c x v from 0
+  in-one-run h e = one-run v _ _ w from (base + x % c) n (λ t l. (refl, before-end t (omega (arith, h, l)))) e ∙ ring-moves n w base c x v from 0
+
+  pub in-two-runs : {w₁ w₂ : List ℕ} → n ≤ c → c - x % c < n → w₁ ≡ copyRun (c - x % c) v from w (base + x % c) 0 → w₂ ≡ copyRun (n - (c - x % c)) v (from + (c - x % c)) w₁ base 0 → w₂ ≡ putRing n w base c x v from 0
+  in-two-runs most h e r =
+      let left = c - x % c in
+      two-runs v _ _ w from (base + x % c) (from + left) base left n (omega (arith, h)) (λ t l. (refl, before-end t l)) (λ t l.
+      let z : from + (left + t) ≡ from + left + t = omega arith in
+      (z, ap (λ (y : ℕ). base + y) (far c x t some (omega (arith, most, l))))) e r ∙ ring-moves n w base c x v from 0
 
 -- ---- the stores of one entry, from what each call ensures: r is the head that was read, f its new filter, w1 to w4 the words after each store
 module _ (w : List ℕ) (k oldest entry row : ℕ) (key : CacheKey) (terms : CachedTerms) (n : ℕ) (rows : List ℕ) (from : ℕ) where

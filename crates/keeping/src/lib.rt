@@ -2,7 +2,8 @@
 // rows fit, and the entry, its rows, its link and the head of its chain are written as `cache` lays them out.
 ghost use mathlib.Core.Path.{_≡_};
 ghost use Prim.Native.Nat.{_+_, _-_, _*_, _%_, _≤_, _<_};
-ghost use Rattle.cache.specs.Cache.{half, rowWords, headOf, withBit, entryPlace, raised, evict, putRing, entryWords, written, isKept, after, insert};
+ghost use lib.ListN.{length};
+ghost use Rattle.cache.specs.Cache.{half, rowWords, headOf, withBit, entryPlace, raised, evict, copyRun, putRing, entryWords, written, isKept, after, insert};
 use cache::CacheKey;
 use cache::CacheOrder;
 use cache::CachedTerms;
@@ -122,8 +123,8 @@ fn onward(at: usize, c: usize) -> usize
     at + 1
 }
 
-// Writes n words of `values`, from word `from` on, around the ring of c words at `base`, the first at `start`.
-fn put_ring(
+// Writes n words of `values` as `put_ring` does, where some may lie beyond the end.
+fn put_each(
     words: &mut [u64],
     base: usize,
     c: usize,
@@ -142,6 +143,64 @@ fn put_ring(
         at = onward(at, c);
         i += 1;
     }
+}
+
+// Writes n words of `values`, from word `from` on, to those from word `to` on.
+fn put_run(words: &mut [u64], to: usize, values: &[u64], from: usize, n: usize)
+    requires { ⌜ (to + n ≤ length (now words)) × (from + n ≤ length (now values)) ⌝ }
+    ensures { λ _. ⌜ now (words .exit) ≡ copyRun n (now (values .entry)) from (now (words .entry)) to 0 ⌝ }
+{
+    let mut i = 0;
+    while i < n {
+        words[to + i] = values[from + i];
+        i += 1;
+    }
+}
+
+// Writes n words of `values` as `put_ring` does, where all are lent: those before the end of the ring, then
+// those from its beginning on.
+fn put_lent(
+    words: &mut [u64],
+    base: usize,
+    c: usize,
+    start: usize,
+    values: &[u64],
+    from: usize,
+    n: usize,
+)
+    requires { ⌜ (0 < c) × (n ≤ c) × (base + c ≤ length (now words)) × (from + n ≤ length (now values)) ⌝ }
+    ensures { λ _. ⌜ now (words .exit) ≡ putRing n (now (words .entry)) base c start (now (values .entry)) from 0 ⌝ }
+{
+    let at = start % c;
+    let left = c - at;
+    if n <= left {
+        put_run(words, base + at, values, from, n);
+        return;
+    }
+    put_run(words, base + at, values, from, left);
+    put_run(words, base, values, from + left, n - left);
+}
+
+// Writes n words of `values`, from word `from` on, around the ring of c words at `base`, the first at `start`.
+fn put_ring(
+    words: &mut [u64],
+    base: usize,
+    c: usize,
+    start: usize,
+    values: &[u64],
+    from: usize,
+    n: usize,
+)
+    requires { ⌜ (0 < c) × (n ≤ c) × (base + c < 100000000) × (from + n < 18446744073709551616) ⌝ }
+    ensures { λ _. ⌜ now (words .exit) ≡ putRing n (now (words .entry)) base c start (now (values .entry)) from 0 ⌝ }
+{
+    if base + c <= words.len() {
+        if from + n <= values.len() {
+            put_lent(words, base, c, start, values, from, n);
+            return;
+        }
+    }
+    put_each(words, base, c, start, values, from, n);
 }
 
 // An entry's words: key, terms, the number of its rows and the number of the first.

@@ -68,8 +68,20 @@ pub fn block(rows: usize, number: usize) -> usize
     rows_length(rows) * smaller(number, TRIAL)
 }
 
-// Copies n words, from word `from` on, to those from word `to` on, one after the other.
-fn copy_words(work: &mut [u64], n: usize, from: usize, to: usize)
+// Copies n words as `copy_words` does, where all of them are lent: a loop without a test for each word.
+fn copy_lent(work: &mut [u64], n: usize, from: usize, to: usize)
+    requires { ⌜ (from + n ≤ length (now work)) × (to + n ≤ length (now work)) ⌝ }
+    ensures { λ _. ⌜ now (work .exit) ≡ copyWords n from to (now (work .entry)) ⌝ }
+{
+    let mut i = 0;
+    while i < n {
+        work[to + i] = work[from + i];
+        i += 1;
+    }
+}
+
+// Copies n words as `copy_words` does, where some may lie beyond the end.
+fn copy_each(work: &mut [u64], n: usize, from: usize, to: usize)
     requires { ⌜ (n ≤ 300000) × (from ≤ 900000) × (to ≤ 900000) ⌝ }
     ensures { λ _. ⌜ now (work .exit) ≡ copyWords n from to (now (work .entry)) ⌝ }
 {
@@ -79,6 +91,20 @@ fn copy_words(work: &mut [u64], n: usize, from: usize, to: usize)
         cache::put(work, to + i, word);
         i += 1;
     }
+}
+
+// Copies n words, from word `from` on, to those from word `to` on, one after the other.
+fn copy_words(work: &mut [u64], n: usize, from: usize, to: usize)
+    requires { ⌜ (n ≤ 300000) × (from ≤ 900000) × (to ≤ 900000) ⌝ }
+    ensures { λ _. ⌜ now (work .exit) ≡ copyWords n from to (now (work .entry)) ⌝ }
+{
+    if from + n <= work.len() {
+        if to + n <= work.len() {
+            copy_lent(work, n, from, to);
+            return;
+        }
+    }
+    copy_each(work, n, from, to);
 }
 
 // Copies a block to another.

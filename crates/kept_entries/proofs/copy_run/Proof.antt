@@ -5,7 +5,7 @@ use native.Mathlib.Nat.{sub-zero}
 use Prim.Native.Nat.{_-_}
 use lib.ListN.{length, length-set}
 use Rattle.cache.specs.Cache.{copyRun}
-use Rattle.kept_entries.proofs.Paths.{run-end, run-step}
+use Rattle.cache.proofs.Runs.{run-end, run-step}
 use Rattle.kept_entries.proofs.copy_run.Statement.{statement}
 use Rattle.kept_entries.proofs.copy_run.Tie as tie
 

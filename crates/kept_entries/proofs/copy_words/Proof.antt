@@ -4,7 +4,7 @@ use mathlib.Core.Path.{_∙_}
 use native.Mathlib.Omega.{arith}
 use native.Mathlib.Nat.{mod-lt}
 use Rattle.float64.proofs.Laws.{free}
-use Rattle.kept_entries.proofs.Paths.{one-run, two-runs}
+use Rattle.kept_entries.proofs.Paths.{in-one-run, in-two-runs}
 use Rattle.kept_entries.proofs.copy_words.Statement.{statement}
 use Rattle.kept_entries.proofs.copy_words.Tie as tie
 
@@ -45,7 +45,7 @@ returns : tie.Need-returns
 returns c =
     let numbered = c .before .before .before .before .before in
     let start = numbered .before .before .before .before .before in
-    one-run _ _ _ _ _ _ (start .pre .0) (numbered .before .before .entry-place .ensures .0) (numbered .before .read .ensures) (numbered .number .ensures) (c .before .before .before .before .if1 .taken) (c .before .before .copy-run .ensures)
+    in-one-run _ _ _ _ _ _ (start .pre .0) (numbered .before .before .entry-place .ensures .0) (numbered .before .read .ensures) (numbered .number .ensures) (c .before .before .before .before .if1 .taken) (c .before .before .copy-run .ensures)
 
 add-copy-run-2 : tie.Need-add-copy-run-2
 add-copy-run-2 c = let start = c .before .before .before .before .before .before in omega (arith, mod-lt (c .before .number .result) (start .pre .0))
@@ -77,7 +77,7 @@ returns-2 c =
     let test = first .before .before in
     let numbered = test .before in
     let start = numbered .before .before .before .before .before in
-    two-runs _ _ _ _ _ _ (start .pre .0) (numbered .before .before .entry-place .ensures .0) (numbered .before .read .ensures) (numbered .number .ensures) (start .pre .2) (test .if1 .left) (first .copy-run2 .ensures)
+    in-two-runs _ _ _ _ _ _ (start .pre .0) (numbered .before .before .entry-place .ensures .0) (numbered .before .read .ensures) (numbered .number .ensures) (start .pre .2) (test .if1 .left) (first .copy-run2 .ensures)
     (c .before .before .copy-run3 .ensures)
 
 pub copy-words-spec : {M : Type 1} → statement M

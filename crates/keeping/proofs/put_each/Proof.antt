@@ -1,4 +1,4 @@
--- `put_ring` meets its contract: each turn by its law. Assumes nothing.
+-- `put_each` meets its contract: each turn by its law. Assumes nothing.
 use borrow.Author.Needs.{needs}
 use mathlib.Core.Path.{refl, _∙_, _≡_}
 use native.Mathlib.Omega.{arith}
@@ -8,8 +8,8 @@ use lib.ListN.{length}
 use Rattle.float64.proofs.Laws.{free}
 use Rattle.keeping.proofs.Paths.{round, within, put-end, put-step}
 use Rattle.cache.specs.Cache.{putRing}
-use Rattle.keeping.proofs.put_ring.Statement.{statement}
-use Rattle.keeping.proofs.put_ring.Tie as tie
+use Rattle.keeping.proofs.put_each.Statement.{statement}
+use Rattle.keeping.proofs.put_each.Tie as tie
 
 abbrev Inv-loop : tie.InvT-loop
 Inv-loop words₀ base c start values from n at₀ i₀ words at i =
@@ -57,8 +57,8 @@ same-length c = c .before .loop .inv .2
 returns : tie.Need-returns Inv-loop μ-loop
 returns c = put-end _ _ _ _ _ _ _ _ (c .loop-test .left) ∙ c .before .loop .inv .0
 
-pub put-ring-spec : {M : Type 1} → statement M
-put-ring-spec =
+pub put-each-spec : {M : Type 1} → statement M
+put-each-spec =
     tie.close
     (tie.spec
     Inv-loop μ-loop rem-at loop-holds add-put add-read free free onward-requires add-i loop-less loop-again

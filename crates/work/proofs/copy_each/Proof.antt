@@ -1,4 +1,4 @@
--- `copy_words` meets its contract: each turn by its law. Assumes nothing.
+-- `copy_each` meets its contract: each turn by its law. Assumes nothing.
 use borrow.Author.Needs.{needs}
 use mathlib.Core.Path.{refl, _≡_, _∙_}
 use native.Mathlib.Nat.{sub-zero, add-zero}
@@ -7,8 +7,8 @@ use lib.ListN.{length}
 use Rattle.float64.proofs.Laws.{free}
 use Rattle.work.specs.Work.{copyWords}
 use Rattle.work.proofs.Paths.{copy-end, copy-step}
-use Rattle.work.proofs.copy_words.Statement.{statement}
-use Rattle.work.proofs.copy_words.Tie as tie
+use Rattle.work.proofs.copy_each.Statement.{statement}
+use Rattle.work.proofs.copy_each.Tie as tie
 
 abbrev Inv-loop : tie.InvT-loop
 Inv-loop work₀ n from to i₀ work i = (copyWords (n - i) (from + i) (to + i) work ≡ copyWords n from to work₀) × (length work ≡ length work₀)
@@ -44,8 +44,8 @@ same-length c = c .before .loop .inv .1
 returns : tie.Need-returns Inv-loop μ-loop
 returns c = copy-end _ _ _ _ _ (c .loop-test .left) ∙ c .before .loop .inv .0
 
-pub copy-words-spec : {M : Type 1} → statement M
-copy-words-spec =
+pub copy-each-spec : {M : Type 1} → statement M
+copy-each-spec =
     tie.close
     (tie.spec
     Inv-loop μ-loop loop-holds add-read free add-put free add-i loop-less loop-again same-length returns)
