@@ -5,7 +5,6 @@
 // requests is in `steps`.
 ghost use mathlib.Core.Path.{_≡_};
 ghost use Rattle.population.specs.Population.{rowsOf, warmOf, warmStored, worked, nextSubject, ended, atMode};
-use cache::CacheOrder;
 use matrix::Pair;
 use subjects::Closed;
 use subjects::Fit;
@@ -19,13 +18,6 @@ use subjects::Tally;
 pub enum Turned {
     On(Progress),
     Halt(Halted),
-}
-
-// A search that has got a reply, which is kept now.
-pub struct Received {
-    pub progress: Progress,
-    pub order: CacheOrder,
-    pub tally: Tally,
 }
 
 // ---- lent words
