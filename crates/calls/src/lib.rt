@@ -84,7 +84,17 @@ pub fn begin_objective(
         Admission::Accepted => {
             let start = session::start_of(parameters, warm, setup.effects, state.order);
             let hand = InHand::Nothing;
-            runs::run(setup, start, hand, tally, counts, cache, work, warm, results)
+            runs::run(
+                setup,
+                start,
+                hand,
+                tally,
+                counts,
+                cache,
+                work,
+                warm,
+                results,
+            )
         }
         Admission::Refused(number) => session::refused_as(state, tally, number, Place::Nowhere),
         Admission::Unsound(at) => session::refused_as(

@@ -54,7 +54,17 @@ fn follow(
                 order,
             };
             let hand = InHand::Evaluated(eta, sums);
-            runs::run(setup, next, hand, kept.tally, counts, cache, work, warm, results)
+            runs::run(
+                setup,
+                next,
+                hand,
+                kept.tally,
+                counts,
+                cache,
+                work,
+                warm,
+                results,
+            )
         }
         Evaluation::Refused(number) => {
             runs::ended_as(state, tally, number, Place::Subject(subject), work)
