@@ -32,39 +32,21 @@ fn follow(
 {
     let parameters = state.parameters;
     let progress = state.progress;
+    let order = state.order;
     let subject = progress.subject;
     match evaluation::finish(evaluation) {
         Evaluation::Running(sums) => {
             let fit = subjects::fit_of(setup, parameters);
-            let kept = answers::keep(
-                fit,
-                counts,
-                state.order,
-                subject,
-                tally,
-                eta,
-                sums,
-                cache,
-                work,
-            );
+            let kept = answers::keep(fit, counts, order, subject, tally, eta, sums, cache, work);
             let order = kept.order;
+            let tally = kept.tally;
             let next = State {
                 parameters,
                 progress,
                 order,
             };
             let hand = InHand::Evaluated(eta, sums);
-            runs::run(
-                setup,
-                next,
-                hand,
-                kept.tally,
-                counts,
-                cache,
-                work,
-                warm,
-                results,
-            )
+            runs::run(setup, next, hand, tally, counts, cache, work, warm, results)
         }
         Evaluation::Refused(number) => {
             runs::ended_as(state, tally, number, Place::Subject(subject), work)
