@@ -4,9 +4,6 @@
 ghost use mathlib.Core.Path.{_≡_};
 ghost use Rattle.population.specs.Kept.{cacheOf};
 ghost use Rattle.population.specs.Population.{rowsOf, worked};
-ghost use Rattle.subjects.specs.Subjects.{sumsOf};
-ghost use Rattle.cache.specs.Cache.{termsOf, copied};
-ghost use Rattle.work.specs.Work.{block};
 ghost use Rattle.kept_points.specs.Through.{keptPoint, recalled, taken1, taken2, reached1, reached2, throughFrom};
 use cache::CacheOrder;
 use cache::Found;

@@ -1,7 +1,7 @@
 -- A kept evaluation is a turn that goes on: so the loop from where a search has come to through kept evaluations is the loop from where it was. Assumes nothing.
 use mathlib.Core.Path.{_≡_, refl, sym, ap, subst, _∙_}
 use mathlib.Core.List.{List}
-use Prim.Native.Nat.{ℕ, zero, suc, _-_, _≤_}
+use Prim.Native.Nat.{ℕ, zero, suc, _≤_}
 use native.Mathlib.Numerals.{sub-one}
 use native.Mathlib.Omega.{arith}
 use lib.Dec.{eqb}
@@ -22,9 +22,9 @@ use Rattle.subjects.specs.declared.Step.{Step}
 use Rattle.subjects.specs.declared.Wanted.{Wanted}
 use Rattle.subjects.specs.declared.Wanted.the-variants as Wants
 use Rattle.population.specs.Kept.{recallAt, words}
-use Rattle.population.specs.Population.{rowsOf, Worked, worked, take, answered, atPoint, Ended, ended, servedBy, served, isOver, turned, Whole, moved, turn, spent, whole}
+use Rattle.population.specs.Population.{rowsOf, Worked, take, answered, atPoint, Ended, ended, servedBy, served, isOver, turned, Whole, moved, turn, spent, whole}
 use Rattle.population.specs.declared.Turned.the-variants.{On}
-use Rattle.kept_points.specs.Through.{keptAt, keptPoint, recalled, taken, reached, passed, through, throughFrom}
+use Rattle.kept_points.specs.Through.{keptAt, keptPoint, recalled, taken, passed, through, throughFrom}
 use Rattle.kept_points.specs.declared.InHand.{InHand}
 use Rattle.kept_points.specs.declared.InHand.the-variants as Hand
 use Rattle.kept_points.specs.declared.KeptPoint.{KeptPoint}

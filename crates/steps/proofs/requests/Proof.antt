@@ -41,8 +41,9 @@ requests-again : tie.Need-requests-again Inv-requests μ-requests
 requests-again c =
     let turned = c .before .before .before .before .before .before .before .before .before .before in
     let through = turned .before .before .before .before .before .before .before .before .before in
+    let d = through .before .before .before .before .before .before .before .before in
     let so-far = through .before .before .requests .inv in (
-      requests-on _ _ _ _ _ _ _ _ _ _ _ (through .through-kept .ensures) (turned .before .before .before .before .if1 .left) (turned .turn .ensures) (c .before .before .next .given .1) ∙ so-far .0,
+      requests-on _ _ _ _ _ (cacheOf (d .args .cache .now) (d .args .order)) _ _ _ _ _ (through .through-kept .ensures) (turned .before .before .before .before .if1 .left) (turned .turn .ensures) (c .before .before .next .given .1) ∙ so-far .0,
       turned .turn .kept .1 .1 .1 .1 .1 .0 ∙ through .through-kept .kept .1 .1 .1 .1 .1 .1 .1 .0 ∙ so-far .1,
       turned .turn .kept .1 .1 .1 .1 .1 .1 .0 ∙ so-far .2,
       turned .turn .kept .1 .1 .1 .1 .1 .1 .1 .0 ∙ so-far .3,
@@ -76,7 +77,8 @@ returns-2 : tie.Need-returns-2 Inv-requests μ-requests
 returns-2 c =
     let turned = c .before .before .before .before .before .before .before .before .before in
     let through = turned .before .before .before .before .before .before .before .before .before in
-    requests-halt _ _ _ _ _ _ _ _ _ _ _ (through .through-kept .ensures) (turned .before .before .before .before .if1 .left) (turned .turn .ensures) (c .before .halted .given .1) ∙ through .before .before .requests .inv .0
+    let d = through .before .before .before .before .before .before .before .before in
+    requests-halt _ _ _ _ _ (cacheOf (d .args .cache .now) (d .args .order)) _ _ _ _ _ (through .through-kept .ensures) (turned .before .before .before .before .if1 .left) (turned .turn .ensures) (c .before .halted .given .1) ∙ through .before .before .requests .inv .0
 
 pub requests-spec : {M : Type 1} → statement M
 requests-spec =
