@@ -1,2 +1,2 @@
--- Paths: the ways through the code, for its proofs.
+-- Paths: the way through the code, for its proofs.
 pub mod Paths

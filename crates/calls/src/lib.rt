@@ -9,6 +9,7 @@ use admission::Admission;
 use admission::Parameters;
 use admission::Setup;
 use evaluation::Check;
+use kept_points::InHand;
 use session::Begun;
 use session::Called;
 use session::Opening;
@@ -82,7 +83,18 @@ pub fn begin_objective(
     match call_checks::admit_objective(setup, parameters, progress, tally, check, lent, counts) {
         Admission::Accepted => {
             let start = session::start_of(parameters, warm, setup.effects, state.order);
-            runs::run(setup, start, tally, counts, cache, work, warm, results)
+            let hand = InHand::Nothing;
+            runs::run(
+                setup,
+                start,
+                hand,
+                tally,
+                counts,
+                cache,
+                work,
+                warm,
+                results,
+            )
         }
         Admission::Refused(number) => session::refused_as(state, tally, number, Place::Nowhere),
         Admission::Unsound(at) => session::refused_as(

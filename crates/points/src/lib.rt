@@ -24,7 +24,7 @@ use work::Sources;
 
 // ---- what the search wants
 
-fn settings(fit: Fit, progress: Progress) -> Settings
+pub fn settings(fit: Fit, progress: Progress) -> Settings
     ensures { λ r. ⌜ r ≡ settings fit progress ⌝ }
 {
     Settings {
@@ -35,7 +35,7 @@ fn settings(fit: Fit, progress: Progress) -> Settings
     }
 }
 
-fn settings_2d(fit: Fit, progress: Progress) -> Settings2
+pub fn settings_2d(fit: Fit, progress: Progress) -> Settings2
     ensures { λ r. ⌜ r ≡ settings2 fit progress ⌝ }
 {
     let warm = progress.warm;
@@ -49,7 +49,7 @@ fn settings_2d(fit: Fit, progress: Progress) -> Settings2
     }
 }
 
-fn wanted_1d(settings: Settings, search: Search) -> Wanted
+pub fn wanted_1d(settings: Settings, search: Search) -> Wanted
     ensures { λ r. ⌜ r ≡ wanted1 settings search ⌝ }
 {
     match search.request(settings) {
@@ -62,7 +62,7 @@ fn wanted_1d(settings: Settings, search: Search) -> Wanted
     }
 }
 
-fn wanted_2d(settings: Settings2, search: Search2) -> Wanted
+pub fn wanted_2d(settings: Settings2, search: Search2) -> Wanted
     ensures { λ r. ⌜ r ≡ wanted2 settings search ⌝ }
 {
     match search.request(settings) {
@@ -86,7 +86,7 @@ pub fn wanted_by(fit: Fit, progress: Progress) -> Wanted
 // ---- an evaluated point
 
 // The prior's eta / omega is added here, and never kept.
-fn conditional(fit: Fit, eta: Pair, sums: Sums) -> Conditional
+pub fn conditional(fit: Fit, eta: Pair, sums: Sums) -> Conditional
     ensures { λ r. ⌜ r ≡ conditional1 fit eta sums ⌝ }
 {
     Conditional {
@@ -97,7 +97,7 @@ fn conditional(fit: Fit, eta: Pair, sums: Sums) -> Conditional
     }
 }
 
-fn conditional_2d(eta: Pair, sums: Sums) -> Conditional2
+pub fn conditional_2d(eta: Pair, sums: Sums) -> Conditional2
     ensures { λ r. ⌜ r ≡ conditional2 eta sums ⌝ }
 {
     let score = sums.score;
@@ -155,7 +155,7 @@ fn bracket_sources(search: Search, c: Conditional) -> Sources
     }
 }
 
-fn sources(search: Search, c: Conditional) -> Sources
+pub fn sources(search: Search, c: Conditional) -> Sources
     ensures { λ r. ⌜ r ≡ sources1 search c ⌝ }
 {
     let stage = search.stage;
@@ -212,7 +212,7 @@ fn population_source(search: Search2) -> usize
     }
 }
 
-fn sources_2d(settings: Settings2, search: Search2, after: Search2, c: Conditional2) -> Sources
+pub fn sources_2d(settings: Settings2, search: Search2, after: Search2, c: Conditional2) -> Sources
     ensures { λ r. ⌜ r ≡ sources2 settings search after c ⌝ }
 {
     let latest = current_source(settings, search, c);
@@ -223,7 +223,7 @@ fn sources_2d(settings: Settings2, search: Search2, after: Search2, c: Condition
     }
 }
 
-fn with_search(progress: Progress, search: Search, search_2d: Search2) -> Progress
+pub fn with_search(progress: Progress, search: Search, search_2d: Search2) -> Progress
     ensures { λ r. ⌜ r ≡ withSearch progress search «search_2d» ⌝ }
 {
     let individual = progress.individual;

@@ -29,7 +29,6 @@ use Rattle.cache.specs.Cache.{Cache}
 use Rattle.population.specs.Kept.{Recalled, Store, words}
 use Rattle.population.specs.declared.Turned.{Turned}
 use Rattle.population.specs.declared.Turned.the-variants.{On, Halt}
-use Rattle.population.specs.declared.Received.{Received}
 
 -- ---- lent words
 
@@ -190,6 +189,3 @@ receive S fit counts progress tally eta sums kept work =
     let after = S .keep kept (fit .k) (B.keyOf fit (progress .subject) eta) (B.termsOf sums) rows work (block rows 3) in
     let t = take fit rows progress eta sums work in
     record { progress = t .value; tally = record { calls = tally .calls; «cached_rows» = record { 0 = S .rows after } }; kept = after; work = t .work }
-
-abbrev pub received : Received → List ℕ → List ℕ → Receipt words
-received r cache work = record { progress = r .progress; tally = r .tally; kept = record { words = cache; order = r .order }; work = work }

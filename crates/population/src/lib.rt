@@ -1,11 +1,10 @@
 // The population objective, `population` of population_focei.rs and population_focei_2d.rs, as a machine
 // over lent words: subject after subject, a search asks for points, kept evaluations or replies answer
 // it, and its mode is added to the objective. Here are the types and definitions, the observations and
-// warm starts in lent words, and what is done with a mode; points are in `answers`, and the loop over the
-// requests is in `steps`.
+// warm starts in lent words, and what is done with a mode; kept evaluations are in `kept_points`, replies
+// in `answers`, and the loop over the requests is in `steps`.
 ghost use mathlib.Core.Path.{_≡_};
 ghost use Rattle.population.specs.Population.{rowsOf, warmOf, warmStored, worked, nextSubject, ended, atMode};
-use cache::CacheOrder;
 use matrix::Pair;
 use subjects::Closed;
 use subjects::Fit;
@@ -19,13 +18,6 @@ use subjects::Tally;
 pub enum Turned {
     On(Progress),
     Halt(Halted),
-}
-
-// A search that has got a reply, which is kept now.
-pub struct Received {
-    pub progress: Progress,
-    pub order: CacheOrder,
-    pub tally: Tally,
 }
 
 // ---- lent words

@@ -2,13 +2,12 @@
 // The first part, which lets the reply in, is `call_checks::admit_reply`; between the two a loop adds the
 // observations to the evaluation.
 ghost use mathlib.Core.Path.{_≡_};
-ghost use Rattle.session.specs.Calls.{called, heldOf, receivedState, followed, finishReply};
+ghost use Rattle.session.specs.Calls.{called, heldOf, followed, finishReply};
 use admission::Admission;
-use admission::Parameters;
 use admission::Setup;
 use evaluation::Evaluation;
+use kept_points::InHand;
 use matrix::Pair;
-use population::Received;
 use session::Admitted;
 use session::Called;
 use session::State;
@@ -33,23 +32,21 @@ fn follow(
 {
     let parameters = state.parameters;
     let progress = state.progress;
+    let order = state.order;
     let subject = progress.subject;
     match evaluation::finish(evaluation) {
         Evaluation::Running(sums) => {
             let fit = subjects::fit_of(setup, parameters);
-            let kept = answers::receive(
-                fit,
-                counts,
-                state.order,
+            let kept = answers::keep(fit, counts, order, subject, tally, eta, sums, cache, work);
+            let order = kept.order;
+            let tally = kept.tally;
+            let next = State {
+                parameters,
                 progress,
-                tally,
-                eta,
-                sums,
-                cache,
-                work,
-            );
-            let next = received_state(parameters, kept);
-            runs::run(setup, next, kept.tally, counts, cache, work, warm, results)
+                order,
+            };
+            let hand = InHand::Evaluated(eta, sums);
+            runs::run(setup, next, hand, tally, counts, cache, work, warm, results)
         }
         Evaluation::Refused(number) => {
             runs::ended_as(state, tally, number, Place::Subject(subject), work)
@@ -58,18 +55,6 @@ fn follow(
             let place = Place::Observation(subject, observation);
             runs::ended_as(state, tally, number, place, work)
         }
-    }
-}
-
-fn received_state(parameters: Parameters, received: Received) -> State
-    ensures { λ r. ⌜ r ≡ receivedState parameters received ⌝ }
-{
-    let progress = received.progress;
-    let order = received.order;
-    State {
-        parameters,
-        progress,
-        order,
     }
 }
 

@@ -19,7 +19,7 @@ use Rattle.admission.specs.declared.Admission.the-variants as A
 use Rattle.admission.specs.declared.Lent.{Lent}
 use Rattle.admission.specs.declared.Parameters.{Parameters}
 use Rattle.admission.specs.declared.Setup.{Setup}
-use Rattle.subjects.specs.Subjects.{fitOf, wantedBy, refusedBy}
+use Rattle.subjects.specs.Subjects.{fitOf, wantedBy, refusedBy, idle, withSearch, beginSubject}
 use Rattle.subjects.specs.declared.Fit.{Fit}
 use Rattle.subjects.specs.declared.Halted.{Halted}
 use Rattle.subjects.specs.declared.Place.{Place}
@@ -32,9 +32,13 @@ use Rattle.subjects.specs.declared.Wanted.{Wanted}
 use Rattle.subjects.specs.declared.Wanted.the-variants as Wants
 use Rattle.sessions.specs.Machine.{Moved, on, halt, Ran, ran, onward, loop}
 use Rattle.population.specs.Kept.{words, cacheOf}
-use Rattle.population.specs.Population.{Whole, Receipt, wholeOf, turn, spent, receive, received}
-use Rattle.population.specs.declared.Received.{Received}
-use Rattle.session.specs.Calls.{heldOf, called, run, entered, lentBy, refusedAs, endedAs, firstState, Setting, begunWith, opening, openedBy, startOf, admitObjective, unawaited, awaitedAt, admitAwaited, receivedState, followed, finishReply}
+use Rattle.population.specs.Population.{Whole, turn, spent, receive}
+use Rattle.answers.specs.Answers.{KeptWith, keptWith, keep}
+use Rattle.answers.specs.declared.Kept.{Kept}
+use Rattle.kept_points.specs.Through.{taken}
+use Rattle.kept_points.specs.declared.InHand.the-variants as Hand
+use Rattle.steps.specs.Steps.{wholeFrom}
+use Rattle.session.specs.Calls.{heldOf, called, run, entered, lentBy, refusedAs, endedAs, firstState, Setting, begunWith, opening, openedBy, startOf, admitObjective, unawaited, awaitedAt, admitAwaited, followed, finishReply}
 use Rattle.session.specs.Session.{Held, held, noTally, isStanding, lentOf, whenAdmitted, begun, admitted, enterObjective, atWanted, whenAwaited, enterFailure, over, replied, unaltered, heldBy, turnHeld}
 use Rattle.session.specs.declared.Awaited.{Awaited}
 use Rattle.session.specs.declared.Begun.{Begun}
@@ -58,10 +62,11 @@ module _ (setup : Setup) (counts : List ℕ) (parameters : Parameters) where
   held-loop zero w = refl
   held-loop (suc n) w = onward-held (turn words (fitOf setup parameters) counts w) _ _ (held-loop n)
 
-  pub ran-held : (n : ℕ) (w : Whole words) {fit : Fit} {r : Ran (Whole words) Step} → fit ≡ fitOf setup parameters → r ≡ loop (turn words fit counts) spent n w
-      → ran (r .answer) (held words parameters (r .state)) ≡ loop (turnHeld words setup counts) spent n (held words parameters w)
+  -- w is where the step begins, by what the searches share
+  pub ran-held : (n : ℕ) (w : Fit → Whole words) {fit : Fit} {r : Ran (Whole words) Step} → fit ≡ fitOf setup parameters → r ≡ loop (turn words fit counts) spent n (w fit)
+      → ran (r .answer) (held words parameters (r .state)) ≡ loop (turnHeld words setup counts) spent n (held words parameters (w (fitOf setup parameters)))
   unfolding heldRan
-  ran-held n w {fit} {r} e q = ap heldRan (q ∙ ap (λ (x : Fit). loop (turn words x counts) spent n w) e) ∙ sym (held-loop n w)
+  ran-held n w {fit} {r} e q = ap heldRan (q ∙ ap (λ (x : Fit). loop (turn words x counts) spent n (w x)) e) ∙ sym (held-loop n (w (fitOf setup parameters)))
 
 -- ---- a refusal that ends the objective; h is what `refused` answered
 pub ended-made : (state : State) (tally : Tally) (number : ℕ) (place : Place) {h : Halted} → h ≡ refusedBy (state .progress) tally number place
@@ -141,11 +146,13 @@ module _ (setup : Setup) (counts : List ℕ) (n : ℕ) (check : Check) (paramete
   objective-enters el ea =
       enters ∙ ap (whenAdmitted words setup counts h (on (begun words setup counts parameters (h .whole)))) (sym (ea ∙ ap (λ (l : Lent). admitObjective setup counts l check parameters (state .progress) tally) el))
 
-  -- the start, as the code makes it
-  pub objective-starts : {s : State} {z : Ran (Held words) Step} → s ≡ startOf parameters warm (setup .effects) (state .order) → z ≡ run setup counts (heldOf s tally cache work warm results)
+  -- the start, as the code makes it, with nothing in hand
+  pub objective-starts : {s : State} {z : Ran (Held words) Step} → s ≡ startOf parameters warm (setup .effects) (state .order)
+      → z ≡ run setup counts (held words (s .parameters) (wholeFrom (fitOf setup (s .parameters)) counts Hand.Nothing (s .progress) tally (cacheOf cache (s .order)) work warm results))
       → z ≡ entered setup counts (on (begun words setup counts parameters (h .whole)))
-  unfolding begun startOf onward
-  objective-starts es q = q ∙ ap (λ (x : State). run setup counts (heldOf x tally cache work warm results)) es
+  unfolding begun startOf onward taken idle withSearch beginSubject
+  objective-starts es q =
+      q ∙ ap (λ (x : State). run setup counts (held words (x .parameters) (wholeFrom (fitOf setup (x .parameters)) counts Hand.Nothing (x .progress) tally (cacheOf cache (x .order)) work warm results))) es
 
 -- ---- a reply or a failure is let in; go is what it does with the point that was asked for
 module _ (setup : Setup) (counts : List ℕ) (n : ℕ) (check : Check) (state : State) (tally : Tally) (cache work warm results : List ℕ) (go : Pair → Moved (Held words) Step) where
@@ -203,14 +210,16 @@ module _ (setup : Setup) (counts : List ℕ) (eta : Pair) (e : Evaluation) (stat
   unfolding followed
   follows-by t q = q ∙ ap (λ (y : Evaluation). entered setup counts (replied words setup counts (fitOf setup (state .parameters)) eta here work y)) (sym t ∙ ex)
 
-  -- c and w are the words with the reply that is kept
-  pub follows-sums : {sums : Sums} {fit : Fit} {r : Received} {c w : List ℕ} {s : State} {z : Ran (Held words) Step} → x ≡ E.Running sums → fit ≡ fitOf setup (state .parameters)
-      → received r c w ≡ receive words fit counts (state .progress) tally eta sums (cacheOf cache (state .order)) work → s ≡ receivedState (state .parameters) r → z ≡ run setup counts (heldOf s (r .tally) c w warm results) → Follows z
-  unfolding replied onward
-  follows-sums {sums} {fit} {r} {c} {w} t ef er es q =
+  -- k and c are the kept evaluations with the reply, which is in hand then
+  pub follows-sums : {sums : Sums} {fit : Fit} (k : Kept) {c : List ℕ} {z : Ran (Held words) Step} → x ≡ E.Running sums → fit ≡ fitOf setup (state .parameters)
+      → keptWith k c ≡ keep fit counts (state .progress .subject) tally eta sums (cacheOf cache (state .order)) work
+      → z ≡ run setup counts (held words (state .parameters) (wholeFrom (fitOf setup (state .parameters)) counts (Hand.Evaluated eta sums) (state .progress) (k .tally) (cacheOf c (k .order)) work warm results))
+      → Follows z
+  unfolding replied onward receive keep taken
+  follows-sums {sums} k t ef ek q =
       follows-by t
-      (q ∙ ap (λ (y : State). run setup counts (heldOf y (r .tally) c w warm results)) es
-      ∙ ap (λ (y : Receipt words). run setup counts (held words (state .parameters) (wholeOf words (y .progress) (y .tally) (y .kept) (y .work) warm results))) (er ∙ ap (λ (f : Fit). receive words f counts (state .progress) tally eta sums (cacheOf cache (state .order)) work) ef))
+      (q
+      ∙ ap (λ (y : KeptWith). run setup counts (held words (state .parameters) (wholeFrom (fitOf setup (state .parameters)) counts (Hand.Evaluated eta sums) (state .progress) (y .tally) (y .kept) work warm results))) (ek ∙ ap (λ (f : Fit). keep f counts (state .progress .subject) tally eta sums (cacheOf cache (state .order)) work) ef))
 
   pub follows-refusal : {number : ℕ} {r : Called} {w : List ℕ} → x ≡ E.Refused number → (r ≡ endedAs state tally number (At.Subject (state .progress .subject))) × (w ≡ zeros (length work)) → Follows (called r cache w warm results)
   unfolding replied

@@ -3,8 +3,13 @@
 ghost use mathlib.Core.Path.{_≡_};
 ghost use lib.ListN.{length};
 ghost use Rattle.work.specs.Work.{zeros};
-ghost use Rattle.session.specs.Calls.{called, heldOf, run, endedAs};
+ghost use Rattle.subjects.specs.Subjects.{fitOf};
+ghost use Rattle.population.specs.Kept.{cacheOf, words};
+ghost use Rattle.steps.specs.Steps.{wholeFrom};
+ghost use Rattle.session.specs.Session.{held};
+ghost use Rattle.session.specs.Calls.{called, run, endedAs};
 use admission::Setup;
+use kept_points::InHand;
 use session::Called;
 use session::State;
 use subjects::Place;
@@ -13,10 +18,11 @@ use subjects::Tally;
 // The requests that a call may make: 4,096 subjects, each with a search of at most 6,343 points and its end.
 pub const FUEL: usize = 25985024;
 
-// From where it stands, until there is a question or an end.
+// From where it stands, with what is in hand, until there is a question or an end.
 pub fn run(
     setup: Setup,
     state: State,
+    hand: InHand,
     tally: Tally,
     counts: &[u64],
     cache: &[u64],
@@ -24,7 +30,7 @@ pub fn run(
     warm: &mut [u64],
     results: &mut [u64],
 ) -> Called
-    ensures { λ r. ⌜ called r (now (cache .entry)) (now (work .exit)) (now (warm .exit)) (now (results .exit)) ≡ run setup (now (counts .entry)) (heldOf state tally (now (cache .entry)) (now (work .entry)) (now (warm .entry)) (now (results .entry))) ⌝ }
+    ensures { λ r. ⌜ called r (now (cache .entry)) (now (work .exit)) (now (warm .exit)) (now (results .exit)) ≡ run setup (now (counts .entry)) (held words (state .parameters) (wholeFrom (fitOf setup (state .parameters)) (now (counts .entry)) hand (state .progress) tally (cacheOf (now (cache .entry)) (state .order)) (now (work .entry)) (now (warm .entry)) (now (results .entry)))) ⌝ }
 {
     let parameters = state.parameters;
     let progress = state.progress;
@@ -35,6 +41,7 @@ pub fn run(
         counts,
         order,
         progress,
+        hand,
         tally,
         FUEL,
         cache,

@@ -34,7 +34,6 @@ use Rattle.subjects.specs.declared.Wanted.the-variants as Wants
 use Rattle.sessions.specs.Machine.{Moved, Ran, ran, onward, loop}
 use Rattle.population.specs.Kept.{cacheOf, words}
 use Rattle.population.specs.Population.{rowsOf, warmOf, wholeOf, spent}
-use Rattle.population.specs.declared.Received.{Received}
 use Rattle.session.specs.Session.{Held, held, fuel, isStanding, whenAdmitted, opened, replied, turnHeld}
 use Rattle.session.specs.declared.State.{State}
 use Rattle.session.specs.declared.Called.{Called}
@@ -168,10 +167,6 @@ unfoldable pub admitReply : Setup → List ℕ → Lent → Check → State → 
 admitReply setup counts lent check state tally reply =
     let awaited = admitAwaited setup counts lent check state tally in
     admittedBy setup counts (lent .observations) state reply awaited (awaited .admission)
-
--- the state with a reply that is kept now
-abbrev pub receivedState : Parameters → Received → State
-receivedState parameters r = record { parameters = parameters; progress = r .progress; order = r .order }
 
 -- the end of the evaluation at eta, with the work words that it has written, and then the loop
 unfoldable pub followed : Setup → List ℕ → Pair → Evaluation → Held words → Ran (Held words) Step

@@ -3,8 +3,10 @@
 ghost use mathlib.Core.Path.{_≡_};
 ghost use Rattle.sessions.specs.Machine.{loop};
 ghost use Rattle.population.specs.Kept.{cacheOf, words};
-ghost use Rattle.population.specs.Population.{ended, served, isOver, turned, spent, whole, ran, turn};
+ghost use Rattle.population.specs.Population.{ended, isOver, spent, ran, turn};
+ghost use Rattle.steps.specs.Steps.{wholeFrom, unkept, cleared};
 use cache::CacheOrder;
+use kept_points::InHand;
 use population::Turned;
 use subjects::Fit;
 use subjects::Halted;
@@ -14,31 +16,21 @@ use subjects::Step;
 use subjects::Tally;
 use subjects::Wanted;
 
-// One request of the search.
+// A request that no kept evaluation answers.
 fn served(
     fit: Fit,
     counts: &[u64],
-    order: CacheOrder,
     progress: Progress,
     tally: Tally,
-    cache: &[u64],
+    wanted: Wanted,
     work: &mut [u64],
     warm: &mut [u64],
     results: &mut [u64],
 ) -> Turned
-    ensures { λ r. ⌜ ended r (now (work .exit)) (now (warm .exit)) (now (results .exit)) ≡ served words fit (now (counts .entry)) progress tally (cacheOf (now (cache .entry)) order) (now (work .entry)) (now (warm .entry)) (now (results .entry)) ⌝ }
+    ensures { λ r. ⌜ ended r (now (work .exit)) (now (warm .exit)) (now (results .exit)) ≡ unkept fit (now (counts .entry)) progress tally (now (work .entry)) (now (warm .entry)) (now (results .entry)) wanted ⌝ }
 {
-    match points::wanted_by(fit, progress) {
-        Wanted::Point(eta) => answers::at_point(
-            fit,
-            counts,
-            order,
-            progress,
-            tally,
-            eta,
-            cache,
-            work,
-        ),
+    match wanted {
+        Wanted::Point(eta) => Turned::Halt(questions::ask(fit, progress, tally, eta)),
         Wanted::Mode => population::at_mode(fit, counts, progress, tally, work, warm, results),
         Wanted::Refused(number) => {
             let place = Place::Subject(progress.subject);
@@ -59,44 +51,35 @@ fn is_over(turned: Turned) -> bool
     }
 }
 
-// A request; where it ends the objective the work words are cleared.
+// Such a request; where it ends the objective the work words are cleared.
 fn turn(
     fit: Fit,
     counts: &[u64],
-    order: CacheOrder,
     progress: Progress,
     tally: Tally,
-    cache: &[u64],
+    wanted: Wanted,
     work: &mut [u64],
     warm: &mut [u64],
     results: &mut [u64],
 ) -> Turned
-    ensures { λ r. ⌜ ended r (now (work .exit)) (now (warm .exit)) (now (results .exit)) ≡ turned words fit (now (counts .entry)) progress tally (cacheOf (now (cache .entry)) order) (now (work .entry)) (now (warm .entry)) (now (results .entry)) ⌝ }
+    ensures { λ r. ⌜ ended r (now (work .exit)) (now (warm .exit)) (now (results .exit)) ≡ cleared (unkept fit (now (counts .entry)) progress tally (now (work .entry)) (now (warm .entry)) (now (results .entry)) wanted) ⌝ }
 {
-    let turned = served(
-        fit,
-        counts,
-        order,
-        progress,
-        tally,
-        cache,
-        work,
-        warm,
-        results,
-    );
+    let turned = served(fit, counts, progress, tally, wanted, work, warm, results);
     if is_over(turned) {
         work::clear(work);
     }
     turned
 }
 
-// The loop over the remaining requests, at most `fuel` of them: through kept evaluations and modes, until
-// there is a question or an end. Fuel is more than a session's objective can need.
+// The loop over the remaining requests, at most `fuel` of them: with what is in hand, through kept
+// evaluations and modes, until there is a question or an end. Fuel is more than a session's objective can
+// need. A turn of this loop is a request that no kept evaluation answers.
 pub fn requests(
     fit: Fit,
     counts: &[u64],
     order: CacheOrder,
     start: Progress,
+    hand: InHand,
     tally: Tally,
     fuel: usize,
     cache: &[u64],
@@ -104,22 +87,27 @@ pub fn requests(
     warm: &mut [u64],
     results: &mut [u64],
 ) -> Halted
-    ensures { λ r. ⌜ ran r (cacheOf (now (cache .entry)) order) (now (work .exit)) (now (warm .exit)) (now (results .exit)) ≡ loop (turn words fit (now (counts .entry))) spent fuel (whole start tally (cacheOf (now (cache .entry)) order) (now (work .entry)) (now (warm .entry)) (now (results .entry))) ⌝ }
+    ensures { λ r. ⌜ ran r (cacheOf (now (cache .entry)) order) (now (work .exit)) (now (warm .exit)) (now (results .exit)) ≡ loop (turn words fit (now (counts .entry))) spent fuel (wholeFrom fit (now (counts .entry)) hand start tally (cacheOf (now (cache .entry)) order) (now (work .entry)) (now (warm .entry)) (now (results .entry))) ⌝ }
 {
     let mut here = start;
+    let mut given = hand;
     let mut left = fuel;
     'requests: loop {
-        if left == 0 {
+        let reached = kept_points::through_kept(fit, counts, order, here, given, left, cache, work);
+        let progress = reached.progress;
+        let wanted = reached.wanted;
+        if reached.left == 0 {
             break 'requests Halted {
-                progress: here,
+                progress,
                 tally,
                 step: Step::Refused(19, Place::Nowhere),
             };
         }
-        left -= 1;
-        match turn(fit, counts, order, here, tally, cache, work, warm, results) {
+        match turn(fit, counts, progress, tally, wanted, work, warm, results) {
             Turned::On(next) => {
                 here = next;
+                given = InHand::Nothing;
+                left = reached.left - 1;
             }
             Turned::Halt(halted) => {
                 break 'requests halted;

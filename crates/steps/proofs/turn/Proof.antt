@@ -15,9 +15,7 @@ same-length-3 : tie.Need-same-length-3
 same-length-3 c = search needs
 
 returns : tie.Need-returns
-returns c =
-    let test = c .before .before .before .before in
-    turn-over _ _ _ _ _ _ _ _ (test .before .before .before .before .before .before .before .before .served .ensures) (test .before .is-over .ensures) (test .if1 .taken) (c .before .before .clear .ensures)
+returns c = turn-over _ (c .before .before .before .before .before .before .before .before .before .before .before .before .served .ensures) (c .before .before .before .before .before .is-over .ensures) (c .before .before .before .before .if1 .taken) (c .before .before .clear .ensures)
 
 same-length-4 : tie.Need-same-length-4
 same-length-4 c = search needs
@@ -29,7 +27,7 @@ same-length-6 : tie.Need-same-length-6
 same-length-6 c = search needs
 
 returns-2 : tie.Need-returns-2
-returns-2 c = turn-on _ _ _ _ _ _ _ _ (c .before .before .before .before .before .before .before .before .served .ensures) (c .before .is-over .ensures) (c .if1 .left)
+returns-2 c = turn-on _ (c .before .before .before .before .before .before .before .before .served .ensures) (c .before .is-over .ensures) (c .if1 .left)
 
 pub turn-spec : {M : Type 1} → statement M
 turn-spec =

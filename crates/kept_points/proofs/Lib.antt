@@ -1,0 +1,2 @@
+-- Paths: the ways through the code, for its proofs.
+pub mod Paths
