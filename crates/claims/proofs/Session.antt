@@ -87,7 +87,7 @@ module _ (S : Store) (setup : Setup) (counts : List ℕ) (observations : List Ob
   unfolding setWarm
   sets-tally warm h = both (λ (x : Held S). x .whole .tally .calls .0 ≡ h .whole .tally .calls .0) _ refl refl
 
-  lawful : Lawful (I .rules) (I .claims) M (view S setup counts observations I) Stands
+  pub lawful : Lawful (I .rules) (I .claims) M (view S setup counts observations I) Stands
   lawful = record {
     turns = λ h s l. turns S setup counts observations I Q U bound (a .most) h s;
     enters = λ c h s. enters S setup counts observations I Q U bound (omega (arith, limit)) (a .some) rows-are c h s;
