@@ -43,7 +43,7 @@ use Rattle.session.specs.Session as N
 use Rattle.session.specs.Session.{Held, Call, objective, reply, failure, session}
 use Rattle.claims.specs.Inner.{Inner, inner1, inner2, pointWanted, view}
 use Rattle.claims.specs.LetIn.{admission, wantedPoint, Ruled, LetIn, EveryCall}
-use Rattle.claims.proofs.Accepted.{Accepts, accepts}
+use Rattle.claims.proofs.Accepted.{Accepts, rows-within, accepts}
 use Rattle.claims.proofs.Always.{Says, after-turn, after-entry, after-both, run-keeps}
 use Rattle.claims.proofs.Entries.{enters}
 use Rattle.claims.proofs.Fitting.{Fits}
@@ -117,15 +117,12 @@ module _ (setup : Setup) (counts : List ℕ) (observations : List Observation) (
   abbrev Goes : Held words → Type 0
   Goes = Going setup counts observations lent (a .some) (a .most)
 
-  rows-are : (i : ℕ) → i < length counts → (1 ≤ rowsOf counts i) × (rowsOf counts i ≤ 100000)
-  rows-are i l = let e = a .each i l in (e .0, let f = e .1 in omega (arith, f, a .small))
-
   -- ---- a whole session
   both-hold : (acts : List (Act M)) → Stands (run M (N.opened words setup counts lent results) acts) × Goes (run M (N.opened words setup counts lent results) acts)
   both-hold acts =
       run-keeps M (λ (h : Held words). Stands h × Goes h)
       (λ h p. after-both Stands Goes _ (after-turn (I .rules) (I .claims) M Y Stands h (turns words setup counts observations I Q U bound (a .most) h (p .0))) (turns-going setup counts observations lent (a .some) (a .most) h (p .1)))
-      (λ c h p. after-both Stands Goes _ (after-entry (I .rules) (I .claims) M Y Stands c h (p .0) (enters words setup counts observations I Q U bound (omega (arith, limit)) (a .some) rows-are c h (p .0)))
+      (λ c h p. after-both Stands Goes _ (after-entry (I .rules) (I .claims) M Y Stands c h (p .0) (enters words setup counts observations I Q U bound (omega (arith, limit)) (a .some) (rows-within a) c h (p .0)))
       (enters-going setup counts observations lent (a .some) (a .most) h (p .1) c))
       (λ warm h p. (sets words setup counts observations I Q U bound limit lent results a warm h (p .0), sets-going setup counts observations lent (a .some) (a .most) h (p .1) warm))
       acts (N.opened words setup counts lent results)
@@ -201,7 +198,7 @@ module _ (setup : Setup) (counts : List ℕ) (observations : List Observation) (
         ended = N.evaluated words setup counts observations fit said (h .whole .progress) (h .whole .work)
 
         few : length os < 2 ^ 64
-        few = let l = rows-are (h .whole .progress .subject) (g .place .subject) .1 in omega (arith, l, length-take rows (drop (h .whole .progress .first) observations))
+        few = let l = rows-within a (h .whole .progress .subject) (g .place .subject) .1 in omega (arith, l, length-take rows (drop (h .whole .progress .first) observations))
 
         numbers : Evaluates (N.trialOf words setup counts fit (h .whole .progress)) (setup .«output_budget») said os (h .whole .work)
         numbers = evaluates _ (setup .«output_budget») said os (h .whole .work) few
