@@ -76,6 +76,9 @@ pub record Accepts (setup : Setup) (counts : List ℕ) (lent : Lent) : Type 0 wh
   pub work-lent : 12 * largest ≤ lent .work
   pub cache-lent : 24 * setup .k ≤ lent .cache
 
+pub rows-within : {setup : Setup} {counts : List ℕ} {lent : Lent} → Accepts setup counts lent → (i : ℕ) → i < length counts → (1 ≤ rowsOf counts i) × (rowsOf counts i ≤ 100000)
+rows-within a i l = let e = a .each i l in (e .0, let f = e .1 in omega (arith, f, a .small))
+
 module _ (setup : Setup) (counts : List ℕ) (lent : Lent) (check : Check) where
   rows-are : (l : ℕ) → l ≤ 100000 → (i : ℕ) → (1 ≤ getD counts i 0) × (getD counts i 0 ≤ l) → (1 ≤ rowsOf counts i) × (rowsOf counts i ≤ l)
   unfolding rowsOf

@@ -14,6 +14,11 @@ unfoldable pub After : {State Answer : Type 0} → (State → Type 0) → Moved 
 After P (on s) = P s
 After P (halt a s) = P s
 
+-- what it answers, where it halts
+unfoldable pub Says : {State Answer : Type 0} → (Answer → Type 0) → Moved State Answer → Type 0
+Says G (on s) = Unit
+Says G (halt a s) = G a
+
 pub after-both : {State Answer : Type 0} (P Q : State → Type 0) (m : Moved State Answer) → After P m → After Q m → After (λ (s : State). P s × Q s) m
 unfolding After
 after-both P Q (on s) p q = (p, q)

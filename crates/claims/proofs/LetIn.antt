@@ -2,17 +2,22 @@
 use mathlib.Core.Path.{_≡_, refl, sym, ap, subst, _∙_}
 use mathlib.Core.Bool.{Bool, true, false}
 use mathlib.Core.List.{List}
-use mathlib.Core.Logic.{_⊎_, ⊎-elim}
-use Prim.Native.Nat.{ℕ, _+_, _≤_, _<_}
+use mathlib.Core.Logic.{_⊎_, inl, inr, ⊎-elim}
+use Prim.Native.Nat.{ℕ, _+_, _^_, _≤_, _<_}
 use native.Mathlib.Omega.{arith}
 use borrow.Author.Tests.{lt-ltb, le-ltb}
 use lib.Dec.{eqb}
-use lib.ListN.{length}
+use lib.ListN.{length, take, drop, length-take}
 use Rattle.float64.specs.Pick.{both, cases, pick-yes, pick-no}
 use Rattle.matrix.specs.declared.Pair.{Pair}
 use Rattle.likelihood.specs.declared.population_focei.Observation.{Observation}
+use Rattle.evaluation.specs.Claim.{Evaluates}
+use Rattle.evaluation.specs.Subject.{Evaluating, finish}
 use Rattle.evaluation.specs.declared.Check.{Check}
 use Rattle.evaluation.specs.declared.Check.the-variants.{Sound, Unsound}
+use Rattle.evaluation.specs.declared.Evaluation.{Evaluation}
+use Rattle.evaluation.specs.declared.Evaluation.the-variants as E
+use Rattle.evaluation.proofs.Ends.{evaluates}
 use Rattle.cache.specs.Claim.{Room}
 use Rattle.admission.specs.Admission.{isNoOmega, isNoShape, isCohort, admitted, checksOf, checks, countObservations, roomy, isShort, withParameters}
 use Rattle.admission.specs.declared.Setup.{Setup}
@@ -24,29 +29,55 @@ use Rattle.admission.specs.declared.Admission.{Admission}
 use Rattle.admission.specs.declared.Admission.the-variants as A
 use Rattle.admission.proofs.Bounds.{not-first, shape-low}
 use Rattle.subjects.specs.Subjects as B
+use Rattle.subjects.specs.declared.Fit.{Fit}
+use Rattle.subjects.specs.declared.Place.{Place}
 use Rattle.subjects.specs.declared.Step.{Step}
+use Rattle.subjects.specs.declared.Step.the-variants as Answers
 use Rattle.subjects.specs.declared.Wanted.{Wanted}
 use Rattle.subjects.specs.declared.Wanted.the-variants as Wants
-use Rattle.sessions.specs.Machine.{Moved, Machine, Act, run}
+use Rattle.sessions.specs.Machine.{Moved, on, Machine, call, Act, run}
 use Rattle.sessions.specs.Observed.{View}
 use Rattle.population.specs.Kept.{words}
 use Rattle.population.specs.Population.{rowsOf}
 use Rattle.session.specs.Session as N
-use Rattle.session.specs.Session.{Held, session}
+use Rattle.session.specs.Session.{Held, Call, objective, reply, failure, session}
 use Rattle.claims.specs.Inner.{Inner, inner1, inner2, pointWanted, view}
-use Rattle.claims.specs.LetIn.{admission, wantedPoint, LetIn, EveryCall}
-use Rattle.claims.proofs.Accepted.{Accepts, accepts}
-use Rattle.claims.proofs.Always.{after-turn, after-entry, after-both, run-keeps}
+use Rattle.claims.specs.LetIn.{admission, wantedPoint, Ruled, LetIn, EveryCall}
+use Rattle.claims.proofs.Accepted.{Accepts, rows-within, accepts}
+use Rattle.claims.proofs.Always.{Says, after-turn, after-entry, after-both, run-keeps}
 use Rattle.claims.proofs.Entries.{enters}
 use Rattle.claims.proofs.Fitting.{Fits}
 use Rattle.claims.proofs.Limits.{within2-true}
-use Rattle.claims.proofs.Placed.{Going, turns-going, enters-going, sets-going, opens-going, observations-lent}
+use Rattle.claims.proofs.Placed.{Below, Going, turns-going, turns-say, enters-going, sets-going, opens-going, observations-lent}
 use Rattle.claims.proofs.Refined.{checks-same}
+use Rattle.claims.proofs.Requests.{answers}
 use Rattle.claims.proofs.Searches.{Suits, suits1, suits2}
-use Rattle.claims.proofs.Session.{sets, opens-standing, some-room}
+use Rattle.claims.proofs.Session.{sets, lawful, opens-standing, some-room}
 use Rattle.claims.proofs.Standing.{Standing}
 use Rattle.claims.proofs.Stores.{Trusted, words-trusted, kept-rows, kept-lent}
 use Rattle.claims.proofs.Turns.{turns}
+
+-- ---- the numbers of an evaluation
+one-of : (n a b c : ℕ) → (n ≡ a) ⊎ ((n ≡ b) ⊎ (n ≡ c)) → a < 19 → b < 19 → c < 19 → n < 19
+one-of n a b c (inl e) i j k = omega (arith, e)
+one-of n a b c (inr (inl e)) i j k = omega (arith, e)
+one-of n a b c (inr (inr e)) i j k = omega (arith, e)
+
+-- ---- the numbers of 1 to 5
+NumberBelow : Admission → Type 0
+NumberBelow A.Accepted = Unit
+NumberBelow (A.Refused n) = n < 19
+NumberBelow (A.Unsound place) = Unit
+
+roomy-below : (setup : Setup) (subjects total largest : ℕ) (lent : Lent) (check : Check) → NumberBelow (roomy setup subjects total largest lent check)
+unfolding NumberBelow roomy
+roomy-below setup subjects total largest lent (Sound place) = both NumberBelow _ (omega arith) tt
+roomy-below setup subjects total largest lent (Unsound place) = tt
+
+checks-below : (setup : Setup) (subjects : ℕ) (lent : Lent) (check : Check) (c : Counts) → NumberBelow (checksOf setup subjects lent check c)
+unfolding NumberBelow checksOf admitted
+checks-below setup subjects lent check (Within total largest) = both NumberBelow _ (both NumberBelow _ (omega arith) (both NumberBelow _ (omega arith) (roomy-below setup subjects total largest lent check))) (omega arith)
+checks-below setup subjects lent check Outside = omega arith
 
 -- ---- 1 to 5 with an objective's own parameters: only 2 and 3 can refuse where the setup's own pass
 module _ (setup : Setup) (parameters : Parameters) (subjects : ℕ) (lent : Lent) (o : isNoOmega (withParameters setup parameters) ≡ false) (s : isNoShape (withParameters setup parameters) ≡ false) where
@@ -86,15 +117,12 @@ module _ (setup : Setup) (counts : List ℕ) (observations : List Observation) (
   abbrev Goes : Held words → Type 0
   Goes = Going setup counts observations lent (a .some) (a .most)
 
-  rows-are : (i : ℕ) → i < length counts → (1 ≤ rowsOf counts i) × (rowsOf counts i ≤ 100000)
-  rows-are i l = let e = a .each i l in (e .0, let f = e .1 in omega (arith, f, a .small))
-
   -- ---- a whole session
   both-hold : (acts : List (Act M)) → Stands (run M (N.opened words setup counts lent results) acts) × Goes (run M (N.opened words setup counts lent results) acts)
   both-hold acts =
       run-keeps M (λ (h : Held words). Stands h × Goes h)
       (λ h p. after-both Stands Goes _ (after-turn (I .rules) (I .claims) M Y Stands h (turns words setup counts observations I Q U bound (a .most) h (p .0))) (turns-going setup counts observations lent (a .some) (a .most) h (p .1)))
-      (λ c h p. after-both Stands Goes _ (after-entry (I .rules) (I .claims) M Y Stands c h (p .0) (enters words setup counts observations I Q U bound (omega (arith, limit)) (a .some) rows-are c h (p .0)))
+      (λ c h p. after-both Stands Goes _ (after-entry (I .rules) (I .claims) M Y Stands c h (p .0) (enters words setup counts observations I Q U bound (omega (arith, limit)) (a .some) (rows-within a) c h (p .0)))
       (enters-going setup counts observations lent (a .some) (a .most) h (p .1) c))
       (λ warm h p. (sets words setup counts observations I Q U bound limit lent results a warm h (p .0), sets-going setup counts observations lent (a .some) (a .most) h (p .1) warm))
       acts (N.opened words setup counts lent results)
@@ -138,19 +166,79 @@ module _ (setup : Setup) (counts : List ℕ) (observations : List Observation) (
         at Wants.Mode eta e = absurd (let z : _≡_ {A = ℕ} 0 1 = cc in omega arith)
         at (Wants.Refused k) eta e = absurd (let z : _≡_ {A = ℕ} 0 1 = cc in omega arith)
 
-    lets-in : LetIn setup counts observations h
+    -- ---- what an entry answers
+    over-says : (number : ℕ) → number < 19 → (place : Place) → Says Below (N.over words setup counts number place h)
+    unfolding Says Below N.over
+    over-says number l place = l
+
+    admitted-says : (go : Moved (Held words) Step) → Says Below go → (m : Admission) → NumberBelow m → Says Below (N.whenAdmitted words setup counts h go m)
+    unfolding Says Below NumberBelow N.whenAdmitted
+    admitted-says go l A.Accepted b = l
+    admitted-says go l (A.Refused n) b = b
+    admitted-says go l (A.Unsound place) b = omega arith
+
+    begun-says : (parameters : Parameters) → Says Below (N.whenAdmitted words setup counts h (on (N.begun words setup counts parameters (h .whole))) (admission setup counts observations parameters h))
+    unfolding Says N.admitted checks
+    begun-says parameters = admitted-says _ tt _ (checks-below _ (length counts) _ check (countObservations counts))
+
+    answered-says : (said : List ℕ) (eta : Pair) → Says Below (N.answered words setup counts observations said eta h)
+    unfolding N.answered
+    answered-says said eta = by-end (finish (ended .evaluation)) refl
+      where
+        fit : Fit
+        fit = B.fitOf setup (h .parameters)
+
+        rows : ℕ
+        rows = rowsOf counts (h .whole .progress .subject)
+
+        os : List Observation
+        os = take rows (drop (h .whole .progress .first) observations)
+
+        ended : Evaluating
+        ended = N.evaluated words setup counts observations fit said (h .whole .progress) (h .whole .work)
+
+        few : length os < 2 ^ 64
+        few = let l = rows-within a (h .whole .progress .subject) (g .place .subject) .1 in omega (arith, l, length-take rows (drop (h .whole .progress .first) observations))
+
+        numbers : Evaluates (N.trialOf words setup counts fit (h .whole .progress)) (setup .«output_budget») said os (h .whole .work)
+        numbers = evaluates _ (setup .«output_budget») said os (h .whole .work) few
+
+        by-end : (x : Evaluation) → finish (ended .evaluation) ≡ x → Says Below (N.replied words setup counts fit eta h (ended .work) x)
+        by-end (E.Running sums) d = unfold Says N.replied in tt
+        by-end (E.Refused n) d = unfold N.replied in over-says n (one-of n 8 9 12 (numbers .numbers n d) (omega arith) (omega arith) (omega arith)) _
+        by-end (E.RefusedAt n i) d = unfold N.replied in over-says n (one-of n 10 11 12 (numbers .places n i d .0) (omega arith) (omega arith) (omega arith)) _
+
+    enters-say : (c : Call) → Ruled setup counts observations c h → Says Below (N.enter words setup counts observations c h)
+    unfolding N.enter N.enterReply N.enterFailure N.enterObjective
+    enters-say (objective parameters) t = subst (Says Below) (sym (pick-no _ _ _ t ∙ pick-yes _ _ _ placed)) (begun-says parameters)
+    enters-say (reply said) t = subst (Says Below) (sym (awaited t _)) (answered-says said _)
+    enters-say failure t = subst (Says Below) (sym (awaited t _)) (over-says 8 (omega arith) _)
+
+    not-19 : (a : Step) → Below a → (place : Place) → a ≡ Answers.Refused 19 place → ⊥
+    unfolding Below
+    not-19 a l place e = let b : 19 < 19 = subst Below e l in omega arith
+
+    lets-in : ((c : Call) → Ruled setup counts observations c h → Below (call M c h .answer)) → LetIn setup counts observations h
     unfolding N.enterReply N.enterFailure N.enterObjective
-    lets-in = record {
+    lets-in below = record {
       placed = placed;
       accepted = accepted;
       others = others;
-      replies = λ t reply. awaited t _;
+      replies = λ t said. awaited t _;
       fails = λ t. awaited t _;
       begins = λ t parameters. pick-no _ _ _ t ∙ pick-yes _ _ _ placed;
+      never19 = λ c t place. not-19 (call M c h .answer) (below c t) place;
     }
 
   holds : (acts : List (Act M)) → LetIn setup counts observations (run M (N.opened words setup counts lent results) acts)
-  holds acts = let b = both-hold acts in lets-in _ (b .0) (b .1)
+  unfolding B.beginSubject
+  holds acts =
+      let b = both-hold acts in
+      lets-in _ (b .0) (b .1)
+      (λ c t. answers (I .rules) (I .claims) (Q .proved) M Y Stands (lawful words setup counts observations I Q U bound limit lent results a) (λ h s. s .subject)
+      Goes (λ h g. turns-going setup counts observations lent (a .some) (a .most) h g) Below (λ h g. turns-say setup counts observations lent (a .some) (a .most) h g)
+      (N.opened words setup counts lent results) (opens-standing words setup counts observations I Q U bound limit lent results a) refl refl acts c
+      (enters-going setup counts observations lent (a .some) (a .most) _ (b .1) c) (enters-say _ (b .0) (b .1) c t))
 
 pub let-in : EveryCall
 let-in setup counts observations bound limit lent results many long e acts =

@@ -1,5 +1,5 @@
 -- Where a session stands keeps to what is lent: its subject, its first observation and its searches stay in their limits, the lent words as many, and the tally's kept rows those of the kept
--- evaluations. Every turn, entry and setting of warm starts keeps that. Assumes nothing.
+-- evaluations. Every turn, entry and setting of warm starts keeps that, and no turn answers with 19. Assumes nothing.
 use mathlib.Core.Path.{_≡_, refl, sym, ap, subst, _∙_}
 use mathlib.Core.List.{List, [], _∷_}
 use mathlib.Core.Option.{Option, none, some}
@@ -15,6 +15,7 @@ use Rattle.float64.specs.Float64.{nonfinite}
 use Rattle.float64.specs.Pick.{both, cases}
 use Rattle.matrix.specs.declared.Pair.{Pair}
 use Rattle.likelihood.specs.declared.population_focei.Observation.{Observation}
+use Rattle.evaluation.specs.Subject.{individualValues}
 use Rattle.evaluation.specs.declared.Check.{Check}
 use Rattle.evaluation.specs.declared.Sums.{Sums}
 use Rattle.evaluation.specs.declared.Evaluation.{Evaluation}
@@ -39,6 +40,7 @@ use Rattle.subjects.specs.declared.Place.{Place}
 use Rattle.subjects.specs.declared.Place.the-variants as At
 use Rattle.subjects.specs.declared.Progress.{Progress}
 use Rattle.subjects.specs.declared.Step.{Step}
+use Rattle.subjects.specs.declared.Step.the-variants as Answers
 use Rattle.subjects.specs.declared.Tally.{Tally}
 use Rattle.subjects.specs.declared.Wanted.{Wanted}
 use Rattle.subjects.specs.declared.Wanted.the-variants as Wants
@@ -49,10 +51,10 @@ use Rattle.population.specs.declared.Turned.{Turned}
 use Rattle.population.specs.declared.Turned.the-variants.{On, Halt}
 use Rattle.session.specs.Session as N
 use Rattle.session.specs.Session.{Held, held, Call, objective, reply, failure}
-use Rattle.claims.proofs.Always.{After}
+use Rattle.claims.proofs.Always.{After, Says}
 use Rattle.claims.proofs.Evaluated.{work-length}
 use Rattle.claims.proofs.Lengths.{AsLong, zeros-length, move-rows-length, recalled-length, warm-stored-length, results-length}
-use Rattle.claims.proofs.Limits.{Within, start-within, advance-within, Within2, start-within2, advance-within2}
+use Rattle.claims.proofs.Limits.{Within, start-within, advance-within, Within2, start-within2, advance-within2, Small, wanted-small}
 
 -- ---- the observations of the subjects before one
 unfoldable pub before : List ℕ → ℕ → ℕ
@@ -83,6 +85,20 @@ before-most (count ∷ rest) (suc i) total largest e m =
 rows-most : (counts : List ℕ) (i : ℕ) → rowsOf counts i ≤ getD counts i 0
 unfolding rowsOf
 rows-most counts i = cases (λ (n : ℕ). n ≤ getD counts i 0) (ltb (getD counts i 0) mostRows) (λ t. omega arith) (λ t. ltb-false _ _ t)
+
+-- ---- refusals with numbers below 19
+unfoldable pub Below : Step → Type 0
+Below (Answers.Asked eta individual) = Unit
+Below (Answers.Finished ofv) = Unit
+Below (Answers.Refused n place) = n < 19
+
+BelowIf : Answer Pair → Type 0
+BelowIf (given v) = Unit
+BelowIf (refused n) = n < 19
+
+values-below : (theta eta : Pair) (effects : ℕ) → BelowIf (individualValues theta eta effects)
+unfolding BelowIf individualValues
+values-below theta eta effects = both BelowIf _ (omega arith) (both BelowIf _ (both BelowIf _ (omega arith) tt) tt)
 
 -- ---- a search's own place
 module _ (counts : List ℕ) where
@@ -138,9 +154,14 @@ module _ (setup : Setup) (counts : List ℕ) (observations : List Observation) (
     rows = rowsOf counts (p .subject)
 
     -- ---- what a request leaves
+    record Halts (x : Halted) : Type 0 where
+      place : Placed counts (x .progress)
+      same : x .tally .«cached_rows» ≡ w .tally .«cached_rows»
+      below : Below (x .step)
+
     PlacedTurned : Turned → Type 0
     PlacedTurned (On q) = Placed counts q
-    PlacedTurned (Halt x) = Placed counts (x .progress) × (x .tally .«cached_rows» ≡ w .tally .«cached_rows»)
+    PlacedTurned (Halt x) = Halts x
 
     record Ends (e : Ended) : Type 0 where
       turned : PlacedTurned (e .turned)
@@ -156,21 +177,26 @@ module _ (setup : Setup) (counts : List ℕ) (observations : List Observation) (
         → After Going (N.heldBy words setup counts (h .parameters) (moved words (w .tally) (w .kept) work warm results t))
     unfolding After N.heldBy moved PlacedTurned
     closes (On q) work warm results f a b c = goes q (w .tally) work warm results f refl a b c
-    closes (Halt x) work warm results f a b c = goes (x .progress) (x .tally) work warm results (f .0) (f .1) a b c
+    closes (Halt x) work warm results f a b c = goes (x .progress) (x .tally) work warm results (f .place) (f .same) a b c
+
+    closes-says : (t : Turned) (work warm results : List ℕ) → PlacedTurned t → Says Below (N.heldBy words setup counts (h .parameters) (moved words (w .tally) (w .kept) work warm results t))
+    unfolding Says N.heldBy moved PlacedTurned
+    closes-says (On q) work warm results f = tt
+    closes-says (Halt x) work warm results f = f .below
 
     -- ---- a point
-    refuses : (tally : Tally) → tally .«cached_rows» ≡ w .tally .«cached_rows» → (number : ℕ) (place : Place) → PlacedTurned (Halt (B.refusedBy p tally number place))
-    unfolding PlacedTurned B.refusedBy
-    refuses tally same number place = (idles counts p (g .place), same)
+    refuses : (tally : Tally) → tally .«cached_rows» ≡ w .tally .«cached_rows» → (number : ℕ) → number < 19 → (place : Place) → Halts (B.refusedBy p tally number place)
+    unfolding B.refusedBy Below
+    refuses tally same number l place = record { place = idles counts p (g .place); same = same; below = l }
 
-    asks : (eta : Pair) (a : Answer Pair) → PlacedTurned (Halt (B.askFor p (B.counted (w .tally)) eta a))
-    unfolding PlacedTurned B.askFor B.counted
-    asks eta (given v) = (awaits counts p (g .place) v, refl)
-    asks eta (refused n) = refuses _ refl n _
+    asks : (eta : Pair) (a : Answer Pair) → BelowIf a → Halts (B.askFor p (B.counted (w .tally)) eta a)
+    unfolding B.askFor B.counted Below BelowIf
+    asks eta (given v) l = record { place = awaits counts p (g .place) v; same = refl; below = tt }
+    asks eta (refused n) l = refuses _ refl n l _
 
-    asked : (eta : Pair) → PlacedTurned (Halt (B.ask fit p (w .tally) eta))
+    asked : (eta : Pair) → Halts (B.ask fit p (w .tally) eta)
     unfolding B.ask
-    asked eta = both (λ (x : Halted). PlacedTurned (Halt x)) _ (asks eta _) (refuses (w .tally) refl 6 _)
+    asked eta = both Halts _ (asks eta _ (values-below _ eta _)) (refuses (w .tally) refl 6 (omega arith) _)
 
     by-recall : (eta : Pair) (o : Option Recalled) → ((r : Recalled) → o ≡ some r → AsLong (w .work) (r .work))
         → Ends (ended (answered fit rows p (w .tally) eta (w .work) o .value) (answered fit rows p (w .tally) eta (w .work) o .work) (w .warm) (w .results))
@@ -183,12 +209,17 @@ module _ (setup : Setup) (counts : List ℕ) (observations : List Observation) (
     at-point eta = by-recall eta _ (λ r q. recalled-length _ _ rows (w .work) (block rows 3) _ r q)
 
     -- ---- a mode
-    refused-ends : (number : ℕ) (place : Place) (warm : List ℕ) → AsLong (w .warm) warm → Ends (ended (Halt (B.refusedBy p (w .tally) number place)) (w .work) warm (w .results))
-    refused-ends number place warm a = record { turned = refuses (w .tally) refl number place; work = refl; warm = a; results = refl }
+    refused-ends : (number : ℕ) → number < 19 → (place : Place) (warm : List ℕ) → AsLong (w .warm) warm → Ends (ended (Halt (B.refusedBy p (w .tally) number place)) (w .work) warm (w .results))
+    unfolding PlacedTurned
+    refused-ends number l place warm a = record { turned = refuses (w .tally) refl number l place; work = refl; warm = a; results = refl }
 
-    objective-ends : (ofv squares : Float) → PlacedTurned (Halt (B.objectiveOf p (w .tally) ofv squares))
-    unfolding B.objectiveOf PlacedTurned
-    objective-ends ofv squares = both (λ (x : Halted). PlacedTurned (Halt x)) (nonfinite ofv) (refuses (w .tally) refl 18 _) (finishes counts p (g .place) ofv squares, refl)
+    finished-halts : (ofv squares : Float) → Halts (record { progress = B.finished p ofv squares; tally = w .tally; step = Answers.Finished ofv })
+    unfolding Below
+    finished-halts ofv squares = record { place = finishes counts p (g .place) ofv squares; same = refl; below = tt }
+
+    objective-ends : (ofv squares : Float) → Halts (B.objectiveOf p (w .tally) ofv squares)
+    unfolding B.objectiveOf
+    objective-ends ofv squares = both Halts (nonfinite ofv) (refuses (w .tally) refl 18 (omega arith) _) (finished-halts ofv squares)
 
     next-ends : (m : Mode) (warm results : List ℕ) → AsLong (w .warm) warm → AsLong (w .results) results
         → Ends (ended (nextSubject fit counts p (w .tally) m rows warm (w .work) .value) (nextSubject fit counts p (w .tally) m rows warm (w .work) .work) warm results)
@@ -207,23 +238,30 @@ module _ (setup : Setup) (counts : List ℕ) (observations : List Observation) (
 
     by-closed : (c : Closed) → Ends (closing fit counts p (w .tally) rows (w .work) (w .warm) (w .results) c)
     unfolding closing
-    by-closed NotPositive = refused-ends 16 _ (w .warm) refl
+    by-closed NotPositive = refused-ends 16 (omega arith) _ (w .warm) refl
     by-closed (Positive m) =
         let a = warm-stored-length (fit .effects) (p .subject) (m .eta) (w .warm) in
-        both Ends (isSameGrid (w .work) rows) (next-ends m _ _ a (results-length (length counts) (p .first) (w .work) rows (p .subject) (m .eta) (m .nll) (w .results))) (refused-ends 17 _ _ a)
+        both Ends (isSameGrid (w .work) rows) (next-ends m _ _ a (results-length (length counts) (p .first) (w .work) rows (p .subject) (m .eta) (m .nll) (w .results))) (refused-ends 17 (omega arith) _ _ a)
 
     -- ---- every request
-    by-wanted : (v : Wanted) → Ends (servedBy words fit counts p (w .tally) (w .kept) (w .work) (w .warm) (w .results) v)
-    unfolding servedBy atMode
-    by-wanted (Wants.Point eta) = at-point eta
-    by-wanted Wants.Mode = by-closed (B.closedBy fit p rows)
-    by-wanted (Wants.Refused n) = refused-ends n _ (w .warm) refl
+    by-wanted : (v : Wanted) → Small v → Ends (servedBy words fit counts p (w .tally) (w .kept) (w .work) (w .warm) (w .results) v)
+    unfolding servedBy atMode Small
+    by-wanted (Wants.Point eta) l = at-point eta
+    by-wanted Wants.Mode l = by-closed (B.closedBy fit p rows)
+    by-wanted (Wants.Refused n) l = refused-ends n l _ (w .warm) refl
+
+    every-request : Ends (servedBy words fit counts p (w .tally) (w .kept) (w .work) (w .warm) (w .results) (B.wantedBy fit p))
+    every-request = by-wanted _ (wanted-small fit p (g .place .two))
 
     pub turns-going : After Going (N.turnHeld words setup counts h)
     unfolding N.turnHeld turn turned served
     turns-going =
-        let e = by-wanted (B.wantedBy fit p) in
+        let e = every-request in
         closes _ _ _ _ (e .turned) (both (AsLong (w .work)) _ (zeros-length _ ∙ e .work) (e .work)) (e .warm) (e .results)
+
+    pub turns-say : Says Below (N.turnHeld words setup counts h)
+    unfolding N.turnHeld turn turned served
+    turns-say = closes-says _ _ _ _ (every-request .turned)
 
     -- ---- entries
     unaltered-going : (number : ℕ) (place : Place) → After Going (N.unaltered words setup counts number place h)

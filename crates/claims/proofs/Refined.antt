@@ -57,7 +57,7 @@ use Rattle.claims.specs.Refined.{Deed, does, warms, actsOf, Alike, alike
 use Rattle.claims.proofs.Copies.{same-copy}
 use Rattle.claims.proofs.Plain.{split}
 use Rattle.claims.specs.Inner.{Inner, inner1, inner2, view}
-use Rattle.claims.proofs.Accepted.{Accepts, accepts}
+use Rattle.claims.proofs.Accepted.{Accepts, rows-within, accepts}
 use Rattle.claims.proofs.Always.{After, after-turn, after-entry}
 use Rattle.claims.proofs.Entries.{block-end, enters}
 use Rattle.claims.proofs.Evaluated.{work-length}
@@ -195,9 +195,6 @@ module _ (setup : Setup) (counts : List ℕ) (observations : List Observation) (
   abbrev Pair' : Moved (Held words) Step → Moved (Held entries) Step → Type 0
   Pair' = Both (setup .k) counts
 
-  rows-are : (i : ℕ) → i < length counts → (1 ≤ rowsOf counts i) × (rowsOf counts i ≤ 100000)
-  rows-are i l = let e = a .each i l in (e .0, let f = e .1 in omega (arith, f, a .small))
-
   module _ (parameters : Parameters) (p : Progress) (tally : Tally) (c : Cache) (l : List Entry) (work warm results : List ℕ) (st : Stands (c .words) (setup .k) (c .order) l) (own : Every (OwnRows (setup .k) counts) l) where
     abbrev h : Held words
     h = held words parameters (wholeOf words p tally c work warm results)
@@ -216,7 +213,7 @@ module _ (setup : Setup) (counts : List ℕ) (observations : List Observation) (
 
     module _ (s : Standing' h) where
       lent-rows : block rows 3 + rowWords * rows ≤ length work
-      lent-rows = subst (λ (n : ℕ). n ≤ length work) (sym (block-end rows (rows-are (p .subject) (s .subject) .1))) (s .roomy (p .subject) (s .subject))
+      lent-rows = subst (λ (n : ℕ). n ≤ length work) (sym (block-end rows (rows-within a (p .subject) (s .subject) .1))) (s .roomy (p .subject) (s .subject))
 
       recalls : (eta : Pair) → words .recall c (fit .k) (B.keyOf fit (p .subject) eta) rows work (block rows 3) ≡ entries .recall l (fit .k) (B.keyOf fit (p .subject) eta) rows work (block rows 3)
       recalls eta = subst (λ (k : ℕ). words .recall c k (B.keyOf fit (p .subject) eta) rows work (block rows 3) ≡ entries .recall l k (B.keyOf fit (p .subject) eta) rows work (block rows 3)) (sym (fit-k setup parameters))
@@ -317,7 +314,7 @@ module _ (setup : Setup) (counts : List ℕ) (observations : List Observation) (
         kept-link : (sums : Sums) (q : Progress) (x y z : List ℕ)
             → Link (held words parameters (wholeOf words q (tallyOf (words .rows (dW (setup .k) sums))) (dW (setup .k) sums) x y z)) (held entries parameters (wholeOf entries q (tallyOf (entries .rows (dE (setup .k) sums))) (dE (setup .k) sums) x y z))
         kept-link sums q x y z =
-            let k = keep-same (setup .k) counts room c l st own (B.keyOf fit (p .subject) eta) (B.termsOf sums) rows (ended' .work) (block rows 3) (ap (rowsOf counts) (sym (subject-of fit (p .subject) eta))) (rows-are (p .subject) (s .subject) .0)
+            let k = keep-same (setup .k) counts room c l st own (B.keyOf fit (p .subject) eta) (B.termsOf sums) rows (ended' .work) (block rows 3) (ap (rowsOf counts) (sym (subject-of fit (p .subject) eta))) (rows-within a (p .subject) (s .subject) .0)
             (subst (λ (n : ℕ). block rows 3 + rowWords * rows ≤ n) (sym long) lent-rows) low absent in
             record {
               is = subst (λ (n : ℕ). Alike (setup .k) (held words parameters (wholeOf words q (tallyOf (words .rows (dW (setup .k) sums))) (dW (setup .k) sums) x y z)) (held entries parameters (wholeOf entries q (tallyOf n) (dE (setup .k) sums) x y z)))
@@ -379,7 +376,7 @@ module _ (setup : Setup) (counts : List ℕ) (observations : List Observation) (
 
   call-both : (x : Call) (h : Held words) (g : Held entries) → Standing' h → Link h g → BothRan (call (session words setup counts observations) x h) (call (session entries setup counts observations) x g)
   unfolding call
-  call-both x h g s i = onward-both _ _ (enter-of x h g s i) (after-entry (I .rules) (I .claims) M Y Standing' x h s (enters words setup counts observations I Q U bound (omega (arith, limit)) (a .some) rows-are x h s)) (loop-both (N.fuel))
+  call-both x h g s i = onward-both _ _ (enter-of x h g s i) (after-entry (I .rules) (I .claims) M Y Standing' x h s (enters words setup counts observations I Q U bound (omega (arith, limit)) (a .some) (rows-within a) x h s)) (loop-both (N.fuel))
 
   -- the host sets the warm starts
   set-both : (warm : List ℕ) (h : Held words) (g : Held entries) → Link h g → Link (N.setWarm words setup counts warm h) (N.setWarm entries setup counts warm g)

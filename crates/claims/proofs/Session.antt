@@ -24,7 +24,7 @@ use Rattle.session.specs.Session.{Held, session, setWarm, opened, opens}
 use Rattle.claims.proofs.Plain.{positive}
 use Rattle.claims.specs.Claim.{Holds3, EverySession}
 use Rattle.claims.specs.Inner.{Inner, inner1, inner2, view}
-use Rattle.claims.proofs.Accepted.{Accepts, accepts}
+use Rattle.claims.proofs.Accepted.{Accepts, rows-within, accepts}
 use Rattle.claims.proofs.Entries.{enters}
 use Rattle.claims.proofs.Fitting.{Fits, zero-fits}
 use Rattle.claims.proofs.Lengths.{zeros-length}
@@ -59,9 +59,6 @@ module _ (S : Store) (setup : Setup) (counts : List ℕ) (observations : List Ob
   abbrev Stands : Held S → Type 0
   Stands = Standing S setup counts observations I Q U
 
-  rows-are : (i : ℕ) → i < length counts → (1 ≤ rowsOf counts i) × (rowsOf counts i ≤ 100000)
-  rows-are i l = let e = a .each i l in (e .0, let f = e .1 in omega (arith, f, a .small))
-
   -- the host sets the warm starts
   pub sets : (warm : List ℕ) (h : Held S) → Stands h → Stands (setWarm S setup counts warm h)
   unfolding setWarm
@@ -87,10 +84,10 @@ module _ (S : Store) (setup : Setup) (counts : List ℕ) (observations : List Ob
   unfolding setWarm
   sets-tally warm h = both (λ (x : Held S). x .whole .tally .calls .0 ≡ h .whole .tally .calls .0) _ refl refl
 
-  lawful : Lawful (I .rules) (I .claims) M (view S setup counts observations I) Stands
+  pub lawful : Lawful (I .rules) (I .claims) M (view S setup counts observations I) Stands
   lawful = record {
     turns = λ h s l. turns S setup counts observations I Q U bound (a .most) h s;
-    enters = λ c h s. enters S setup counts observations I Q U bound (omega (arith, limit)) (a .some) rows-are c h s;
+    enters = λ c h s. enters S setup counts observations I Q U bound (omega (arith, limit)) (a .some) (rows-within a) c h s;
     enough = Q .enough (length counts) (a .most);
     limited = λ h s. s .limit;
     writes-sound = sets;

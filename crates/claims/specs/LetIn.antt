@@ -1,5 +1,5 @@
--- What a session lets in, wherever it stands: a reply or a failure that is awaited, and a new objective while none is. None of these meets 19, and 1 to 5 refuse nothing but a new objective, for its
--- own parameters.
+-- What a session lets in, wherever it stands: a reply or a failure that is awaited, and a new objective while none is. None of these calls gets 19, and 1 to 5 refuse nothing but a new objective,
+-- for its own parameters.
 use mathlib.Core.Path.{_≡_}
 use mathlib.Core.Bool.{true, false}
 use mathlib.Core.List.{List}
@@ -16,10 +16,12 @@ use Rattle.admission.specs.declared.Lent.{Lent}
 use Rattle.admission.specs.declared.Admission.{Admission}
 use Rattle.admission.specs.declared.Admission.the-variants.{Accepted}
 use Rattle.subjects.specs.Subjects.{fitOf, wantedBy}
+use Rattle.subjects.specs.declared.Place.{Place}
 use Rattle.subjects.specs.declared.Place.the-variants.{Subject}
-use Rattle.sessions.specs.Machine.{on, Act, run}
+use Rattle.subjects.specs.declared.Step.the-variants.{Refused}
+use Rattle.sessions.specs.Machine.{on, call, Act, run}
 use Rattle.population.specs.Kept.{words}
-use Rattle.session.specs.Session.{Held, isStanding, whenAdmitted, begun, over, admitted, allChecked, enterObjective, enterReply, enterFailure, answered, session, opened, opens}
+use Rattle.session.specs.Session.{Held, Call, objective, reply, failure, isStanding, whenAdmitted, begun, over, admitted, allChecked, enterObjective, enterReply, enterFailure, answered, session, opened, opens}
 use Rattle.claims.specs.Inner.{pointWanted}
 
 module _ (setup : Setup) (counts : List ℕ) (observations : List Observation) where
@@ -31,6 +33,12 @@ module _ (setup : Setup) (counts : List ℕ) (observations : List Observation) w
   abbrev pub wantedPoint : Held words → Pair
   wantedPoint h = pointWanted (wantedBy (fitOf setup (h .parameters)) (h .whole .progress))
 
+  -- the calls that keep to the rules
+  abbrev pub Ruled : Call → Held words → Type 0
+  Ruled (objective parameters) h = h .whole .progress .awaits ≡ false
+  Ruled (reply said) h = h .whole .progress .awaits ≡ true
+  Ruled failure h = h .whole .progress .awaits ≡ true
+
   pub record LetIn (h : Held words) : Type 0 where
     -- 19's positions
     pub placed : isStanding setup counts (length observations) (h .whole .tally) (h .whole .progress) ≡ true
@@ -38,13 +46,15 @@ module _ (setup : Setup) (counts : List ℕ) (observations : List Observation) w
     pub accepted : admission (h .parameters) h ≡ Accepted
     pub others : (parameters : Parameters) → isNoOmega (withParameters setup parameters) ≡ false → isNoShape (withParameters setup parameters) ≡ false → admission parameters h ≡ Accepted
     -- a reply is awaited: it is evaluated at the point that was asked for, and its failure ends the objective with 8
-    pub replies : h .whole .progress .awaits ≡ true → (reply : List ℕ) → enterReply words setup counts observations reply h ≡ answered words setup counts observations reply (wantedPoint h) h
+    pub replies : h .whole .progress .awaits ≡ true → (said : List ℕ) → enterReply words setup counts observations said h ≡ answered words setup counts observations said (wantedPoint h) h
     pub fails : h .whole .progress .awaits ≡ true
         → enterFailure words setup counts (length observations) (allChecked setup counts observations) h ≡ over words setup counts 8 (Subject (h .whole .progress .subject)) h
     -- none is awaited: a new objective begins where 1 to 5 pass
     pub begins : h .whole .progress .awaits ≡ false → (parameters : Parameters)
         → enterObjective words setup counts (length observations) (allChecked setup counts observations) parameters h
         ≡ whenAdmitted words setup counts h (on (begun words setup counts parameters (h .whole))) (admission parameters h)
+    -- and no answer to any of these is 19
+    pub never19 : (c : Call) → Ruled c h → (place : Place) → call (session words setup counts observations) c h .answer ≡ Refused 19 place → ⊥
 
 -- after any list of calls, in the session that an accepted setup opened: `lent` counts the observations and the results that are there. eta_bound is a float of the format, and max_evaluations a
 -- u32, as every value of the code is.

@@ -37,7 +37,7 @@ length-more (d ∷ h) c = ap suc (length-more h c)
 
 -- ---- reading a log in two parts
 module _ (R : Rules) where
-  read-append : (xs : List (Searched R)) (es fs : List (Entry R)) → read R xs (es ++ fs) ≡ read R (read R xs es) fs
+  pub read-append : (xs : List (Searched R)) (es fs : List (Entry R)) → read R xs (es ++ fs) ≡ read R (read R xs es) fs
   unfolding read
   read-append xs [] fs = refl
   read-append xs (e ∷ es) fs = read-append (note R xs e) es fs
