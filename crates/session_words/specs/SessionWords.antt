@@ -1,7 +1,7 @@
 -- A session's state as 63 words: the words of a state, and the state of some words, or 19 where they are none.
-use mathlib.Core.Bool.{Bool}
+use mathlib.Core.Bool.{Bool, true, false}
 use mathlib.Core.List.{List, [], _∷_, _++_}
-use Prim.Native.Nat.{ℕ, _+_}
+use Prim.Native.Nat.{ℕ, zero, suc, _+_}
 use lib.Dec.{ltb, eqb}
 use lib.ListN.{getD, set, length}
 use lib.Ieee.{Float, binary64, toBits}
@@ -57,6 +57,11 @@ orderAt words = record { oldest = at words 14; next = at words 15; «first_row»
 
 unfoldable pub stateAt : List ℕ → Search → Search2 → State
 stateAt words search search2 = record { parameters = parametersAt words; progress = progressAt words search search2; order = orderAt words }
+
+-- n words from word i on that are all 0: those of a search that has asked nothing
+unfoldable pub isZero : ℕ → List ℕ → ℕ → Bool
+isZero zero words i = true
+isZero (suc n) words i = pick (eqb (at words i) 0) (isZero n words (i + 1)) false
 
 -- with both searches, where they are some
 unfoldable pub withBoth : List ℕ → Search → Answer Search2 → Answer State

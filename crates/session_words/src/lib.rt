@@ -10,7 +10,9 @@ ghost use mathlib.Core.Path.{_≡_};
 ghost use Prim.Native.Nat.{_+_, _≤_, _<_};
 ghost use lib.ListN.{length};
 ghost use Rattle.cache.specs.Kept.{wordsFrom};
-ghost use Rattle.session_words.specs.SessionWords.{pairAt, additiveAt, orderAt, parametersAt, progressAt, stateAt, withSearch, loadedState, answer};
+ghost use Rattle.search_words.specs.SearchWords as one;
+ghost use Rattle.search_words_2d.specs.SearchWords2 as two;
+ghost use Rattle.session_words.specs.SessionWords.{isZero, pairAt, additiveAt, orderAt, parametersAt, progressAt, stateAt, withSearch, loadedState, answer};
 use admission::Parameters;
 use cache::CacheOrder;
 use evaluation::AdditiveSd;
@@ -158,6 +160,43 @@ fn search_2d_at(words: &[u64]) -> [u64; 25]
     ]
 }
 
+// Whether n words from word `from` on are all 0, as those of a search that has asked nothing are.
+fn is_zero(words: &[u64], from: usize, n: usize) -> bool
+    requires { ⌜ from + n ≤ length (now words) ⌝ }
+    ensures { λ r. ⌜ r ≡ isZero n (now (words .entry)) from ⌝ }
+{
+    let mut i = 0;
+    while i < n {
+        if words[from + i] != 0 {
+            return false;
+        }
+        i += 1;
+    }
+    true
+}
+
+// The search of its words. The search of the other number of effects has asked nothing, and need not be
+// loaded word by word.
+fn search_of(words: &[u64]) -> Loaded
+    requires { ⌜ 63 ≤ length (now words) ⌝ }
+    ensures { λ r. ⌜ one.answer r ≡ one.loaded (wordsFrom 20 (now (words .entry)) 18) ⌝ }
+{
+    if is_zero(words, 18, 20) {
+        return Loaded::Given(Search::start());
+    }
+    search_words::load(search_at(words))
+}
+
+fn search_2d_of(words: &[u64]) -> Loaded2
+    requires { ⌜ 63 ≤ length (now words) ⌝ }
+    ensures { λ r. ⌜ two.answer r ≡ two.loaded (wordsFrom 25 (now (words .entry)) 38) ⌝ }
+{
+    if is_zero(words, 38, 25) {
+        return Loaded2::Given(Search2::start());
+    }
+    search_words_2d::load(search_2d_at(words))
+}
+
 fn state_at(words: &[u64], search: Search, search_2d: Search2) -> State
     requires { ⌜ 63 ≤ length (now words) ⌝ }
     ensures { λ r. ⌜ r ≡ stateAt (now (words .entry)) search «search_2d» ⌝ }
@@ -176,7 +215,7 @@ fn with_search(words: &[u64], search: Search) -> LoadedState
     requires { ⌜ 63 ≤ length (now words) ⌝ }
     ensures { λ r. ⌜ answer r ≡ withSearch (now (words .entry)) search ⌝ }
 {
-    match search_words_2d::load(search_2d_at(words)) {
+    match search_2d_of(words) {
         Loaded2::Given(search_2d) => LoadedState::Given(state_at(words, search, search_2d)),
         Loaded2::None => LoadedState::None,
     }
@@ -196,7 +235,7 @@ pub fn load(words: &[u64]) -> LoadedState
     if words[4] > 1 {
         return LoadedState::None;
     }
-    match search_words::load(search_at(words)) {
+    match search_of(words) {
         Loaded::Given(search) => with_search(words, search),
         Loaded::None => LoadedState::None,
     }

@@ -29,8 +29,8 @@ returns-3 c =
     let second = c .before .before in
     no _ (le-ltb _ _ (second .before .before .if1 .left)) (no _ (le-ltb _ _ (second .if2 .left)) (yes _ (lt-ltb _ _ (c .if3 .taken)) refl))
 
-search-at-requires : tie.Need-search-at-requires
-search-at-requires c κs = search needs
+search-of-requires : tie.Need-search-of-requires
+search-of-requires c κs = search needs
 
 enum-known-search : tie.Need-enum-known-search
 enum-known-search c = search needs
@@ -44,24 +44,22 @@ enum-told c = search needs
 returns-4 : tie.Need-returns-4
 unfolding loadedState
 returns-4 c =
-    let asked = c .before .before .before .before in
-    let third = asked .before .before in
+    let third = c .before .before .before .before .before in
     let second = third .before .before in
     no _ (le-ltb _ _ (second .before .before .if1 .left))
     (no _ (le-ltb _ _ (second .if2 .left))
     (no _ (le-ltb _ _ (third .if3 .left))
-    (one-given _ (asked .before .search-at .ensures) (asked .load .ensures) _ (c .before .before .search .given .1) (c .with-search .ensures))))
+    (one-given _ refl (c .before .before .before .before .search-of .ensures) _ (c .before .before .search .given .1) (c .with-search .ensures))))
 
 returns-5 : tie.Need-returns-5
 unfolding loadedState
 returns-5 c =
-    let asked = c .before .before in
-    let third = asked .before .before in
+    let third = c .before .before .before in
     let second = third .before .before in
     no _ (le-ltb _ _ (second .before .before .if1 .left))
     (no _ (le-ltb _ _ (second .if2 .left))
     (no _ (le-ltb _ _ (third .if3 .left))
-    (one-none _ (asked .before .search-at .ensures) (asked .load .ensures) (c .enum-told .given .1))))
+    (one-none _ refl (c .before .before .search-of .ensures) (c .enum-told .given .1))))
 
 pub load-spec : {M : Type 1} → statement M
 load-spec =
@@ -72,8 +70,7 @@ load-spec =
     returns-2
     shared-slice-read-if3
     returns-3
-    search-at-requires
-    free
+    search-of-requires
     enum-known-search
     with-search-requires
     enum-told
