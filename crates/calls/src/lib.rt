@@ -82,19 +82,9 @@ pub fn begin_objective(
     let progress = state.progress;
     match call_checks::admit_objective(setup, parameters, progress, tally, check, lent, counts) {
         Admission::Accepted => {
-            let start = session::start_of(parameters, warm, setup.effects, state.order);
+            let here = session::start_of(parameters, warm, setup.effects, state.order);
             let hand = InHand::Nothing;
-            runs::run(
-                setup,
-                start,
-                hand,
-                tally,
-                counts,
-                cache,
-                work,
-                warm,
-                results,
-            )
+            runs::run(setup, here, hand, tally, counts, cache, work, warm, results)
         }
         Admission::Refused(number) => session::refused_as(state, tally, number, Place::Nowhere),
         Admission::Unsound(at) => session::refused_as(
