@@ -29,9 +29,10 @@ use Rattle.subjects.specs.declared.Tally.{Tally}
 use Rattle.subjects.specs.Subjects.{fitOf, wantedBy}
 use Rattle.subjects.specs.declared.Wanted.{Wanted}
 use Rattle.subjects.specs.declared.Wanted.the-variants as Wants
+use Rattle.population.specs.Kept.{words}
 use Rattle.population.specs.Population.{rowsOf}
 use Rattle.session.specs.Calls.{lentBy, trialBy, admittedBy, admitAwaited, admitReply}
-use Rattle.session.specs.Session.{allChecked, isPlaced, isStanding, reply}
+use Rattle.session.specs.Session.{Held, allChecked, isPlaced, isStanding, admitted, reply}
 use Rattle.session.specs.declared.Admitted.{Admitted}
 use Rattle.session.specs.declared.Awaited.{Awaited}
 use Rattle.session.specs.declared.State.{State}
@@ -41,8 +42,9 @@ use Rattle.call_checks.proofs.Replies.{whole-awaited, by-admission}
 use Rattle.hosting.specs.Hosting.{Out, admitWith, finishWith, callOver}
 use Rattle.hosting.proofs.Whole.{reply-over}
 use Rattle.word_replies.specs.SubjectReplies.{subjectFirst, subjectChecked, admitSubjectWith, subjectReplyOver}
-use Rattle.claims.specs.SubjectReply.{ownOf, EverySubjectReply}
+use Rattle.claims.specs.SubjectReply.{ownOf, EverySubjectReply, InEverySession}
 use Rattle.claims.proofs.Evaluated.{work-length}
+use Rattle.claims.proofs.LetIn.{let-in}
 use Rattle.claims.proofs.Plain.{true-not-false, false-not-true}
 use Rattle.claims.proofs.SubjectChecks.{IsSound, part-sound, Passed, passed, count-in, subject-passes}
 
@@ -87,7 +89,7 @@ same-point setup counts n m s tally a b =
     ap (λ (w : Wanted). pick (s .progress .awaits) w (Wants.Refused 19)) (at _ a ∙ sym (at _ b))
 
 -- ---- the whole of it
-module _ (setup : Setup) (counts : List ℕ) (observations : List Observation) (tally : Tally) (state answer cache work warm results : List ℕ) (words : List ℕ) (s : State) (stands : isStanding setup counts (length observations) tally (s .progress) ≡ true)
+module _ (setup : Setup) (counts : List ℕ) (observations : List Observation) (tally : Tally) (state answer cache work warm results : List ℕ) (said : List ℕ) (s : State) (stands : isStanding setup counts (length observations) tally (s .progress) ≡ true)
     (accepted : checks (withParameters setup (s .parameters)) counts (lentBy (length observations) (length cache) (length work) (length warm) (length results)) (allChecked setup counts observations) ≡ A.Accepted) where
   abbrev own : List Observation
   own = ownOf counts observations s
@@ -145,7 +147,7 @@ module _ (setup : Setup) (counts : List ℕ) (observations : List Observation) (
 
   -- what a reply that is let in, or not, comes to
   abbrev evaluates : List Observation → Admitted → Evaluating
-  evaluates os a = addObservations (a .trial) words (take (a .to - a .from) (drop (a .from) os)) (evaluating (a .evaluation) work)
+  evaluates os a = addObservations (a .trial) said (take (a .to - a .from) (drop (a .from) os)) (evaluating (a .evaluation) work)
 
   abbrev finishes : List Observation → Admitted → Out
   finishes os a = let e = evaluates os a in finishWith setup counts (a .awaited) (e .evaluation) tally state answer cache (e .work) warm results
@@ -159,40 +161,49 @@ module _ (setup : Setup) (counts : List ℕ) (observations : List Observation) (
       let n : smaller (s .progress .first + rows) (length observations) - s .progress .first ≡ rows = omega (arith, inside .1) in
       ap (λ (m : ℕ). take m (drop (s .progress .first) observations)) n
 
-  same-end : (w : Awaited) (v : Admission) → finishes own (admittedOver setup trial words w 0 (length own) v) ≡ finishes observations (admittedOver setup trial words w (s .progress .first) (smaller (s .progress .first + rows) (length observations)) v)
+  same-end : (w : Awaited) (v : Admission) → finishes own (admittedOver setup trial said w 0 (length own) v) ≡ finishes observations (admittedOver setup trial said w (s .progress .first) (smaller (s .progress .first + rows) (length observations)) v)
   unfolding admittedOver
   same-end w A.Accepted =
-      let after : List Observation → Evaluating = λ os. addObservations trial words os (evaluating (begin words (setup .width) (setup .effects) (setup .«output_budget»)) work) in
+      let after : List Observation → Evaluating = λ os. addObservations trial said os (evaluating (begin said (setup .width) (setup .effects) (setup .«output_budget»)) work) in
       ap (λ (os : List Observation). finishWith setup counts w (after os .evaluation) tally state answer cache (after os .work) warm results) (of-own ∙ sym of-all)
   same-end w (A.Refused number) = refl
   same-end w (A.Unsound at) = refl
 
   -- with all observations lent it is the call of the session
-  long : (w : Awaited) (v : Admission) → length (evaluates observations (admittedOver setup trial words w (s .progress .first) (smaller (s .progress .first + rows) (length observations)) v) .work) ≡ length work
+  long : (w : Awaited) (v : Admission) → length (evaluates observations (admittedOver setup trial said w (s .progress .first) (smaller (s .progress .first + rows) (length observations)) v) .work) ≡ length work
   unfolding admittedOver
-  long w A.Accepted = work-length trial words (setup .width) (setup .effects) (setup .«output_budget») (take (smaller (s .progress .first + rows) (length observations) - s .progress .first) (drop (s .progress .first) observations)) work
+  long w A.Accepted = work-length trial said (setup .width) (setup .effects) (setup .«output_budget») (take (smaller (s .progress .first + rows) (length observations) - s .progress .first) (drop (s .progress .first) observations)) work
   long w (A.Refused number) = refl
   long w (A.Unsound at) = refl
 
   module _ (loads : loadedState state ≡ given s) where
     abbrev whole : Admitted
-    whole = admitReply setup counts (lent (length observations)) (allChecked setup counts observations) s tally words
+    whole = admitReply setup counts (lent (length observations)) (allChecked setup counts observations) s tally said
 
     whole-is : (let w = admitAwaited setup counts (lent (length observations)) (allChecked setup counts observations) s tally in
-        admittedOver setup trial words w (s .progress .first) (smaller (s .progress .first + rows) (length observations)) (w .admission)) ≡ whole
+        admittedOver setup trial said w (s .progress .first) (smaller (s .progress .first + rows) (length observations)) (w .admission)) ≡ whole
     unfolding admitReply
-    whole-is = by-admission setup counts (lent (length observations)) (allChecked setup counts observations) s tally words refl refl _ _
+    whole-is = by-admission setup counts (lent (length observations)) (allChecked setup counts observations) s tally said refl refl _ _
 
-    pub subject-reply : subjectReplyOver setup counts own tally state answer cache work warm results words ≡ callOver setup counts observations tally state answer cache work warm results (reply words)
+    pub subject-reply : subjectReplyOver setup counts own tally state answer cache work warm results said ≡ callOver setup counts observations tally state answer cache work warm results (reply said)
     unfolding subjectReplyOver admitSubjectWith admitSubjectReply admitWith
     subject-reply =
         let w = admitAwaited setup counts (lent (length observations)) (allChecked setup counts observations) s tally in
-        let loaded = ap (λ (l : Answer State). finishes own (admitSubjectWith setup counts (lent (length own)) (subjectChecked setup counts own state) tally words l)) loads in
-        let at = ap (λ (v : Awaited). finishes own (admittedOver setup trial words v 0 (length own) (v .admission))) same-awaited in
+        let loaded = ap (λ (l : Answer State). finishes own (admitSubjectWith setup counts (lent (length own)) (subjectChecked setup counts own state) tally said l)) loads in
+        let at = ap (λ (v : Awaited). finishes own (admittedOver setup trial said v 0 (length own) (v .admission))) same-awaited in
         let e = evaluates observations whole in
         loaded ∙ at ∙ same-end w (w .admission) ∙ ap (finishes observations) whole-is
-        ∙ reply-over setup counts observations tally state answer cache work warm results words (e .evaluation) (e .work) (subst (λ (a : Admitted). length (evaluates observations a .work) ≡ length work) whole-is (long w (w .admission))) (allChecked setup counts observations) refl refl
-        (ap (admitWith setup counts (lent (length observations)) (allChecked setup counts observations) tally words) (sym loads)) refl refl
+        ∙ reply-over setup counts observations tally state answer cache work warm results said (e .evaluation) (e .work) (subst (λ (a : Admitted). length (evaluates observations a .work) ≡ length work) whole-is (long w (w .admission))) (allChecked setup counts observations) refl refl
+        (ap (admitWith setup counts (lent (length observations)) (allChecked setup counts observations) tally said) (sym loads)) refl refl
 
 pub every-subject-reply : EverySubjectReply
-every-subject-reply setup counts observations tally state answer cache work warm results words s loads stands accepted = subject-reply setup counts observations tally state answer cache work warm results words s stands accepted loads
+every-subject-reply setup counts observations tally state answer cache work warm results said s loads stands accepted = subject-reply setup counts observations tally state answer cache work warm results said s stands accepted loads
+
+-- wherever a session stands, the positions are right and 1 to 5 pass
+pub in-every-session : InEverySession
+unfolding admitted
+in-every-session setup counts observations f m lent before el er accepted acts tally state answer cache work warm results said s loads here =
+    let stands = let-in setup counts observations f m lent before el er accepted acts in
+    every-subject-reply setup counts observations tally state answer cache work warm results said s loads
+    (subst (λ (h : Held words). isStanding setup counts (length observations) (h .whole .tally) (h .whole .progress) ≡ true) (sym here) (stands .placed))
+    (subst (λ (h : Held words). admitted words setup counts (length observations) (allChecked setup counts observations) (h .parameters) (h .whole) ≡ A.Accepted) (sym here) (stands .accepted))

@@ -3,17 +3,22 @@
 use mathlib.Core.Path.{_≡_}
 use mathlib.Core.Bool.{true}
 use mathlib.Core.List.{List}
-use Prim.Native.Nat.{ℕ}
+use Prim.Native.Nat.{ℕ, _<_}
+use lib.Dec.{T}
+use lib.Ieee.{binary64, fits}
 use lib.ListN.{length, take, drop}
 use Rattle.float64.specs.Answer.{given}
 use Rattle.likelihood.specs.declared.population_focei.Observation.{Observation}
 use Rattle.admission.specs.Admission.{checks, withParameters}
+use Rattle.admission.specs.declared.Lent.{Lent}
 use Rattle.admission.specs.declared.Setup.{Setup}
 use Rattle.admission.specs.declared.Admission.the-variants.{Accepted}
 use Rattle.subjects.specs.declared.Tally.{Tally}
+use Rattle.sessions.specs.Machine.{Act, run}
+use Rattle.population.specs.Kept.{words}
 use Rattle.population.specs.Population.{rowsOf}
-use Rattle.session.specs.Calls.{lentBy}
-use Rattle.session.specs.Session.{allChecked, isStanding, reply}
+use Rattle.session.specs.Calls.{heldOf, lentBy}
+use Rattle.session.specs.Session.{allChecked, isStanding, reply, opens, opened, session}
 use Rattle.session.specs.declared.State.{State}
 use Rattle.session_words.specs.SessionWords.{loadedState}
 use Rattle.hosting.specs.Hosting.{callOver}
@@ -24,7 +29,15 @@ abbrev pub ownOf : List ℕ → List Observation → State → List Observation
 ownOf counts observations s = take (rowsOf counts (s .progress .subject)) (drop (s .progress .first) observations)
 
 abbrev pub EverySubjectReply : Type 0
-EverySubjectReply = (setup : Setup) (counts : List ℕ) (observations : List Observation) (tally : Tally) (state answer cache work warm results : List ℕ) (words : List ℕ) (s : State) → loadedState state ≡ given s
+EverySubjectReply = (setup : Setup) (counts : List ℕ) (observations : List Observation) (tally : Tally) (state answer cache work warm results : List ℕ) (said : List ℕ) (s : State) → loadedState state ≡ given s
     → isStanding setup counts (length observations) tally (s .progress) ≡ true
     → checks (withParameters setup (s .parameters)) counts (lentBy (length observations) (length cache) (length work) (length warm) (length results)) (allChecked setup counts observations) ≡ Accepted
-    → subjectReplyOver setup counts (ownOf counts observations s) tally state answer cache work warm results words ≡ callOver setup counts observations tally state answer cache work warm results (reply words)
+    → subjectReplyOver setup counts (ownOf counts observations s) tally state answer cache work warm results said ≡ callOver setup counts observations tally state answer cache work warm results (reply said)
+
+-- so in every session that an accepted setup opened, wherever it stands: the words that are lent are those of the state that its calls have come to
+abbrev pub InEverySession : Type 0
+InEverySession = (setup : Setup) (counts : List ℕ) (observations : List Observation) → T (fits binary64 (setup .«eta_bound»)) → setup .«max_evaluations» < 4294967296
+    → (lent : Lent) (before : List ℕ) → length observations ≡ lent .observations → length before ≡ lent .results → opens words setup counts observations lent ≡ Accepted
+    → (acts : List (Act (session words setup counts observations))) (tally : Tally) (state answer cache work warm results : List ℕ) (said : List ℕ) (s : State)
+    → loadedState state ≡ given s → heldOf s tally cache work warm results ≡ run (session words setup counts observations) (opened words setup counts lent before) acts
+    → subjectReplyOver setup counts (ownOf counts observations s) tally state answer cache work warm results said ≡ callOver setup counts observations tally state answer cache work warm results (reply said)
