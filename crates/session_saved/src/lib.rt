@@ -65,8 +65,20 @@ fn order_words(order: CacheOrder) -> [u64; 4]
     ]
 }
 
-// Writes the values from word `from` on, and nothing beyond the end.
-fn put_from(from: usize, values: &[u64], words: &mut [u64])
+// Writes the values from word `from` on, where they all have a place: a plain copy.
+fn put_lent(from: usize, values: &[u64], words: &mut [u64])
+    requires { ⌜ from + length (now values) ≤ length (now words) ⌝ }
+    ensures { λ _. ⌜ now (words .exit) ≡ putFrom from (now (values .entry)) (now (words .entry)) ⌝ }
+{
+    let mut i = 0;
+    while i < values.len() {
+        words[from + i] = values[i];
+        i += 1;
+    }
+}
+
+// Writes them one by one, and nothing beyond the end.
+fn put_each(from: usize, values: &[u64], words: &mut [u64])
     requires { ⌜ from < 63 ⌝ }
     ensures { λ _. ⌜ now (words .exit) ≡ putFrom from (now (values .entry)) (now (words .entry)) ⌝ }
 {
@@ -75,6 +87,18 @@ fn put_from(from: usize, values: &[u64], words: &mut [u64])
         cache::put(words, from + i, values[i]);
         i += 1;
     }
+}
+
+// Writes the values from word `from` on, and nothing beyond the end.
+fn put_from(from: usize, values: &[u64], words: &mut [u64])
+    requires { ⌜ from < 63 ⌝ }
+    ensures { λ _. ⌜ now (words .exit) ≡ putFrom from (now (values .entry)) (now (words .entry)) ⌝ }
+{
+    if from + values.len() <= words.len() {
+        put_lent(from, values, words);
+        return;
+    }
+    put_each(from, values, words);
 }
 
 // Writes the first 63 words, or as many of them as are lent.

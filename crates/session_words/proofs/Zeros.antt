@@ -21,31 +21,23 @@ use Rattle.search_words.specs.declared.Loaded.the-variants as Loads
 use Rattle.search_words_2d.specs.declared.Loaded2.the-variants as Loads2
 use Rattle.session_words.specs.SessionWords.{isZero}
 
--- ---- the loop that tests them: i words were 0
-pub zero-begin : (words : List ℕ) (n from : ℕ) → isZero (n - 0) words (from + 0) ≡ isZero n words from
-zero-begin words n from =
-    let e : n - 0 ≡ n = omega arith in
-    let f : from + 0 ≡ from = omega arith in
-    λ d. isZero (e d) words (f d)
-
-module _ (words : List ℕ) (n from i : ℕ) where
-  pub zero-end : n ≤ i → true ≡ isZero (n - i) words (from + i)
+-- ---- the loop that tests them, up to word n
+module _ (words : List ℕ) (n i : ℕ) where
+  pub zero-end : n ≤ i → true ≡ isZero (n - i) words i
   unfolding isZero
-  zero-end h = let e : n - i ≡ 0 = omega (arith, h) in ap (λ (m : ℕ). isZero m words (from + i)) (sym e)
+  zero-end h = let e : n - i ≡ 0 = omega (arith, h) in ap (λ (m : ℕ). isZero m words i) (sym e)
 
   module _ (h : i < n) where
     abbrev one-less : n - i ≡ suc (n - (i + 1))
     one-less = omega (arith, h)
 
-    pub zero-step : getD words (from + i) 0 ≡ 0 → isZero (n - (i + 1)) words (from + (i + 1)) ≡ isZero (n - i) words (from + i)
+    pub zero-step : getD words i 0 ≡ 0 → isZero (n - (i + 1)) words (i + 1) ≡ isZero (n - i) words i
     unfolding isZero
-    zero-step z =
-        let e : from + (i + 1) ≡ from + i + 1 = omega arith in
-        ap (isZero (n - (i + 1)) words) e ∙ sym (pick-yes _ (isZero (n - (i + 1)) words (from + i + 1)) false (eq-eqb _ _ z)) ∙ ap (λ (m : ℕ). isZero m words (from + i)) (sym one-less)
+    zero-step z = sym (pick-yes _ (isZero (n - (i + 1)) words (i + 1)) false (eq-eqb _ _ z)) ∙ ap (λ (m : ℕ). isZero m words i) (sym one-less)
 
-    pub zero-stop : (getD words (from + i) 0 ≡ 0 → ⊥) → false ≡ isZero (n - i) words (from + i)
+    pub zero-stop : (getD words i 0 ≡ 0 → ⊥) → false ≡ isZero (n - i) words i
     unfolding isZero
-    zero-stop z = sym (pick-no _ (isZero (n - (i + 1)) words (from + i + 1)) false (ne-eqb _ _ z)) ∙ ap (λ (m : ℕ). isZero m words (from + i)) (sym one-less)
+    zero-stop z = sym (pick-no _ (isZero (n - (i + 1)) words (i + 1)) false (ne-eqb _ _ z)) ∙ ap (λ (m : ℕ). isZero m words i) (sym one-less)
 
 -- ---- what the words are then
 all-zero : (n : ℕ) (words : List ℕ) (i : ℕ) → isZero n words i ≡ true → wordsFrom n words i ≡ zeros n

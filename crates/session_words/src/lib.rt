@@ -7,7 +7,7 @@
 // A float is its word, and what holds or not is 1 or 0. Here are the definitions, and the words loaded;
 // `session_saved` writes them.
 ghost use mathlib.Core.Path.{_≡_};
-ghost use Prim.Native.Nat.{_+_, _≤_, _<_};
+ghost use Prim.Native.Nat.{_+_, _-_, _≤_, _<_};
 ghost use lib.ListN.{length};
 ghost use Rattle.cache.specs.Kept.{wordsFrom};
 ghost use Rattle.search_words.specs.SearchWords as one;
@@ -160,14 +160,15 @@ fn search_2d_at(words: &[u64]) -> [u64; 25]
     ]
 }
 
-// Whether n words from word `from` on are all 0, as those of a search that has asked nothing are.
-fn is_zero(words: &[u64], from: usize, n: usize) -> bool
-    requires { ⌜ from + n ≤ length (now words) ⌝ }
-    ensures { λ r. ⌜ r ≡ isZero n (now (words .entry)) from ⌝ }
+// Whether the words from `from` up to, but without, `to` are all 0, as those of a search that has asked
+// nothing are.
+fn is_zero(words: &[u64], from: usize, to: usize) -> bool
+    requires { ⌜ to ≤ length (now words) ⌝ }
+    ensures { λ r. ⌜ r ≡ isZero (to - from) (now (words .entry)) from ⌝ }
 {
-    let mut i = 0;
-    while i < n {
-        if words[from + i] != 0 {
+    let mut i = from;
+    while i < to {
+        if words[i] != 0 {
             return false;
         }
         i += 1;
@@ -181,7 +182,7 @@ fn search_of(words: &[u64]) -> Loaded
     requires { ⌜ 63 ≤ length (now words) ⌝ }
     ensures { λ r. ⌜ one.answer r ≡ one.loaded (wordsFrom 20 (now (words .entry)) 18) ⌝ }
 {
-    if is_zero(words, 18, 20) {
+    if is_zero(words, 18, 38) {
         return Loaded::Given(Search::start());
     }
     search_words::load(search_at(words))
@@ -191,7 +192,7 @@ fn search_2d_of(words: &[u64]) -> Loaded2
     requires { ⌜ 63 ≤ length (now words) ⌝ }
     ensures { λ r. ⌜ two.answer r ≡ two.loaded (wordsFrom 25 (now (words .entry)) 38) ⌝ }
 {
-    if is_zero(words, 38, 25) {
+    if is_zero(words, 38, 63) {
         return Loaded2::Given(Search2::start());
     }
     search_words_2d::load(search_2d_at(words))

@@ -1,4 +1,4 @@
--- `put_from` meets its contract: each turn by its law. Assumes nothing.
+-- `put_each` meets its contract: each turn by its law. Assumes nothing.
 use borrow.Author.Needs.{needs}
 use mathlib.Core.Path.{refl, _∙_, _≡_}
 use native.Mathlib.Nat.{add-zero}
@@ -7,8 +7,8 @@ use lib.ListN.{length, drop}
 use Rattle.float64.proofs.Laws.{free}
 use Rattle.session_words.specs.SessionWords.{putFrom}
 use Rattle.session_words.proofs.Paths.{put-end, put-step}
-use Rattle.session_saved.proofs.put_from.Statement.{statement}
-use Rattle.session_saved.proofs.put_from.Tie as tie
+use Rattle.session_saved.proofs.put_each.Statement.{statement}
+use Rattle.session_saved.proofs.put_each.Tie as tie
 
 abbrev Inv-loop : tie.InvT-loop
 Inv-loop from values words₀ i₀ words i = (putFrom (from + i) (drop i values) words ≡ putFrom from values words₀) × (length words ≡ length words₀)
@@ -47,8 +47,8 @@ same-length c = c .before .loop .inv .1
 returns : tie.Need-returns Inv-loop μ-loop
 returns c = put-end _ _ _ _ (c .loop-test .left) ∙ c .before .loop .inv .0
 
-pub put-from-spec : {M : Type 1} → statement M
-put-from-spec =
+pub put-each-spec : {M : Type 1} → statement M
+put-each-spec =
     tie.close
     (tie.spec
     Inv-loop
