@@ -9,31 +9,20 @@ use Rattle.float64.specs.Pick.{yes, no, yesOf, noOf}
 use Rattle.float64.specs.Arithmetic.{word}
 use Rattle.work.specs.Work.{block}
 use Rattle.cache.specs.Cache.{order}
-use Rattle.matrix.specs.declared.Pair.{Pair}
 use Rattle.mode.specs.declared.population_focei.Stage.{Stage}
-use Rattle.evaluation.specs.Observations.{smaller}
-use Rattle.evaluation.specs.Subject.{begin}
 use Rattle.evaluation.specs.declared.Check.{Check}
-use Rattle.evaluation.specs.declared.Evaluation.{Evaluation}
-use Rattle.evaluation.specs.declared.Position.{Position}
-use Rattle.evaluation.specs.declared.Trial.{Trial}
 use Rattle.admission.specs.Admission.{checks, withParameters}
 use Rattle.admission.specs.declared.Admission.{Admission}
 use Rattle.admission.specs.declared.Admission.the-variants as A
 use Rattle.admission.specs.declared.Lent.{Lent}
 use Rattle.admission.specs.declared.Parameters.{Parameters}
 use Rattle.admission.specs.declared.Setup.{Setup}
-use Rattle.subjects.specs.Subjects.{fitOf, wantedBy, beginSubject}
-use Rattle.subjects.specs.declared.Fit.{Fit}
+use Rattle.subjects.specs.Subjects.{beginSubject}
 use Rattle.subjects.specs.declared.Progress.{Progress}
 use Rattle.subjects.specs.declared.Tally.{Tally}
-use Rattle.subjects.specs.declared.Wanted.{Wanted}
-use Rattle.subjects.specs.declared.Wanted.the-variants as Wants
 use Rattle.population.specs.Population.{rowsOf}
-use Rattle.session.specs.Calls.{firstState, admitObjective, unawaited, awaitedAt, admitAwaited, trialBy, nothingAdmitted, admittedBy, admitReply}
+use Rattle.session.specs.Calls.{firstState, admitObjective, trialBy}
 use Rattle.session.specs.Session.{countWithin, searchWithin, searchWithin2, isPlaced, isStanding}
-use Rattle.session.specs.declared.Admitted.{Admitted}
-use Rattle.session.specs.declared.Awaited.{Awaited}
 use Rattle.session.specs.declared.State.{State}
 
 -- ---- a stage by its count
@@ -84,70 +73,7 @@ module _ (setup : Setup) (counts : List ℕ) (lent : Lent) (check : Check) (para
     objective-unplaced f = no _ e (noOf _ q f refl)
 
 -- ---- what lets a reply in
-module _ (setup : Setup) (counts : List ℕ) (lent : Lent) (check : Check) (parameters : Parameters) {wanted : Wanted} where
-  pub point-awaited : {eta : Pair} {own : Setup} {a : Admission} → wanted ≡ Wants.Point eta → own ≡ withParameters setup parameters → a ≡ checks own counts lent check
-      → record { admission = a; eta = eta } ≡ awaitedAt setup counts lent check parameters wanted
-  unfolding awaitedAt
-  point-awaited {eta} t o d =
-      (λ i. record { admission = (d ∙ ap (λ (s : Setup). checks s counts lent check) o) i; eta = eta }) ∙ ap (awaitedAt setup counts lent check parameters) (sym t)
-
-  pub mode-unawaited : {r : Awaited} → wanted ≡ Wants.Mode → r ≡ unawaited → r ≡ awaitedAt setup counts lent check parameters wanted
-  unfolding awaitedAt
-  mode-unawaited t e = e ∙ ap (awaitedAt setup counts lent check parameters) (sym t)
-
-  pub refusal-unawaited : {r : Awaited} {number : ℕ} → wanted ≡ Wants.Refused number → r ≡ unawaited → r ≡ awaitedAt setup counts lent check parameters wanted
-  unfolding awaitedAt
-  refusal-unawaited t e = e ∙ ap (awaitedAt setup counts lent check parameters) (sym t)
-
-module _ (setup : Setup) (counts : List ℕ) (lent : Lent) (check : Check) (state : State) (tally : Tally) {r : Awaited} where
-  pub awaits-none : state .progress .awaits ≡ false → r ≡ unawaited → r ≡ admitAwaited setup counts lent check state tally
-  unfolding admitAwaited
-  awaits-none e q = no _ e q
-
-  module _ {b : Bool} (e : state .progress .awaits ≡ true) (q : b ≡ isStanding setup counts (lent .observations) tally (state .progress)) where
-    pub awaits-unplaced : b ≡ false → r ≡ unawaited → r ≡ admitAwaited setup counts lent check state tally
-    unfolding admitAwaited
-    awaits-unplaced f u = yes _ e (noOf _ q f u)
-
-    pub awaits-point : {fit : Fit} {wanted : Wanted} → b ≡ true → fit ≡ fitOf setup (state .parameters) → wanted ≡ wantedBy fit (state .progress) → r ≡ awaitedAt setup counts lent check (state .parameters) wanted
-        → r ≡ admitAwaited setup counts lent check state tally
-    unfolding admitAwaited
-    awaits-point t f w a =
-        yes _ e (yesOf _ q t (a ∙ ap (awaitedAt setup counts lent check (state .parameters)) (w ∙ ap (λ (x : Fit). wantedBy x (state .progress)) f)))
-
 pub trial-made : (setup : Setup) (state : State) (rows : ℕ) {n : ℕ} → n ≡ block rows 3
     → record { individual = state .progress .individual; «additive_sd» = state .parameters .«additive_sd»; width = setup .width; effects = setup .effects; block = n } ≡ trialBy setup state rows
 trial-made setup state rows e =
     ap (λ (n : ℕ). record { individual = state .progress .individual; «additive_sd» = state .parameters .«additive_sd»; width = setup .width; effects = setup .effects; block = n }) e
-
-pub trial-is : (setup : Setup) (state : State) (rows : ℕ) {n : ℕ} {trial : Trial} → trial ≡ trialBy setup state rows → rows ≡ n → trial ≡ trialBy setup state n
-trial-is setup state rows t e = t ∙ ap (trialBy setup state) e
-
--- w is what `admit_awaited` answered
-module _ (setup : Setup) (counts : List ℕ) (lent : Lent) (check : Check) (state : State) (tally : Tally) (reply : List ℕ) {w : Awaited} {rows : ℕ} {trial : Trial} (ew : w ≡ admitAwaited setup counts lent check state tally)
-    (er : rows ≡ rowsOf counts (state .progress .subject)) (et : trial ≡ trialBy setup state rows) where
-  admitted-by : {v : Admission} {r : Admitted} → w .admission ≡ v → r ≡ admittedBy setup counts (lent .observations) state reply w v → r ≡ admitReply setup counts lent check state tally reply
-  unfolding admitReply
-  admitted-by t q =
-      q ∙ ap (admittedBy setup counts (lent .observations) state reply w) (sym t) ∙ ap (λ (x : Awaited). admittedBy setup counts (lent .observations) state reply x (x .admission)) ew
-
-  pub reply-admitted : {e : Evaluation} {to : ℕ} → w .admission ≡ A.Accepted → e ≡ begin reply (setup .width) (setup .effects) (setup .«output_budget») → to ≡ smaller (state .progress .first + rows) (lent .observations)
-      → record { awaited = w; from = state .progress .first; to = to; evaluation = e; trial = trial } ≡ admitReply setup counts lent check state tally reply
-  unfolding admittedBy
-  reply-admitted t b l =
-      admitted-by t
-      (λ i. record {
-        awaited = w;
-        from = state .progress .first;
-        to = (l ∙ ap (λ (n : ℕ). smaller (state .progress .first + n) (lent .observations)) er) i;
-        evaluation = b i;
-        trial = trial-is setup state rows et er i;
-      })
-
-  pub reply-refused : {number : ℕ} {r : Admitted} → w .admission ≡ A.Refused number → r ≡ nothingAdmitted w trial number → r ≡ admitReply setup counts lent check state tally reply
-  unfolding admittedBy
-  reply-refused {number} t q = admitted-by t (q ∙ ap (λ (x : Trial). nothingAdmitted w x number) (trial-is setup state rows et er))
-
-  pub reply-unsound : {at : Position} {r : Admitted} → w .admission ≡ A.Unsound at → r ≡ nothingAdmitted w trial 4 → r ≡ admitReply setup counts lent check state tally reply
-  unfolding admittedBy
-  reply-unsound t q = admitted-by t (q ∙ ap (λ (x : Trial). nothingAdmitted w x 4) (trial-is setup state rows et er))
