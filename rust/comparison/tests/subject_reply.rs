@@ -229,7 +229,7 @@ fn both_replies_leave_the_same() {
     let random = &mut Random::new(11);
     let mut met = [0u32; 20];
     let mut replies = 0;
-    for _ in 0..10_000 {
+    for _ in 0..12_000 {
         let mut lent = session(random);
         for _ in 0..1 + random.below(3) {
             let theta = [random.pick(&[1., 1.1]), 1.];
