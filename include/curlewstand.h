@@ -156,7 +156,8 @@ uint32_t curlewstand_reply(struct curlewstand_setup setup,
  *
  * 1 to 5 are tested of what is lent: 1 of the subject's count, which is the number of observations lent; 4 of
  * these; 5 of 12 work words for each of these, 24 cache words for each of k, a warm word for each subject and
- * effect, and 2 results for each of these and 3 for each subject. */
+ * effect, and 2 results for each of these and 3 for each subject. Of results that are too short for all
+ * subjects the words that are lent are written, and nothing beyond their end. */
 uint32_t curlewstand_subject_reply(struct curlewstand_setup setup,
                                    const struct curlewstand_observation *observations, size_t n_observations,
                                    const uint64_t *counts, size_t n_counts,
