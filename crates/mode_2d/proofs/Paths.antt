@@ -1,4 +1,4 @@
--- The ways through the loop of `next_reduction`, through `descend`, `Search2::request` and `Search2::advance`: one law for each, over plain variables. Assumes nothing.
+-- The ways through the loop of `next_reduction`, and through what answers by cases: one law for each, over plain variables. Assumes nothing.
 use mathlib.Core.Path.{_≡_, refl, sym, ap, _∙_}
 use mathlib.Core.Bool.{Bool, true, false}
 use mathlib.Core.List.{List}
@@ -18,7 +18,12 @@ use Rattle.mode_2d.specs.declared.population_focei_2d.Stage2.the-variant
 use Rattle.mode_2d.specs.declared.population_focei_2d.Search2.{Search2}
 use Rattle.mode_2d.specs.declared.population_focei_2d.Request2.{Request2}
 use Rattle.mode_2d.specs.declared.population_focei_2d.Request2.the-variants.{Point, Mode, Refused}
-use Rattle.mode_2d.specs.Rules.{nought, of, curvature, stepBy, isPassedOver, nextReduction, isTaken, startPoint, between, tryFrom, descendBy, descend, beginRound, take, leave, requestAt, request, advanceAt, advance}
+use Rattle.mode_2d.specs.declared.population_focei_2d.Turn.{Turn}
+use Rattle.mode_2d.specs.declared.population_focei_2d.Onward.{Onward}
+use Rattle.mode_2d.specs.declared.population_focei_2d.Onward.the-variants.{NoInverse}
+use Rattle.mode_2d.specs.Rules.{nought, of, curvature, stepBy, isPassedOver, nextReduction, startPoint, requestAt, request, advance}
+use Rattle.mode_2d.specs.Turns.{turnAt, turnAfter, tried, descendedBy, descended, proceeded, goneOnBy, goneOn}
+use Rattle.mode_2d.proofs.Turns.{then, turned}
 
 -- ---- the loop's turn at a reduction; b is what `is_passed_over` answered, a the loop's answer
 pub fewer-left : (reduction : ℕ) → reduction < 22 → 22 - (reduction + 1) < 22 - reduction
@@ -49,20 +54,25 @@ module _ (eta-bound : Float) (step : NewtonStep) (reduction : ℕ) where
   unfolding nextReduction
   all-passed h q = ap (λ (n : ℕ). nextReduction eta-bound step n reduction) (no-more reduction h) ∙ q
 
--- ---- a round; m is the curvature, r what `inverse_positive` answered, z the search afterwards
-module _ (s : Settings2) (seed round from : ℕ) (c best : Conditional2) where
-  descended : {m : List (List Float)} {r variant : InversePositive} {z : Search2} → m ≡ curvature s c → answer m r ≡ inversePositive m → r ≡ variant → z ≡ descendBy (answer m variant) s seed round from c best → z ≡ descend s seed round from c best
-  unfolding descend
-  descended {m} k e v q =
-      q ∙ ap (λ (i : Inverse). descendBy i s seed round from c best) (sym (ap (answer m) v) ∙ e ∙ ap inversePositive k)
+-- ---- a round; m is the curvature, r what `inverse_positive` answered, z what is done next
+module _ (s : Settings2) (round from : ℕ) (c : Conditional2) where
+  by-inverse : {m : List (List Float)} {r variant : InversePositive} {z : Onward} → m ≡ curvature s c → answer m r ≡ inversePositive m → r ≡ variant → z ≡ descendedBy (answer m variant) s round from c → z ≡ descended s round from c
+  unfolding descended
+  by-inverse {m} k e v q =
+      q ∙ ap (λ (i : Inverse). descendedBy i s round from c) (sym (ap (answer m) v) ∙ e ∙ ap inversePositive k)
 
-  pub goes-down : {m i : List (List Float)} {r : InversePositive} {det : Float} {step : NewtonStep} {z : Search2} → m ≡ curvature s c → answer m r ≡ inversePositive m → r ≡ Exists det → i ≡ inverse m det → step ≡ stepBy s c i → z ≡ tryFrom s seed round from c best step → z ≡ descend s seed round from c best
-  unfolding descendBy answer
-  goes-down k e v f g q = descended k e v (q ∙ ap (tryFrom s seed round from c best) (g ∙ ap (stepBy s c) f))
+  pub goes-down : {m i : List (List Float)} {r : InversePositive} {det : Float} {step : NewtonStep} {z : Onward} → m ≡ curvature s c → answer m r ≡ inversePositive m → r ≡ Exists det → i ≡ inverse m det → step ≡ stepBy s c i → z ≡ tried (s .«eta_bound») round from step → z ≡ descended s round from c
+  unfolding descendedBy answer
+  goes-down k e v f g q = by-inverse k e v (q ∙ ap (tried (s .«eta_bound») round from) (g ∙ ap (stepBy s c) f))
 
-  pub no-inverse : {m : List (List Float)} {r : InversePositive} {z : Search2} → m ≡ curvature s c → answer m r ≡ inversePositive m → r ≡ None → z ≡ between (Halted 16) seed c best → z ≡ descend s seed round from c best
-  unfolding descendBy answer
-  no-inverse k e v q = descended k e v q
+  pub no-inverse : {m : List (List Float)} {r : InversePositive} → m ≡ curvature s c → answer m r ≡ inversePositive m → r ≡ None → NoInverse ≡ descended s round from c
+  unfolding descendedBy answer
+  no-inverse k e v = by-inverse k e v refl
+
+  -- the search z afterwards; o is what `proceed` answered
+  module _ (seed : ℕ) (best : Conditional2) where
+    pub gone : {o variant : Onward} {z : Search2} → o ≡ proceeded s round from c → o ≡ variant → z ≡ goneOnBy variant s seed c best → z ≡ goneOn s seed round from c best
+    gone e v q = q ∙ ap (λ (o : Onward). goneOnBy o s seed c best) (sym v ∙ e)
 
 module _ (s : Settings2) (x : Search2) where
   -- ---- what is asked; p is the point
@@ -89,31 +99,11 @@ module _ (s : Settings2) (x : Search2) where
   unfolding requestAt
   halted-refuses e = asked e refl
 
-  -- ---- what an evaluated point makes of the search; z is the search afterwards
+  -- ---- what an evaluated point leads to; z is the turn
   module _ (c : Conditional2) where
-    advanced : {stage : Stage2} {z : Search2} → x .stage ≡ stage → z ≡ advanceAt stage s x c → z ≡ advance s x c
-    advanced e q = q ∙ sym (ap (λ (stage : Stage2). advanceAt stage s x c) e)
+    pub turned-at : {stage : Stage2} {z : Turn} → x .stage ≡ stage → z ≡ turnAt stage s x c → z ≡ turnAfter s x c
+    turned-at e q = q ∙ sym (ap (λ (stage : Stage2). turnAt stage s x c) e)
 
-    pub on-zero : {z : Search2} → x .stage ≡ Zero → z ≡ between Start 0 c c → z ≡ advance s x c
-    unfolding advanceAt
-    on-zero e q = advanced e q
-
-    pub on-start : {z : Search2} → x .stage ≡ Start → z ≡ beginRound s (x .seed) 0 c (x .best) → z ≡ advance s x c
-    unfolding advanceAt
-    on-start e q = advanced e q
-
-    pub on-taken : {b : Bool} {z : Search2} → x .stage ≡ Trial → b ≡ isTaken s x c → b ≡ true → z ≡ take s x c → z ≡ advance s x c
-    unfolding advanceAt
-    on-taken e h t q = advanced e (yesOf _ h t q)
-
-    pub on-left : {b : Bool} {z : Search2} → x .stage ≡ Trial → b ≡ isTaken s x c → b ≡ false → z ≡ leave s x → z ≡ advance s x c
-    unfolding advanceAt
-    on-left e h t q = advanced e (noOf _ h t q)
-
-    pub on-found : x .stage ≡ Found → x ≡ advance s x c
-    unfolding advanceAt
-    on-found e = advanced e refl
-
-    pub on-halted : {number : ℕ} → x .stage ≡ Halted number → x ≡ advance s x c
-    unfolding advanceAt
-    on-halted e = advanced e refl
+    -- and what it makes of the search: z is the search afterwards, t what `turn_after` answered
+    pub advanced : {t variant : Turn} {z : Search2} → t ≡ turnAfter s x c → t ≡ variant → z ≡ then s x c variant → z ≡ advance s x c
+    advanced e v q = q ∙ ap (then s x c) (sym v ∙ e) ∙ turned s x c (x .stage)

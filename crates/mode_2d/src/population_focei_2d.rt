@@ -2,7 +2,8 @@
 // up to 48 Newton rounds of up to 22 reductions (`mode_from_seed`).
 ghost use mathlib.Core.Path.{_≡_};
 ghost use Prim.Native.Nat.{_<_, _≤_, _-_};
-ghost use Rattle.mode_2d.specs.Rules.{vector, pairOf, precision, priorScore, joint, penalisedScore, maxAbs, norm, curvature, stepBy, scale, reduced, trialPoint, decrease, isSame, isPassedOver, nextReduction, isTaken, startPoint, isUnresolved, isFar, better, between, trying, finish, tryFrom, descend, beginRound, take, leave, start, request, advance};
+ghost use Rattle.mode_2d.specs.Rules.{vector, pairOf, precision, priorScore, joint, penalisedScore, maxAbs, norm, curvature, stepBy, scale, reduced, trialPoint, decrease, isSame, isPassedOver, nextReduction, isTaken, startPoint, isUnresolved, isFar, better, between, finish, start, request, advance};
+ghost use Rattle.mode_2d.specs.Turns.{over, beginning, taking, leaving, turnAfter, tried, descended, proceeded, goneOn};
 use matrix::InversePositive;
 use matrix::Pair;
 
@@ -58,6 +59,23 @@ pub struct Search2 {
     pub trial: Pair,
     pub decrease: f64,
     pub best: Conditional2,
+}
+
+// What an evaluated point leads to: to the first start; to a start's rounds, which go on in this round from
+// this reduction on, at this point (from 22 on there is no reduction, and they are over); or to nothing
+// more.
+pub enum Turn {
+    FirstStart,
+    Rounds(u32, u32, Conditional2),
+    Ended,
+}
+
+// What the rounds do next: a trial is asked for, of a round and a reduction, with the fall of `joint` that is
+// foreseen there; or they are over; or there is no step, for want of an inverse of the curvature.
+pub enum Onward {
+    Try(u32, u32, Pair, f64),
+    Over,
+    NoInverse,
 }
 
 // The next point, a mode (the search's best point), or document 01's number for a no: 13, 14 or 16.
@@ -343,101 +361,125 @@ fn finish(s: Settings2, seed: u32, c: Conditional2, best: Conditional2) -> Searc
     between(Stage2::Found, 6, c, better)
 }
 
-// The search that awaits a trial.
-fn trying(
-    seed: u32,
-    round: u32,
-    reduction: u32,
-    current: Conditional2,
-    best: Conditional2,
-    step: NewtonStep,
-    trial: Pair,
-) -> Search2
-    ensures { λ r. ⌜ r ≡ trying seed round reduction current best step trial ⌝ }
-{
-    Search2 {
-        stage: Stage2::Trial,
-        seed,
-        round,
-        reduction,
-        current,
-        trial,
-        decrease: decrease(step, trial),
-        best,
-    }
-}
-
-// The first trial along the step from reduction `from` on; without one the start's rounds are over.
-fn try_from(
-    s: Settings2,
-    seed: u32,
-    round: u32,
-    from: u32,
-    c: Conditional2,
-    best: Conditional2,
-    step: NewtonStep,
-) -> Search2
+// The first trial along the step from reduction `from` on.
+fn try_from(eta_bound: f64, round: u32, from: u32, step: NewtonStep) -> Onward
     requires { ⌜ from ≤ 22 ⌝ }
-    ensures { λ r. ⌜ r ≡ tryFrom s seed round from c best step ⌝ }
+    ensures { λ r. ⌜ r ≡ tried «eta_bound» round from step ⌝ }
 {
-    let reduction = next_reduction(s.eta_bound, step, from);
+    let reduction = next_reduction(eta_bound, step, from);
     if reduction < 22 {
-        let trial = trial_point(s.eta_bound, step, reduction);
-        return trying(seed, round, reduction, c, best, step, trial);
+        let trial = trial_point(eta_bound, step, reduction);
+        return Onward::Try(round, reduction, trial, decrease(step, trial));
     }
-    finish(s, seed, c, best)
+    Onward::Over
 }
 
-// A round from reduction `from` on. Without an inverse of the curvature the search ends with 16.
-fn descend(
-    s: Settings2,
-    seed: u32,
-    round: u32,
-    from: u32,
-    c: Conditional2,
-    best: Conditional2,
-) -> Search2
+// The trials of a round, from reduction `from` on.
+fn descend(s: Settings2, round: u32, from: u32, c: Conditional2) -> Onward
     requires { ⌜ from ≤ 22 ⌝ }
-    ensures { λ r. ⌜ r ≡ descend s seed round from c best ⌝ }
+    ensures { λ r. ⌜ r ≡ descended s round from c ⌝ }
 {
     let curvature = curvature(s, c);
     match matrix::inverse_positive(curvature) {
         InversePositive::Exists(det) => {
             let step = step_by(s, c, matrix::inverse(curvature, det));
-            try_from(s, seed, round, from, c, best, step)
+            try_from(s.eta_bound, round, from, step)
         }
-        InversePositive::None => between(Stage2::Halted(16), seed, c, best),
+        InversePositive::None => Onward::NoInverse,
     }
+}
+
+fn proceed(s: Settings2, round: u32, from: u32, c: Conditional2) -> Onward
+    ensures { λ r. ⌜ r ≡ proceeded s round from c ⌝ }
+{
+    if from < 22 {
+        return descend(s, round, from, c);
+    }
+    Onward::Over
+}
+
+// The search afterwards. Without an inverse of the curvature it ends with 16.
+fn go_on(
+    s: Settings2,
+    seed: u32,
+    round: u32,
+    from: u32,
+    current: Conditional2,
+    best: Conditional2,
+) -> Search2
+    ensures { λ r. ⌜ r ≡ goneOn s seed round from current best ⌝ }
+{
+    match proceed(s, round, from, current) {
+        Onward::Try(round, reduction, trial, decrease) => Search2 {
+            stage: Stage2::Trial,
+            seed,
+            round,
+            reduction,
+            current,
+            trial,
+            decrease,
+            best,
+        },
+        Onward::Over => finish(s, seed, current, best),
+        Onward::NoInverse => between(Stage2::Halted(16), seed, current, best),
+    }
+}
+
+// ---- where the rounds go on
+
+fn over(c: Conditional2) -> Turn
+    ensures { λ r. ⌜ r ≡ over c ⌝ }
+{
+    Turn::Rounds(0, 22, c)
 }
 
 // The head of a round: the rounds stop where the norm is at most 1e-5.
-fn begin_round(s: Settings2, seed: u32, round: u32, c: Conditional2, best: Conditional2) -> Search2
-    ensures { λ r. ⌜ r ≡ beginRound s seed round c best ⌝ }
+fn begin_round(s: Settings2, round: u32, c: Conditional2) -> Turn
+    ensures { λ r. ⌜ r ≡ beginning s round c ⌝ }
 {
     if norm(s, c) <= 1e-5 {
-        return finish(s, seed, c, best);
+        return over(c);
     }
-    descend(s, seed, round, 0, c, best)
+    Turn::Rounds(round, 0, c)
 }
 
 // A trial that is taken: the next round begins there, unless this was the last of 48.
-fn take(s: Settings2, x: Search2, c: Conditional2) -> Search2
-    ensures { λ r. ⌜ r ≡ take s x c ⌝ }
+fn take(s: Settings2, x: Search2, c: Conditional2) -> Turn
+    ensures { λ r. ⌜ r ≡ taking s x c ⌝ }
 {
     if x.round < 47 {
-        return begin_round(s, x.seed, x.round + 1, c, x.best);
+        return begin_round(s, x.round + 1, c);
     }
-    finish(s, x.seed, c, x.best)
+    over(c)
 }
 
 // A trial that is not: the next reduction, unless this was the last of 22.
-fn leave(s: Settings2, x: Search2) -> Search2
-    ensures { λ r. ⌜ r ≡ leave s x ⌝ }
+fn leave(x: Search2) -> Turn
+    ensures { λ r. ⌜ r ≡ leaving x ⌝ }
 {
+    let current = x.current;
     if x.reduction < 21 {
-        return descend(s, x.seed, x.round, x.reduction + 1, x.current, x.best);
+        return Turn::Rounds(x.round, x.reduction + 1, current);
     }
-    finish(s, x.seed, x.current, x.best)
+    over(current)
+}
+
+fn turn_after(s: Settings2, x: Search2, c: Conditional2) -> Turn
+    ensures { λ r. ⌜ r ≡ turnAfter s x c ⌝ }
+{
+    let stage = x.stage;
+    match stage {
+        Stage2::Zero => Turn::FirstStart,
+        Stage2::Start => begin_round(s, 0, c),
+        Stage2::Trial => {
+            if is_taken(s, x, c) {
+                return take(s, x, c);
+            }
+            leave(x)
+        }
+        Stage2::Found => Turn::Ended,
+        Stage2::Halted(_) => Turn::Ended,
+    }
 }
 
 impl Search2 {
@@ -485,18 +527,17 @@ impl Search2 {
     pub fn advance(self, s: Settings2, c: Conditional2) -> Search2
         ensures { λ r. ⌜ r ≡ advance s self c ⌝ }
     {
-        let stage = self.stage;
-        match stage {
-            Stage2::Zero => between(Stage2::Start, 0, c, c),
-            Stage2::Start => begin_round(s, self.seed, 0, c, self.best),
-            Stage2::Trial => {
-                if is_taken(s, self, c) {
-                    return take(s, self, c);
-                }
-                leave(s, self)
-            }
-            Stage2::Found => self,
-            Stage2::Halted(_) => self,
+        match turn_after(s, self, c) {
+            Turn::FirstStart => between(Stage2::Start, 0, c, c),
+            Turn::Rounds(round, from, current) => go_on(
+                s,
+                self.seed,
+                round,
+                from,
+                current,
+                self.best,
+            ),
+            Turn::Ended => self,
         }
     }
 }

@@ -18,13 +18,12 @@ returns : tie.Need-returns
 returns c =
     let known = c .before .before .before .before in
     let asked = known .before .before in
-    goes-down _ _ _ _ _ _ (asked .before .curvature .ensures) (asked .inverse-positive .ensures) (known .det .given .1) (c .before .before .inverse .ensures) (c .before .step-by .ensures) (c .try-from .ensures)
+    goes-down _ _ _ _ (asked .before .curvature .ensures) (asked .inverse-positive .ensures) (known .det .given .1) (c .before .before .inverse .ensures) (c .before .step-by .ensures) (c .try-from .ensures)
 
 returns-2 : tie.Need-returns-2
 returns-2 c =
-    let asked = c .before .before .before in
-    no-inverse _ _ _ _ _ _ (asked .before .curvature .ensures) (asked .inverse-positive .ensures) (c .before .enum-told .given .1) (c .between .ensures)
+    let asked = c .before .before in
+    no-inverse _ _ _ _ (asked .before .curvature .ensures) (asked .inverse-positive .ensures) (c .enum-told .given .1)
 
 pub descend-spec : {M : Type 1} → statement M
-descend-spec =
-    tie.close (tie.spec free free enum-known-det free free try-from-requires enum-told free returns returns-2)
+descend-spec = tie.close (tie.spec free free enum-known-det free free try-from-requires enum-told returns returns-2)
