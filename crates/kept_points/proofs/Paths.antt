@@ -1,8 +1,11 @@
 -- The ways through the code: one law for each, over plain variables. Assumes nothing.
-use mathlib.Core.Path.{_≡_, refl, sym, ap, _∙_}
+use mathlib.Core.Path.{_≡_, refl, sym, ap, subst, _∙_}
+use mathlib.Core.Bool.{Bool, true, false}
 use mathlib.Core.List.{List}
-use Prim.Native.Nat.{ℕ, zero, suc, _-_}
+use Prim.Native.Nat.{ℕ, zero, suc, _-_, _≤_}
 use native.Mathlib.Numerals.{sub-one}
+use native.Mathlib.Omega.{arith}
+use lib.Dec.{T, eqb, eqb→eq}
 use Rattle.matrix.specs.declared.Pair.{Pair}
 use Rattle.evaluation.specs.declared.Sums.{Sums}
 use Rattle.mode.specs.Rules.{advance}
@@ -19,6 +22,7 @@ use Rattle.cache.specs.Cache.{Cache, find, termsOf, copied}
 use Rattle.cache.specs.declared.CacheKey.{CacheKey}
 use Rattle.cache.specs.declared.CachedTerms.{CachedTerms}
 use Rattle.cache.specs.declared.Found.{Found}
+use Rattle.cache.specs.declared.Found.the-variants as F
 use Rattle.subjects.specs.Subjects as B
 use Rattle.subjects.specs.declared.Advanced.{Advanced}
 use Rattle.subjects.specs.declared.Fit.{Fit}
@@ -27,29 +31,37 @@ use Rattle.subjects.specs.declared.Wanted.{Wanted}
 use Rattle.subjects.specs.declared.Wanted.the-variants as Wants
 use Rattle.points.proofs.Paths.{wanted-one, wanted-two, advance-one, advance-two}
 use Rattle.population.specs.Population.{Worked, worked, take}
-use Rattle.kept_points.specs.Through.{keptAt, keptPoint, recalled, taken, taken1, taken2, reached, passed, through, throughFrom, reached1, reached2}
+use Rattle.kept_points.specs.Through.{isOver, etaOf, keptAt, foundAt, keptPoint, recalled, taken, taken1, taken2, reached, passed, through, throughFrom, reached1, reached2}
 use Rattle.kept_points.specs.declared.InHand.{InHand}
 use Rattle.kept_points.specs.declared.InHand.the-variants as Hand
-use Rattle.kept_points.specs.declared.KeptPoint.{KeptPoint}
-use Rattle.kept_points.specs.declared.KeptPoint.the-variants as Point
 use Rattle.kept_points.specs.declared.Reached.{Reached}
 use Rattle.kept_points.specs.declared.Reached1.{Reached1}
 use Rattle.kept_points.specs.declared.Reached2.{Reached2}
 
--- ---- what is kept: x is what is wanted, f what `find` answered
-module _ (fit : Fit) (subject : ℕ) (kept : Cache) {x : Wanted} where
-  pub wants-kept : {eta : Pair} {key : CacheKey} {f v : Found} → x ≡ Wants.Point eta → key ≡ B.keyOf fit subject eta → f ≡ find (kept .words) (fit .k) (kept .order) key → f ≡ v → keptAt eta v ≡ keptPoint fit subject kept x
-  unfolding keptPoint
-  wants-kept {eta} t ek ef ev =
-      ap (keptAt eta) (sym ev ∙ ef ∙ ap (find (kept .words) (fit .k) (kept .order)) ek) ∙ ap (keptPoint fit subject kept) (sym t)
+-- ---- what is wanted: x, which is the variant v
+pub over-at : (n : ℕ) {x v : Wanted} {b : Bool} → x ≡ v → b ≡ isOver n v → b ≡ isOver n x
+over-at n e q = q ∙ ap (isOver n) (sym e)
 
-  pub wants-no-point : {v : Wanted} → x ≡ v → Point.Nothing ≡ keptPoint fit subject kept v → Point.Nothing ≡ keptPoint fit subject kept x
-  wants-no-point t q = q ∙ ap (keptPoint fit subject kept) (sym t)
+pub eta-at : {x v : Wanted} {p : Pair} → x ≡ v → p ≡ etaOf v → p ≡ etaOf x
+eta-at e q = q ∙ ap etaOf (sym e)
 
-pub recalls : (k slot rows : ℕ) (cache work : List ℕ) {to : ℕ} {w : List ℕ} {terms : CachedTerms} {sums : Sums} → to ≡ block rows 3 → w ≡ copied cache k slot rows work to → terms ≡ termsOf cache k slot → sums ≡ B.sumsOf terms → worked sums w ≡ recalled k slot rows cache work
-unfolding recalled
-recalls k slot rows cache work eb ew et es =
-    λ i. worked ((es ∙ ap B.sumsOf et) i) ((ew ∙ ap (copied cache k slot rows work) eb) i)
+-- with a request left and a point wanted
+module _ (fit : Fit) (subject : ℕ) (kept : Cache) where
+  wants-a-point : (n : ℕ) (x : Wanted) → isOver n x ≡ false → keptPoint fit subject kept x ≡ keptAt (etaOf x) (foundAt fit subject kept (etaOf x))
+  unfolding isOver keptPoint etaOf
+  wants-a-point n (Wants.Point eta) t = refl
+  wants-a-point n Wants.Mode t = absurd (subst T t tt)
+  wants-a-point n (Wants.Refused number) t = absurd (subst T t tt)
+
+has-a-request : (n : ℕ) (x : Wanted) → isOver n x ≡ false → n ≡ 0 → ⊥
+unfolding isOver
+has-a-request n (Wants.Point eta) t e = absurd (subst T (sym (ap (λ (m : ℕ). eqb m 0) e) ∙ t) tt)
+has-a-request n Wants.Mode t e = absurd (subst T t tt)
+has-a-request n (Wants.Refused number) t e = absurd (subst T t tt)
+
+pub one-left : (n : ℕ) (x : Wanted) {b : Bool} → b ≡ isOver n x → b ≡ false → 1 ≤ n
+one-left zero x e t = absurd (has-a-request zero x (sym e ∙ t) refl)
+one-left (suc n) x e t = omega arith
 
 -- ---- what is in hand: y is the search afterwards, w the work words
 pub nothing-taken-one : (fit : Fit) (s : Settings) (rows : ℕ) (x : Search) (work : List ℕ) {hand : InHand} → hand ≡ Hand.Nothing → worked x work ≡ taken1 fit s rows hand x work
@@ -122,31 +134,43 @@ module _ (fit : Fit) (rows : ℕ) (kept : Cache) (n : ℕ) (hand : InHand) (prog
   told : worked (record { progress = p; left = n; wanted = wanted }) w ≡ worked (reached fit p n) w
   told = ap (λ (x : Wanted). worked (record { progress = p; left = n; wanted = x }) w) ew
 
-  spent-at : (m : ℕ) → m ≡ 0 → worked (reached fit p m) w ≡ through fit rows kept m p w
-  unfolding through
-  spent-at m e = rw e
+  over-from : (m : ℕ) (x : Wanted) → x ≡ B.wantedBy fit p → isOver m x ≡ true → worked (reached fit p m) w ≡ through fit rows kept m p w
+  unfolding through isOver keptPoint passed
+  over-from zero x e t = refl
+  over-from (suc m) (Wants.Point eta) e t = absurd (let q = eqb→eq (suc m) 0 (subst T (sym t) tt) in omega arith)
+  over-from (suc m) Wants.Mode e t = ap (λ (x : Wanted). passed fit rows kept (suc m) p w (λ p w. through fit rows kept m p w) (keptPoint fit (p .subject) kept x)) e
+  over-from (suc m) (Wants.Refused number) e t = ap (λ (x : Wanted). passed fit rows kept (suc m) p w (λ p w. through fit rows kept m p w) (keptPoint fit (p .subject) kept x)) e
 
-  pub is-spent : n ≡ 0 → Goes (worked (record { progress = p; left = n; wanted = wanted }) w)
-  is-spent e = from-taken (told ∙ spent-at n e)
+  pub is-over : {b : Bool} → b ≡ isOver n wanted → b ≡ true → Goes (worked (record { progress = p; left = n; wanted = wanted }) w)
+  is-over e t = from-taken (told ∙ over-from n wanted ew (sym e ∙ t))
 
-  module _ {point : KeptPoint} (h : n ≡ 0 → ⊥) (ek : point ≡ keptPoint fit (p .subject) kept wanted) where
-    one-more : {v : KeptPoint} (m : ℕ) → (m ≡ 0 → ⊥) → point ≡ v → passed fit rows kept m p w (λ p w. through fit rows kept (m - 1) p w) v ≡ through fit rows kept m p w
+  module _ {b : Bool} {eta : Pair} {f : Found} (eo : b ≡ isOver n wanted) (tb : b ≡ false) (ee : eta ≡ etaOf wanted) (ef : f ≡ foundAt fit (p .subject) kept eta) where
+    point-is : {v : Found} → f ≡ v → keptAt eta v ≡ keptPoint fit (p .subject) kept (B.wantedBy fit p)
+    point-is {v} ev =
+        ap (keptAt eta) (sym ev ∙ ef)
+        ∙ ap (λ (e : Pair). keptAt e (foundAt fit (p .subject) kept e)) ee
+        ∙ sym (wants-a-point fit (p .subject) kept n wanted (sym eo ∙ tb))
+        ∙ ap (keptPoint fit (p .subject) kept) ew
+
+    one-more : (v : Found) (m : ℕ) → (m ≡ 0 → ⊥) → f ≡ v → passed fit rows kept m p w (λ p w. through fit rows kept (m - 1) p w) (keptAt eta v) ≡ through fit rows kept m p w
     unfolding through
-    one-more zero f t = absurd (f refl)
-    one-more {v} (suc m) f t = rw sub-one (ap (passed fit rows kept (suc m) p w (λ p w. through fit rows kept m p w)) (sym t ∙ ek ∙ ap (keptPoint fit (p .subject) kept) ew))
+    one-more v zero h t = absurd (h refl)
+    one-more v (suc m) h t = rw sub-one (ap (passed fit rows kept (suc m) p w (λ p w. through fit rows kept m p w)) (point-is t))
 
-    pub stops : point ≡ Point.Nothing → Goes (worked (record { progress = p; left = n; wanted = wanted }) w)
+    left-over : n ≡ 0 → ⊥
+    left-over = has-a-request n wanted (sym eo ∙ tb)
+
+    pub stops : f ≡ F.Nothing → Goes (worked (record { progress = p; left = n; wanted = wanted }) w)
     unfolding passed
-    stops t = from-taken (told ∙ one-more n h t)
+    stops t = from-taken (told ∙ one-more F.Nothing n left-over t)
 
     -- the kept sums are in hand then
-    pub goes-on : {eta : Pair} {slot : ℕ} {sums : Sums} {v : List ℕ} → point ≡ Point.At eta slot → worked sums v ≡ recalled (fit .k) slot rows (kept .words) w → throughFrom fit rows kept (n - 1) (Hand.Evaluated eta sums) p v ≡ throughFrom fit rows kept n hand progress work
-    unfolding passed throughFrom taken
-    goes-on {eta} {slot} t e =
+    pub goes-on : {slot : ℕ} {sums : Sums} {v : List ℕ} → f ≡ F.At slot → v ≡ copied (kept .words) (fit .k) slot rows w (block rows 3) → sums ≡ B.sumsOf (termsOf (kept .words) (fit .k) slot) → throughFrom fit rows kept (n - 1) (Hand.Evaluated eta sums) p v ≡ throughFrom fit rows kept n hand progress work
+    unfolding passed throughFrom taken recalled
+    goes-on {slot} t ev es =
         from-taken
-        (ap (λ (r : Worked Sums). through fit rows kept (n - 1) (take fit rows p eta (r .value) (r .work) .value) (take fit rows p eta (r .value) (r .work) .work)) e ∙ one-more n h t)
+        ((λ i. through fit rows kept (n - 1) (take fit rows p eta (es i) (ev i) .value) (take fit rows p eta (es i) (ev i) .work)) ∙ one-more (F.At slot) n left-over t)
 
--- ---- a state that awaits a reply has what is in hand taken like one that does not
 taken-idle : (fit : Fit) (rows : ℕ) (hand : InHand) (progress : Progress) (work : List ℕ) → taken fit rows hand (B.idle progress) work ≡ taken fit rows hand progress work
 unfolding taken take B.advanceBy B.advance1 B.advance2 B.settings B.settings2 B.idle B.withSearch
 taken-idle fit rows Hand.Nothing progress work = refl

@@ -1,6 +1,8 @@
 -- The way of a search through kept evaluations: as long as the point that it wants is kept, it goes on with what is kept of it.
+use mathlib.Core.Bool.{Bool, true}
 use mathlib.Core.List.{List}
 use Prim.Native.Nat.{ℕ, zero, suc}
+use lib.Dec.{eqb}
 use Rattle.matrix.specs.declared.Pair.{Pair}
 use Rattle.evaluation.specs.declared.Sums.{Sums}
 use Rattle.mode.specs.Rules.{advance}
@@ -21,23 +23,28 @@ use Rattle.subjects.specs.declared.Wanted.the-variants as Wants
 use Rattle.population.specs.Population.{Worked, worked, take}
 use Rattle.kept_points.specs.declared.InHand.{InHand}
 use Rattle.kept_points.specs.declared.InHand.the-variants as Hand
-use Rattle.kept_points.specs.declared.KeptPoint.{KeptPoint}
-use Rattle.kept_points.specs.declared.KeptPoint.the-variants as Point
 use Rattle.kept_points.specs.declared.Reached.{Reached}
 use Rattle.kept_points.specs.declared.Reached1.{Reached1}
 use Rattle.kept_points.specs.declared.Reached2.{Reached2}
 
 -- ---- what is kept
 
-abbrev pub keptAt : Pair → Found → KeptPoint
-keptAt eta (F.At slot) = Point.At eta slot
-keptAt eta F.Nothing = Point.Nothing
+-- a point that is wanted and kept, with its slot
+pub data KeptPoint : Type 0 where
+  keptIn : Pair → ℕ → KeptPoint
+  notKept : KeptPoint
 
--- the point that is wanted, where it is kept, and its slot
+abbrev pub keptAt : Pair → Found → KeptPoint
+keptAt eta (F.At slot) = keptIn eta slot
+keptAt eta F.Nothing = notKept
+
+abbrev pub foundAt : Fit → ℕ → Cache → Pair → Found
+foundAt fit subject kept eta = find (kept .words) (fit .k) (kept .order) (B.keyOf fit subject eta)
+
 unfoldable pub keptPoint : Fit → ℕ → Cache → Wanted → KeptPoint
-keptPoint fit subject kept (Wants.Point eta) = keptAt eta (find (kept .words) (fit .k) (kept .order) (B.keyOf fit subject eta))
-keptPoint fit subject kept Wants.Mode = Point.Nothing
-keptPoint fit subject kept (Wants.Refused number) = Point.Nothing
+keptPoint fit subject kept (Wants.Point eta) = keptAt eta (foundAt fit subject kept eta)
+keptPoint fit subject kept Wants.Mode = notKept
+keptPoint fit subject kept (Wants.Refused number) = notKept
 
 -- its sums, and the work words with its rows in the trial block
 unfoldable pub recalled : ℕ → ℕ → ℕ → List ℕ → List ℕ → Worked Sums
@@ -65,16 +72,28 @@ taken2 s rows (Hand.Evaluated eta sums) x work =
 
 -- ---- the way
 
+-- no request is left, or no point is wanted
+unfoldable pub isOver : ℕ → Wanted → Bool
+isOver n (Wants.Point eta) = eqb n 0
+isOver n Wants.Mode = true
+isOver n (Wants.Refused number) = true
+
+-- the point that is wanted; zero where none is
+unfoldable pub etaOf : Wanted → Pair
+etaOf (Wants.Point eta) = eta
+etaOf Wants.Mode = R2.of R2.nought R2.nought
+etaOf (Wants.Refused number) = R2.of R2.nought R2.nought
+
 abbrev pub reached : Fit → Progress → ℕ → Reached
 reached fit progress left = record { progress = progress; left = left; wanted = B.wantedBy fit progress }
 
 -- a kept point is gone on with
 unfoldable pub passed : Fit → ℕ → Cache → ℕ → Progress → List ℕ → (Progress → List ℕ → Worked Reached) → KeptPoint → Worked Reached
-passed fit rows kept left progress work go (Point.At eta slot) =
+passed fit rows kept left progress work go (keptIn eta slot) =
     let r = recalled (fit .k) slot rows (kept .words) work in
     let t = take fit rows progress eta (r .value) (r .work) in
     go (t .value) (t .work)
-passed fit rows kept left progress work go Point.Nothing = worked (reached fit progress left) work
+passed fit rows kept left progress work go notKept = worked (reached fit progress left) work
 
 -- through at most n kept evaluations
 unfoldable pub through : Fit → ℕ → Cache → ℕ → Progress → List ℕ → Worked Reached

@@ -2,9 +2,13 @@
 // goes on with what is kept of it. The loop of each number of effects carries the search alone and not
 // the whole objective, since a value is copied wherever it is passed on.
 ghost use mathlib.Core.Path.{_≡_};
+ghost use Rattle.mode_2d.specs.Rules.{of};
+ghost use Rattle.work.specs.Work.{block};
+ghost use Rattle.cache.specs.Cache.{termsOf, copied};
+ghost use Rattle.subjects.specs.Subjects.{sumsOf};
 ghost use Rattle.population.specs.Kept.{cacheOf};
 ghost use Rattle.population.specs.Population.{rowsOf, worked};
-ghost use Rattle.kept_points.specs.Through.{keptPoint, recalled, taken1, taken2, reached1, reached2, throughFrom};
+ghost use Rattle.kept_points.specs.Through.{isOver, etaOf, foundAt, taken1, taken2, reached1, reached2, throughFrom};
 use cache::CacheOrder;
 use cache::Found;
 use evaluation::Sums;
@@ -43,42 +47,61 @@ pub struct Reached2 {
     pub wanted: Wanted,
 }
 
-// A point that is wanted and kept, with its slot.
-pub enum KeptPoint {
-    At(Pair, usize),
-    Nothing,
-}
-
 // ---- what is kept
 
-fn kept_point(
-    fit: Fit,
-    subject: usize,
-    order: CacheOrder,
-    wanted: Wanted,
-    cache: &[u64],
-) -> KeptPoint
-    ensures { λ r. ⌜ r ≡ keptPoint fit subject (cacheOf (now (cache .entry)) order) wanted ⌝ }
+// No request is left, or no point is wanted.
+fn is_over(left: usize, wanted: Wanted) -> bool
+    ensures { λ r. ⌜ r ≡ isOver left wanted ⌝ }
 {
     match wanted {
-        Wanted::Point(eta) => {
-            let key = questions::key_of(fit, subject, eta);
-            match cache::find(cache, fit.k, order, key) {
-                Found::At(slot) => KeptPoint::At(eta, slot),
-                Found::Nothing => KeptPoint::Nothing,
-            }
-        }
-        Wanted::Mode => KeptPoint::Nothing,
-        Wanted::Refused(_) => KeptPoint::Nothing,
+        Wanted::Point(_) => left == 0,
+        Wanted::Mode => true,
+        Wanted::Refused(_) => true,
     }
 }
 
-// The sums of a kept evaluation; its rows go to the trial block.
-fn recall(k: usize, slot: usize, rows: usize, cache: &[u64], work: &mut [u64]) -> Sums
-    ensures { λ r. ⌜ worked r (now (work .exit)) ≡ recalled k slot rows (now (cache .entry)) (now (work .entry)) ⌝ }
+// The point that is wanted; zero where none is.
+fn eta_of(wanted: Wanted) -> Pair
+    ensures { λ r. ⌜ r ≡ etaOf wanted ⌝ }
+{
+    let zero = Pair {
+        first: 0.0,
+        second: 0.0,
+    };
+    match wanted {
+        Wanted::Point(eta) => eta,
+        Wanted::Mode => zero,
+        Wanted::Refused(_) => zero,
+    }
+}
+
+// The slot of the kept evaluation of a point. Both loops call it, so that it is compiled by itself, and two
+// floats are handed over faster than a pair.
+fn kept_at(
+    fit: Fit,
+    subject: usize,
+    order: CacheOrder,
+    first: f64,
+    second: f64,
+    cache: &[u64],
+) -> Found
+    ensures { λ r. ⌜ r ≡ foundAt fit subject (cacheOf (now (cache .entry)) order) (of first second) ⌝ }
+{
+    let key = questions::key_of(fit, subject, Pair { first, second });
+    cache::find(cache, fit.k, order, key)
+}
+
+// The rows of a kept evaluation go to the trial block.
+fn recall_rows(k: usize, slot: usize, rows: usize, cache: &[u64], work: &mut [u64])
+    ensures { λ _. ⌜ now (work .exit) ≡ copied (now (cache .entry)) k slot rows (now (work .entry)) (block rows 3) ⌝ }
 {
     let trial = work::block(rows, work::TRIAL);
     kept_entries::copy_rows(cache, k, slot, rows, work, trial);
+}
+
+fn recall(k: usize, slot: usize, cache: &[u64]) -> Sums
+    ensures { λ r. ⌜ r ≡ sumsOf (termsOf (now (cache .entry)) k slot) ⌝ }
+{
     questions::sums_of(kept_entries::terms_of(cache, k, slot))
 }
 
@@ -126,19 +149,21 @@ fn through_kept_1d(
     'kept: loop {
         search = take_1d(fit, settings, rows, given, search, work);
         let wanted = points::wanted_1d(settings, search);
-        if left == 0 {
+        if is_over(left, wanted) {
             break 'kept Reached1 {
                 search,
                 left,
                 wanted,
             };
         }
-        match kept_point(fit, progress.subject, order, wanted, cache) {
-            KeptPoint::At(eta, slot) => {
+        let eta = eta_of(wanted);
+        match kept_at(fit, progress.subject, order, eta.first, eta.second, cache) {
+            Found::At(slot) => {
                 left -= 1;
-                given = InHand::Evaluated(eta, recall(fit.k, slot, rows, cache, work));
+                recall_rows(fit.k, slot, rows, cache, work);
+                given = InHand::Evaluated(eta, recall(fit.k, slot, cache));
             }
-            KeptPoint::Nothing => {
+            Found::Nothing => {
                 break 'kept Reached1 {
                     search,
                     left,
@@ -192,19 +217,21 @@ fn through_kept_2d(
     'kept: loop {
         search = take_2d(settings, rows, given, search, work);
         let wanted = points::wanted_2d(settings, search);
-        if left == 0 {
+        if is_over(left, wanted) {
             break 'kept Reached2 {
                 search,
                 left,
                 wanted,
             };
         }
-        match kept_point(fit, progress.subject, order, wanted, cache) {
-            KeptPoint::At(eta, slot) => {
+        let eta = eta_of(wanted);
+        match kept_at(fit, progress.subject, order, eta.first, eta.second, cache) {
+            Found::At(slot) => {
                 left -= 1;
-                given = InHand::Evaluated(eta, recall(fit.k, slot, rows, cache, work));
+                recall_rows(fit.k, slot, rows, cache, work);
+                given = InHand::Evaluated(eta, recall(fit.k, slot, cache));
             }
-            KeptPoint::Nothing => {
+            Found::Nothing => {
                 break 'kept Reached2 {
                     search,
                     left,

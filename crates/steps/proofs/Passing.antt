@@ -24,11 +24,9 @@ use Rattle.subjects.specs.declared.Wanted.the-variants as Wants
 use Rattle.population.specs.Kept.{recallAt, words}
 use Rattle.population.specs.Population.{rowsOf, Worked, take, answered, atPoint, Ended, ended, servedBy, served, isOver, turned, Whole, moved, turn, spent, whole}
 use Rattle.population.specs.declared.Turned.the-variants.{On}
-use Rattle.kept_points.specs.Through.{keptAt, keptPoint, recalled, taken, passed, through, throughFrom}
+use Rattle.kept_points.specs.Through.{KeptPoint, keptIn, notKept, keptAt, keptPoint, recalled, taken, passed, through, throughFrom}
 use Rattle.kept_points.specs.declared.InHand.{InHand}
 use Rattle.kept_points.specs.declared.InHand.the-variants as Hand
-use Rattle.kept_points.specs.declared.KeptPoint.{KeptPoint}
-use Rattle.kept_points.specs.declared.KeptPoint.the-variants as Point
 use Rattle.kept_points.specs.declared.Reached.{Reached}
 use Rattle.steps.specs.Steps.{wholeFrom, unkept, cleared}
 use Rattle.steps.proofs.Loops.{loop-on}
@@ -54,9 +52,9 @@ module _ (fit : Fit) (counts : List ℕ) (tally : Tally) (kept : Cache) (p : Pro
   rows = rowsOf counts (p .subject)
 
   Serves : Wanted → KeptPoint → Type 0
-  Serves x (Point.At eta slot) =
+  Serves x (keptIn eta slot) =
       ended (On (next fit rows kept p work eta slot .value)) (next fit rows kept p work eta slot .work) warm results ≡ servedBy words fit counts p tally kept work warm results x
-  Serves x Point.Nothing = unkept fit counts p tally work warm results x ≡ servedBy words fit counts p tally kept work warm results x
+  Serves x notKept = unkept fit counts p tally work warm results x ≡ servedBy words fit counts p tally kept work warm results x
 
   FoundServes : Pair → Found → Type 0
   FoundServes eta f = find (kept .words) (fit .k) (kept .order) (B.keyOf fit (p .subject) eta) ≡ f → Serves (Wants.Point eta) (keptAt eta f)
@@ -78,18 +76,18 @@ module _ (fit : Fit) (counts : List ℕ) (tally : Tally) (kept : Cache) (p : Pro
   serves (Wants.Refused number) = refl
 
   -- nothing is kept of what is wanted
-  pub unkept-served : {x : Wanted} → x ≡ B.wantedBy fit p → keptPoint fit (p .subject) kept x ≡ Point.Nothing → cleared (unkept fit counts p tally work warm results x) ≡ turned words fit counts p tally kept work warm results
+  pub unkept-served : {x : Wanted} → x ≡ B.wantedBy fit p → keptPoint fit (p .subject) kept x ≡ notKept → cleared (unkept fit counts p tally work warm results x) ≡ turned words fit counts p tally kept work warm results
   unfolding Serves cleared turned served
   unkept-served {x} e t =
-      let s : Serves x Point.Nothing = subst (Serves x) t (serves x) in
+      let s : Serves x notKept = subst (Serves x) t (serves x) in
       ap cleared (s ∙ ap (servedBy words fit counts p tally kept work warm results) e)
 
   -- a kept evaluation
-  kept-turns : {eta : Pair} {slot : ℕ} → keptPoint fit (p .subject) kept (B.wantedBy fit p) ≡ Point.At eta slot
+  kept-turns : {eta : Pair} {slot : ℕ} → keptPoint fit (p .subject) kept (B.wantedBy fit p) ≡ keptIn eta slot
       → on (whole (next fit rows kept p work eta slot .value) tally kept (next fit rows kept p work eta slot .work) warm results) ≡ turn words fit counts (whole p tally kept work warm results)
   unfolding Serves turn turned served moved isOver pick cleared
   kept-turns {eta} {slot} t =
-      let s : Serves (B.wantedBy fit p) (Point.At eta slot) = subst (Serves (B.wantedBy fit p)) t (serves (B.wantedBy fit p)) in
+      let s : Serves (B.wantedBy fit p) (keptIn eta slot) = subst (Serves (B.wantedBy fit p)) t (serves (B.wantedBy fit p)) in
       ap (λ (e : Ended). moved words tally kept (cleared e .work) (e .warm) (e .results) (e .turned)) s
 
 -- ---- through kept evaluations
@@ -106,13 +104,13 @@ module _ (fit : Fit) (counts : List ℕ) (tally : Tally) (kept : Cache) (warm re
   same-by : (n : ℕ) (p : Progress) (w : List ℕ) → ((q : Progress) (v : List ℕ) → Same n q v (through fit rows kept n q v))
       → (point : KeptPoint) → keptPoint fit (p .subject) kept (B.wantedBy fit p) ≡ point → Same (suc n) p w (passed fit rows kept (suc n) p w (λ q v. through fit rows kept n q v) point)
   unfolding passed
-  same-by n p w ih (Point.At eta slot) t er =
+  same-by n p w ih (keptIn eta slot) t er =
       let a = next fit rows kept p w eta slot in
       let r = recalled (fit .k) slot rows (kept .words) w in
       ih (a .value) (a .work) (er ∙ ap (rowsOf counts) (take-subject fit rows p eta (r .value) (r .work)))
       ∙ ap (λ (m : ℕ). loop T spent n (whole (next fit m kept p w eta slot .value) tally kept (next fit m kept p w eta slot .work) warm results)) er
       ∙ rw sub-one at (loop-on T spent (whole p tally kept w warm results) (suc n) (kept-turns fit counts tally kept p w warm results t) (λ e. omega (arith, e)))
-  same-by n p w ih Point.Nothing t er = refl
+  same-by n p w ih notKept t er = refl
 
   same : (n : ℕ) (p : Progress) (w : List ℕ) → Same n p w (through fit rows kept n p w)
   unfolding through
@@ -133,17 +131,17 @@ same-loop fit counts tally kept warm results n hand p work e =
 pub record Ends (fit : Fit) (kept : Cache) (n : ℕ) (r : Reached) : Type 0 where
   pub within : r .left ≤ n
   pub wants : r .wanted ≡ B.wantedBy fit (r .progress)
-  pub unkept : (r .left ≡ 0 → ⊥) → keptPoint fit (r .progress .subject) kept (r .wanted) ≡ Point.Nothing
+  pub unkept : (r .left ≡ 0 → ⊥) → keptPoint fit (r .progress .subject) kept (r .wanted) ≡ notKept
 
 module _ (fit : Fit) (kept : Cache) (rows : ℕ) where
   ends-by : (n : ℕ) (p : Progress) (w : List ℕ) → ((q : Progress) (v : List ℕ) → Ends fit kept n (through fit rows kept n q v .value)) → (point : KeptPoint) → keptPoint fit (p .subject) kept (B.wantedBy fit p) ≡ point
       → Ends fit kept (suc n) (passed fit rows kept (suc n) p w (λ q v. through fit rows kept n q v) point .value)
   unfolding passed
-  ends-by n p w ih (Point.At eta slot) t =
+  ends-by n p w ih (keptIn eta slot) t =
       let a = next fit rows kept p w eta slot in
       let e = ih (a .value) (a .work) in
       record { within = omega (arith, e .within); wants = e .wants; unkept = e .unkept }
-  ends-by n p w ih Point.Nothing t = record { within = omega arith; wants = refl; unkept = λ _. t }
+  ends-by n p w ih notKept t = record { within = omega arith; wants = refl; unkept = λ _. t }
 
   ends : (n : ℕ) (p : Progress) (w : List ℕ) → Ends fit kept n (through fit rows kept n p w .value)
   unfolding through

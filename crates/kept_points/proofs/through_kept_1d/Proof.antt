@@ -1,12 +1,13 @@
 -- `through_kept_1d` meets its contract: each turn and each exit by its law. Assumes nothing.
 use borrow.Author.Needs.{needs}
 use mathlib.Core.Path.{refl, _≡_, _∙_}
+use native.Mathlib.Omega.{arith}
 use lib.ListN.{length}
 use Rattle.subjects.specs.Subjects.{withSearch}
 use Rattle.population.specs.Kept.{cacheOf}
 use Rattle.kept_points.specs.Through.{throughFrom}
 use Rattle.float64.proofs.Laws.{free}
-use Rattle.kept_points.proofs.Paths.{one-taken, one-wanted, is-spent, stops, goes-on, from-idle}
+use Rattle.kept_points.proofs.Paths.{one-left, one-taken, one-wanted, is-over, stops, goes-on, from-idle}
 use Rattle.kept_points.proofs.through_kept_1d.Statement.{statement}
 use Rattle.kept_points.proofs.through_kept_1d.Tie as tie
 
@@ -21,61 +22,61 @@ abbrev μ-kept : tie.MeasureT-kept
 kept-holds : tie.Need-kept-holds Inv-kept μ-kept
 kept-holds c = (refl, refl)
 
-enum-known-eta : tie.Need-enum-known-eta Inv-kept μ-kept
-enum-known-eta c = search needs
+enum-known-slot : tie.Need-enum-known-slot Inv-kept μ-kept
+enum-known-slot c = search needs
 
 sub-left : tie.Need-sub-left Inv-kept μ-kept
-sub-left c = search needs
+sub-left c = one-left _ _ (c .before .before .before .before .before .before .is-over .ensures) (c .before .before .before .before .before .if1 .left)
 
 kept-less : tie.Need-kept-less Inv-kept μ-kept
-kept-less c = search needs
+kept-less c = let h = one-left _ _ (c .before .before .before .before .before .before .before .before .before .before .before .is-over .ensures) (c .before .before .before .before .before .before .before .before .before .before .if1 .left) in omega arith
 
 kept-again : tie.Need-kept-again Inv-kept μ-kept
 unfolding withSearch
 kept-again c =
-    let t = c .before .before .before .before .before .before .before .before .before in
+    let t = c .before .before .before .before .before .before .before .before .before .before .before .before in
     let at = t .before .before .before .before .before in
     let here = t .before .before .before .before .before .before in
     let d = here .before .before .before .before in
     let taken = one-taken (d .args .fit) (d .args .rows) (d .args .progress) (d .pre) (here .before .settings .ensures) _ _ _ (t .before .before .before .take-1d .ensures) in
     let wanted = one-wanted (d .args .fit) (d .args .rows) (d .args .progress) (d .pre) (here .before .settings .ensures) _ (t .wanted-1d .ensures) in (
-      goes-on _ _ _ _ _ _ _ taken wanted (c .before .before .before .before .before .before .before .before .if1 .left) (c .before .before .before .before .before .before .before .kept-point .ensures) (c .before .before .before .before .before .eta .given .1) (c .before .before .recall .ensures) ∙ at .kept .inv .0,
-      c .before .before .recall .kept .1 .1 .1 .1 .0 ∙ t .before .before .before .take-1d .kept .1 .1 .1 .1 .1 .0 ∙ at .kept .inv .1,
+      goes-on _ _ _ _ _ _ _ taken wanted (c .before .before .before .before .before .before .before .before .before .before .before .is-over .ensures) (c .before .before .before .before .before .before .before .before .before .before .if1 .left) (c .before .before .before .before .before .before .before .before .before .eta-of .ensures) (c .before .before .before .before .before .before .before .before .kept-at .ensures) (c .before .before .before .before .before .before .slot .given .1) (c .before .before .before .recall-rows .ensures) (c .recall .ensures) ∙ at .kept .inv .0,
+      c .before .before .before .recall-rows .kept .1 .1 .1 .1 .0 ∙ t .before .before .before .take-1d .kept .1 .1 .1 .1 .1 .0 ∙ at .kept .inv .1,
     )
 
 enum-told : tie.Need-enum-told Inv-kept μ-kept
 enum-told c = search needs
 
 same-length : tie.Need-same-length Inv-kept μ-kept
-same-length c = c .before .before .before .before .take-1d .kept .1 .1 .1 .1 .1 .0 ∙ c .before .before .before .before .before .before .kept .inv .1
+same-length c = c .before .before .before .before .before .take-1d .kept .1 .1 .1 .1 .1 .0 ∙ c .before .before .before .before .before .before .before .kept .inv .1
 
 returns : tie.Need-returns Inv-kept μ-kept
 returns c =
-    let t = c .before in
+    let t = c .before .before in
     let at = t .before .before .before .before .before in
     let here = t .before .before .before .before .before .before in
     let d = here .before .before .before .before in
     let taken = one-taken (d .args .fit) (d .args .rows) (d .args .progress) (d .pre) (here .before .settings .ensures) _ _ _ (t .before .before .before .take-1d .ensures) in
     let wanted = one-wanted (d .args .fit) (d .args .rows) (d .args .progress) (d .pre) (here .before .settings .ensures) _ (t .wanted-1d .ensures) in
-    is-spent _ _ _ _ _ _ _ taken wanted (c .if1 .taken) ∙ at .kept .inv .0 ∙ from-idle _ _ _ _ _ _ _
+    is-over _ _ _ _ _ _ _ taken wanted (c .before .is-over .ensures) (c .if1 .taken) ∙ at .kept .inv .0 ∙ from-idle _ _ _ _ _ _ _
 
 same-length-2 : tie.Need-same-length-2 Inv-kept μ-kept
-same-length-2 c = c .before .before .before .before .before .before .before .take-1d .kept .1 .1 .1 .1 .1 .0 ∙ c .before .before .before .before .before .before .before .before .before .kept .inv .1
+same-length-2 c = c .before .before .before .before .before .before .before .before .before .take-1d .kept .1 .1 .1 .1 .1 .0 ∙ c .before .before .before .before .before .before .before .before .before .before .before .kept .inv .1
 
 returns-2 : tie.Need-returns-2 Inv-kept μ-kept
 unfolding withSearch
 returns-2 c =
-    let t = c .before .before .before .before in
+    let t = c .before .before .before .before .before .before in
     let at = t .before .before .before .before .before in
     let here = t .before .before .before .before .before .before in
     let d = here .before .before .before .before in
     let taken = one-taken (d .args .fit) (d .args .rows) (d .args .progress) (d .pre) (here .before .settings .ensures) _ _ _ (t .before .before .before .take-1d .ensures) in
     let wanted = one-wanted (d .args .fit) (d .args .rows) (d .args .progress) (d .pre) (here .before .settings .ensures) _ (t .wanted-1d .ensures) in
-    stops _ _ _ _ _ _ _ taken wanted (c .before .before .before .if1 .left) (c .before .before .kept-point .ensures) (c .enum-told .given .1) ∙ at .kept .inv .0 ∙ from-idle _ _ _ _ _ _ _
+    stops _ _ _ _ _ _ _ taken wanted (c .before .before .before .before .before .is-over .ensures) (c .before .before .before .before .if1 .left) (c .before .before .before .eta-of .ensures) (c .before .before .kept-at .ensures) (c .enum-told .given .1) ∙ at .kept .inv .0 ∙ from-idle _ _ _ _ _ _ _
 
 pub through-kept-1d-spec : {M : Type 1} → statement M
 through-kept-1d-spec =
     tie.close
     (tie.spec
-    Inv-kept μ-kept free kept-holds free free free enum-known-eta sub-left free kept-less kept-again enum-told
+    Inv-kept μ-kept free kept-holds free free free free free enum-known-slot sub-left free free kept-less kept-again enum-told
     same-length returns same-length-2 returns-2)
