@@ -37,14 +37,12 @@ const P4: f64 = -1.65339022054652515390e-06;
 
 const P5: f64 = 4.13813679705723846039e-08;
 
-// a - b as a float.
+// a - b as a float. No branch: whether a variance is below or above 1 is not to be guessed by the
+// processor.
 fn difference(a: u32, b: u32) -> f64
     ensures { λ r. ⌜ r ≡ ofInt binary64 (minus a b) ⌝ }
 {
-    if b <= a {
-        return (a - b) as f64;
-    }
-    -((b - a) as f64)
+    (a as i64 - b as i64) as f64
 }
 
 // The polynomial of log.c at z = s * s.
