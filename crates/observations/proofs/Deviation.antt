@@ -8,13 +8,9 @@ use lib.IntN.{ℤ}
 use lib.Ieee.{Float, nan, inf, fin, binary64, ofBits, fits, isNan, lt, le, eq}
 use lib.Ieee.Bits.{is-true}
 use Rattle.float64.specs.Pick.{yes, no}
-use Rattle.float64.proofs.Order.{zero⁺, le-not-lt, lt-or-ge}
+use Rattle.float64.proofs.Order.{zero⁺, of-none, le-not-lt, lt-or-ge}
 use Rattle.float64.proofs.Largest.{largest, none-above}
 use Rattle.evaluation.specs.Observations.{isNoDeviation}
-
-not-so : (b : Bool) → (T b → ⊥) → b ≡ false
-not-so true h = absurd (h tt)
-not-so false h = refl
 
 under : (s : Bool) (m : ℕ) (e : ℤ) → le zero⁺ (fin s m e) ≡ false → T (lt (fin s m e) zero⁺)
 unfolding isNan
@@ -25,7 +21,7 @@ unfolding isNoDeviation ofBits lt le eq
 not-below nan f h = absurd (subst T (sym h) tt)
 not-below (inf true) f h = absurd (subst T (sym h) tt)
 not-below (inf false) f h = yes _ refl refl
-not-below (fin s m e) f h = no _ refl (none-above s m e f ∙ sym (not-so _ (le-not-lt zero⁺ (fin s m e) (subst T (sym h) tt))))
+not-below (fin s m e) f h = no _ refl (none-above s m e f ∙ sym (of-none _ (le-not-lt zero⁺ (fin s m e) (subst T (sym h) tt))))
 
 pub below : (x : Float) → le zero⁺ x ≡ false → true ≡ isNoDeviation x
 unfolding isNoDeviation ofBits
