@@ -10,7 +10,7 @@
 //
 // Here are the types, and what finds an entry; kept_entries reads what was found, and keeping adds an entry.
 ghost use mathlib.Core.Path.{_≡_};
-ghost use Prim.Native.Nat.{_-_, _≤_, _<_};
+ghost use Prim.Native.Nat.{_-_, _%_, _≤_, _<_};
 ghost use lib.ListN.{getD, set};
 ghost use Rattle.cache.specs.Cache.{half, part, hash, headOf, hasBit, isRoom, isSame, isAt, walk, entryPlace, find};
 
@@ -102,6 +102,19 @@ fn less(a: usize, b: usize) -> usize
         return a - b;
     }
     0
+}
+
+// a modulo b; where b is 0, a itself. A division is dear, and most numbers are below b already.
+pub fn modulo(a: usize, b: usize) -> usize
+    ensures { λ r. ⌜ r ≡ a % b ⌝ }
+{
+    if a < b {
+        return a;
+    }
+    if b == 0 {
+        return a;
+    }
+    a % b
 }
 
 // ---- the hash
@@ -197,7 +210,7 @@ fn entry_place(k: usize, entry: usize) -> usize
     requires { ⌜ (0 < k) × (k ≤ 100000) ⌝ }
     ensures { λ r. ⌜ (r ≡ entryPlace k entry) × (r < 10000000) ⌝ }
 {
-    ENTRIES_FROM * k + 16 * (entry % k)
+    ENTRIES_FROM * k + 16 * modulo(entry, k)
 }
 
 // Whether the entry has this key. The bits of its hash beside the link spare most looks at an entry.
@@ -205,7 +218,7 @@ fn is_at(words: &[u64], k: usize, entry: usize, bits: u64, key: CacheKey) -> boo
     requires { ⌜ (0 < k) × (k ≤ 100000) ⌝ }
     ensures { λ r. ⌜ r ≡ isAt (now (words .entry)) k entry bits key ⌝ }
 {
-    if read(words, k + entry % k) / HALF == bits {
+    if read(words, k + modulo(entry, k)) / HALF == bits {
         return is_same(words, entry_place(k, entry), key);
     }
     false
@@ -232,9 +245,9 @@ fn walk(
         }
         left -= 1;
         if is_at(words, k, entry, bits, key) {
-            return Found::At(entry % k);
+            return Found::At(modulo(entry, k));
         }
-        entry = number(read(words, k + entry % k) % HALF);
+        entry = number(read(words, k + modulo(entry, k)) % HALF);
     }
     Found::Nothing
 }

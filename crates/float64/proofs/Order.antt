@@ -351,9 +351,13 @@ abs-num nan h = absurd h
 abs-num (inf s) h = tt
 abs-num (fin s m e) h = tt
 
--- ---- a comparison that came out true, as a test of the code leaves it
+-- ---- a comparison that came out true, as a test of the code leaves it; and one that cannot hold
 pub of-true : (b : Bool) → b ≡ true → T b
 of-true b e = subst (λ (z : Bool). T z) (sym e) tt
+
+pub of-none : (b : Bool) → (T b → ⊥) → b ≡ false
+of-none true h = absurd (h tt)
+of-none false h = refl
 
 -- ---- what lies between two finite values is finite
 top-not-under : (hi : Float) → T (finite hi) → T (le (inf false) hi) → ⊥

@@ -5,6 +5,10 @@ ghost use lib.Ieee.{binary64, ofBits, toBits};
 ghost use lib.Ieee.Scale.{finite};
 ghost use Rattle.float64.specs.Float64.{abs, max, clamp, nonfinite};
 
+// The largest finite float: above it is only the infinity. A test against the infinity itself would be
+// compiled to many tests of bits.
+pub const LARGEST: f64 = 1.7976931348623157e308;
+
 // The float that a word stands for. Every NaN pattern gives a NaN.
 pub fn from_word(word: u64) -> f64
     ensures { λ r. ⌜ r ≡ ofBits binary64 word ⌝ }

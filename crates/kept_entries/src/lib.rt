@@ -9,6 +9,7 @@ use cache::ENTRIES_FROM;
 use cache::ROW_WORDS;
 use cache::ROWS_FROM;
 use cache::is_room;
+use cache::modulo;
 use cache::read;
 
 fn number(word: u64) -> usize
@@ -21,7 +22,7 @@ fn entry_place(k: usize, entry: usize) -> usize
     requires { ⌜ (0 < k) × (k ≤ 100000) ⌝ }
     ensures { λ r. ⌜ (r ≡ entryPlace k entry) × (r < 10000000) ⌝ }
 {
-    ENTRIES_FROM * k + 16 * (entry % k)
+    ENTRIES_FROM * k + 16 * modulo(entry, k)
 }
 
 // The terms in a slot; all 0 where there is no room.
@@ -78,7 +79,7 @@ fn copy_words(words: &[u64], k: usize, slot: usize, n: usize, out: &mut [u64], t
 {
     let first = number(read(words, entry_place(k, slot) + 15));
     let base = ROWS_FROM * k;
-    let at = ROW_WORDS * (first % k);
+    let at = ROW_WORDS * modulo(first, k);
     let left = ROW_WORDS * k - at;
     if n <= left {
         copy_run(words, base + at, n, out, to);

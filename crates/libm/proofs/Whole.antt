@@ -1,42 +1,69 @@
 -- Whole numbers: as floats, and as the bits of a signed integer. Assumes nothing.
 use mathlib.Core.Path.{_≡_, refl, sym, ap, subst, _∙_}
-use mathlib.Core.Bool.{Bool, false, cond}
-use Prim.Native.Nat.{ℕ, suc, _-_, _^_, _<_, _≤_}
+use mathlib.Core.Bool.{Bool, true, false, cond}
+use Prim.Native.Nat.{ℕ, zero, suc, _-_, _^_, _<_, _≤_, zero-le}
 use native.Mathlib.Nat.{lt-of-lt-of-le}
 use native.Mathlib.Omega.{arith}
-use borrow.Author.Tests.{le-leb, lt-leb, le-ltb}
-use lib.Dec.{T, lit≤, le→leb, lt→ltb}
-use lib.IntN.{ℤ, pos, negsuc, natAbs, _+ℤ_}
+use borrow.Author.Tests.{leb-true, leb-false, le-leb, lt-ltb, le-ltb}
+use lib.Dec.{T, leb, lit≤, le→leb, lt→ltb}
+use lib.IntN.{ℤ, pos, negsuc, natAbs, subℕ, _+ℤ_, _-ℤ_}
 use lib.Signed.{mag}
-use lib.Ieee.{binary64, ofInt, inFloat, minus, neg, round}
+use lib.Ieee.{binary64, inFloat, minus}
 use mir.Syntax.{w64}
 use mir.Val.{SFits, ofZ, toZ}
-use mir.ValLaws.{toZ-ofZ}
-use Rattle.float64.proofs.Rounding.{round-neg}
+use mir.ValLaws.{toZ-ofZ, toZ-pos}
 
--- ---- a difference of two numbers as a float
-pub ofInt-up : (a b : ℕ) → b ≤ a → ofInt binary64 (pos (a - b)) ≡ ofInt binary64 (minus a b)
-ofInt-up a b h = ap (λ (t : Bool). ofInt binary64 (cond t (pos (a - b)) (negsuc (b - suc a)))) (sym (le-leb b a h))
+-- ---- a k of magnitude below 2^32: it is read back from its bits, and a float holds it
+half-fits : (k : ℤ) → mag k < 0x1_0000_0000 → SFits w64 k
+half-fits k h = record { sfits = lt-of-lt-of-le h (lit≤ tt) }
 
-pub ofInt-down : (a b : ℕ) → a < b → neg (ofInt binary64 (pos (b - a))) ≡ ofInt binary64 (minus a b)
-unfolding ofInt
-ofInt-down a b h =
-    let e : b - a ≡ suc (b - suc a) = omega arith in
-    ap (λ (n : ℕ). neg (round binary64 false n 1)) e
-    ∙ sym (round-neg binary64 (suc (b - suc a)) 1)
-    ∙ ap (λ (t : Bool). ofInt binary64 (cond t (pos (a - b)) (negsuc (b - suc a)))) (sym (lt-leb b a h))
+half-back : (k : ℤ) → mag k < 0x1_0000_0000 → toZ w64 (ofZ w64 k) ≡ k
+half-back k h = toZ-ofZ w64 k (half-fits k h)
 
--- ---- a k of magnitude below 1000: it is read back from its bits, a float holds it, and 1023 + k is an exponent's field
-pub small-fits : (k : ℤ) → mag k < 1000 → SFits w64 k
-small-fits k h = record { sfits = lt-of-lt-of-le h (lit≤ tt) }
+half-float : (k : ℤ) → mag k < 0x1_0000_0000 → T (inFloat binary64 k)
+unfolding inFloat
+half-float (pos n) h = le→leb n (2 ^ 53) (omega (arith, lit≤ {m = 0x1_0000_0000} {n = 2 ^ 53} tt))
+half-float (negsuc n) h = lt→ltb n (2 ^ 53) (omega (arith, lit≤ {m = 0x1_0000_0000} {n = 2 ^ 53} tt))
+
+-- ---- the difference of two numbers below 2^32, as the machine has it
+signed : (a b : ℕ) → pos a -ℤ pos b ≡ minus a b
+signed a zero = rw (le-leb 0 a zero-le) (ap pos (omega arith))
+signed a (suc b) = go (leb (suc b) a) (leb-true (suc b) a) (leb-false (suc b) a)
+  where
+    go : (t : Bool) → (t ≡ true → suc b ≤ a) → (t ≡ false → a < suc b)
+        → subℕ a (suc b) ≡ cond t (pos (a - suc b)) (negsuc (suc b - suc a))
+    go true p q = ap (λ (u : Bool). cond u (negsuc (suc b - suc a)) (pos (a - suc b))) (le-ltb a (suc b) (p refl))
+    go false p q = ap (λ (u : Bool). cond u (negsuc (suc b - suc a)) (pos (a - suc b))) (lt-ltb a (suc b) (q refl))
+
+module _ (a b : ℕ) (A : a < 0x1_0000_0000) (B : b < 0x1_0000_0000) where
+  minus-low : mag (minus a b) < 0x1_0000_0000
+  minus-low = go (leb b a)
+    where
+      go : (t : Bool) → mag (cond t (pos (a - b)) (negsuc (b - suc a))) < 0x1_0000_0000
+      go true = omega arith
+      go false = omega arith
+
+  minus-is : toZ w64 a -ℤ toZ w64 b ≡ minus a b
+  minus-is = rw (toZ-pos w64 a (lt-of-lt-of-le A (lit≤ tt)), toZ-pos w64 b (lt-of-lt-of-le B (lit≤ tt))) (signed a b)
+
+  pub minus-fits : SFits w64 (toZ w64 a -ℤ toZ w64 b)
+  minus-fits = rw minus-is (half-fits (minus a b) minus-low)
+
+  pub minus-back : toZ w64 (ofZ w64 (toZ w64 a -ℤ toZ w64 b)) ≡ minus a b
+  minus-back = rw minus-is (half-back (minus a b) minus-low)
+
+  pub minus-float : T (inFloat binary64 (toZ w64 (ofZ w64 (toZ w64 a -ℤ toZ w64 b))))
+  minus-float = rw minus-back (half-float (minus a b) minus-low)
+
+-- ---- a k of magnitude below 1000: so too, and 1023 + k is an exponent's field
+small-half : (k : ℤ) → mag k < 1000 → mag k < 0x1_0000_0000
+small-half k h = lt-of-lt-of-le h (lit≤ tt)
 
 pub small-back : (k : ℤ) → mag k < 1000 → toZ w64 (ofZ w64 k) ≡ k
-small-back k h = toZ-ofZ w64 k (small-fits k h)
+small-back k h = half-back k (small-half k h)
 
 pub small-float : (k : ℤ) → mag k < 1000 → T (inFloat binary64 k)
-unfolding inFloat
-small-float (pos n) h = le→leb n (2 ^ 53) (omega (arith, lit≤ {m = 1000} {n = 2 ^ 53} tt))
-small-float (negsuc n) h = lt→ltb n (2 ^ 53) (omega (arith, lit≤ {m = 1000} {n = 2 ^ 53} tt))
+small-float k h = half-float k (small-half k h)
 
 pub field-is : (k : ℤ) → mag k < 1000 → pos 1023 +ℤ k ≡ pos (natAbs (pos 1023 +ℤ k))
 field-is (pos n) h = refl

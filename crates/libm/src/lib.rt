@@ -6,6 +6,9 @@ ghost use lib.Ieee.{binary64, ofInt, minus};
 ghost use lib.Signed.{mag};
 ghost use Rattle.libm.specs.Log.{remainder, logAround, logOfWord, log};
 ghost use Rattle.libm.specs.Exp.{expPrimary, powerOfTwo, expAround, Within, multiple, expWithin, exp};
+use float64::LARGEST;
+
+const SMALLEST_NORMAL: f64 = 2.2250738585072014e-308;
 
 const LN2_HI: f64 = 6.93147180369123816490e-01;
 
@@ -37,14 +40,12 @@ const P4: f64 = -1.65339022054652515390e-06;
 
 const P5: f64 = 4.13813679705723846039e-08;
 
-// a - b as a float.
+// a - b as a float. No branch: whether a variance is below or above 1 is not to be guessed by the
+// processor.
 fn difference(a: u32, b: u32) -> f64
     ensures { λ r. ⌜ r ≡ ofInt binary64 (minus a b) ⌝ }
 {
-    if b <= a {
-        return (a - b) as f64;
-    }
-    -((b - a) as f64)
+    (a as i64 - b as i64) as f64
 }
 
 // The polynomial of log.c at z = s * s.
@@ -81,10 +82,17 @@ fn log_of_word(word: u64, up: u32) -> f64
     log_around(dk, x)
 }
 
-// The natural logarithm: of zero minus infinity, below zero NaN, of infinity and NaN themselves.
+// The natural logarithm: of zero minus infinity, below zero NaN, of infinity and NaN themselves. A
+// positive normal float comes first, so that no test of a NaN is on its way.
 pub fn log(x: f64) -> f64
     ensures { λ r. ⌜ r ≡ log x ⌝ }
 {
+    if SMALLEST_NORMAL <= x {
+        if x <= LARGEST {
+            return log_of_word(f64::to_bits(x), 0);
+        }
+        return x;
+    }
     let word = float64::to_word(x);
     if word % 0x8000_0000_0000_0000 == 0 {
         return f64::from_bits(0xfff0_0000_0000_0000);
@@ -95,14 +103,8 @@ pub fn log(x: f64) -> f64
     if 0x7ff0_0000_0000_0000 <= word {
         return x;
     }
-    if word == 0x3ff0_0000_0000_0000 {
-        return 0.0;
-    }
-    if word < 0x0010_0000_0000_0000 {
-        // a subnormal: taken up by 2^54 it has all its digits
-        return log_of_word(float64::to_word(x * 18014398509481984.0), 54);
-    }
-    log_of_word(word, 0)
+    // a subnormal: taken up by 2^54 it has all its digits
+    log_of_word(float64::to_word(x * 18014398509481984.0), 54)
 }
 
 // exp of x = hi - lo, for an x of at most ln(2)/2 or so.

@@ -1,6 +1,12 @@
 // A row of a fit with one random effect.
 ghost use mathlib.Core.Path.{_≡_};
+ghost use mathlib.Core.Bool.{true};
+ghost use lib.Ieee.{le};
+ghost use Rattle.float64.specs.Arithmetic.{word};
+ghost use Rattle.float64.specs.Float64.{nonfinite};
+ghost use Rattle.float64.specs.Pick.{pick};
 ghost use Rattle.likelihood.specs.RowTerms.{answer, rowTerms};
+use float64::LARGEST;
 
 pub const LOG_2PI: f64 = 1.8378770664093453;
 
@@ -30,6 +36,17 @@ pub enum Row {
     Overflow,
 }
 
+// The source's two tests of a variance, that it is not finite or is at most 0, in one: a variance is above
+// 0 and up to the largest finite float. A NaN fails the first test.
+pub fn is_no_variance(variance: f64) -> bool
+    ensures { λ r. ⌜ r ≡ pick (nonfinite variance) true (le variance (word 0)) ⌝ }
+{
+    if 0.0 < variance {
+        return LARGEST < variance;
+    }
+    true
+}
+
 // The terms of a row. `additive` is the observation's own, or the one that overrides it.
 pub fn row_terms(observation: Observation, prediction: f64, f_eta: f64, additive: f64) -> Row
     ensures { λ r. ⌜ answer r ≡ rowTerms observation prediction «f_eta» additive ⌝ }
@@ -37,10 +54,7 @@ pub fn row_terms(observation: Observation, prediction: f64, f_eta: f64, additive
     let proportional = observation.proportional;
     let prop = proportional * prediction;
     let variance = additive * additive + prop * prop;
-    if float64::is_nonfinite(variance) {
-        return Row::InvalidVariance;
-    }
-    if variance <= 0.0 {
+    if is_no_variance(variance) {
         return Row::InvalidVariance;
     }
     if float64::is_nonfinite(f_eta) {

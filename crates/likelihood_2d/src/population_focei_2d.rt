@@ -4,6 +4,7 @@ ghost use mathlib.Core.Path.{_≡_};
 ghost use Rattle.likelihood_2d.specs.Row2.{answer, rowVariance, scaledRow, addNll, addScore, addInformation};
 use likelihood::population_focei::LOG_2PI;
 use likelihood::population_focei::Observation;
+use likelihood::population_focei::is_no_variance;
 
 // The answer of row_variance.
 pub enum RowVariance {
@@ -26,10 +27,7 @@ pub fn row_variance(observation: Observation, prediction: f64, f_eta: [f64; 2]) 
 {
     let prop = observation.proportional * prediction;
     let variance = observation.additive * observation.additive + prop * prop;
-    if float64::is_nonfinite(variance) {
-        return RowVariance::Invalid;
-    }
-    if variance <= 0.0 {
+    if is_no_variance(variance) {
         return RowVariance::Invalid;
     }
     if float64::is_nonfinite(prediction) {

@@ -1,5 +1,5 @@
 pub mod Again
-pub mod Largest
+pub mod Deviation
 pub mod Loop
 pub mod Paths
 pub mod Runs

@@ -9,10 +9,8 @@ use evaluation::Check;
 use evaluation::Evaluation;
 use evaluation::Position;
 use evaluation::Trial;
+use float64::LARGEST;
 use likelihood::population_focei::Observation;
-
-// The largest finite float.
-const LARGEST: f64 = 1.7976931348623157e308;
 
 // The one reader of a lent observation.
 fn observation_at(observations: &[Observation], i: usize) -> Observation
@@ -79,8 +77,8 @@ fn is_sound(observation: Observation, width: u32) -> bool
     0.0 < observation.proportional
 }
 
-// A deviation is from 0 up to the largest finite float; a NaN fails the first test. A test against the
-// infinity would be compiled to many tests of bits, and every call of a session checks all observations.
+// A deviation is from 0 up to the largest finite float; a NaN fails the first test. Few tests, since every
+// call of a session checks all observations.
 fn is_no_deviation(deviation: f64) -> bool
     ensures { λ r. ⌜ r ≡ isNoDeviation deviation ⌝ }
 {

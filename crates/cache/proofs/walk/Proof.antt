@@ -28,27 +28,24 @@ sub-left c = search needs
 is-at-requires : tie.Need-is-at-requires Inv-loop μ-loop
 is-at-requires c κs = search needs
 
-rem-t12 : tie.Need-rem-t12 Inv-loop μ-loop
-rem-t12 c = search needs
-
 returns-2 : tie.Need-returns-2 Inv-loop μ-loop
 returns-2 c =
-    let turn = c .before .before .before in
-    walk-hit _ _ _ _ _ _ _ (c .before .before .if1 .left) (turn .loop-test .taken) (c .before .is-at .ensures) (c .if2 .taken) ∙ turn .before .loop .inv
-
-rem-read : tie.Need-rem-read Inv-loop μ-loop
-rem-read c = search needs
+    let test = c .before in
+    let turn = test .before .before .before in
+    rw (c .modulo .ensures) (walk-hit _ _ _ _ _ _ _ (test .before .before .if1 .left) (turn .loop-test .taken) (test .before .is-at .ensures) (test .if2 .taken) ∙ turn .before .loop .inv)
 
 add-read : tie.Need-add-read Inv-loop μ-loop
-add-read c = let turn = c .before .before .before .before in omega (arith, mod-lt (turn .loop .entry) (turn .before .before .pre .0))
+add-read c = let turn = c .before .before .before .before .before in omega (arith, c .modulo2 .ensures, mod-lt (turn .loop .entry) (turn .before .before .pre .0))
 
 loop-less : tie.Need-loop-less Inv-loop μ-loop
 loop-less c = search needs
 
 loop-again : tie.Need-loop-again Inv-loop μ-loop
 loop-again c =
-    let turn = c .before .before .before .before .before in
-    walk-on _ _ _ _ _ _ _ (c .before .before .before .before .if1 .left) (turn .loop-test .taken) (c .before .before .before .is-at .ensures) (c .before .before .if2 .left) (c .before .read .ensures) (c .number .ensures)
+    let r = c .before in
+    let test = r .before .before in
+    let turn = test .before .before .before in
+    walk-on _ _ _ _ _ _ _ (test .before .before .if1 .left) (turn .loop-test .taken) (test .before .is-at .ensures) (test .if2 .left) (rw (r .before .modulo2 .ensures) at (r .read .ensures)) (c .number .ensures)
     ∙ turn .before .loop .inv
 
 returns-3 : tie.Need-returns-3 Inv-loop μ-loop
@@ -58,5 +55,5 @@ pub walk-spec : {M : Type 1} → statement M
 walk-spec =
     tie.close
     (tie.spec
-    Inv-loop μ-loop loop-holds returns sub-left is-at-requires rem-t12 returns-2 rem-read add-read free free
-    loop-less loop-again returns-3)
+    Inv-loop μ-loop loop-holds returns sub-left is-at-requires free returns-2 free add-read free free loop-less
+    loop-again returns-3)

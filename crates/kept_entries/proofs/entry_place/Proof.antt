@@ -3,6 +3,7 @@ use borrow.Author.Needs.{needs}
 use mathlib.Core.Path.{refl}
 use native.Mathlib.Omega.{arith}
 use native.Mathlib.Nat.{mod-lt}
+use Rattle.float64.proofs.Laws.{free}
 use Rattle.cache.specs.Cache.{entryPlace}
 use Rattle.kept_entries.proofs.entry_place.Statement.{statement}
 use Rattle.kept_entries.proofs.entry_place.Tie as tie
@@ -10,18 +11,15 @@ use Rattle.kept_entries.proofs.entry_place.Tie as tie
 mul-result : tie.Need-mul-result
 mul-result c = search needs
 
-rem-result : tie.Need-rem-result
-rem-result c = search needs
-
 mul-result-2 : tie.Need-mul-result-2
-mul-result-2 c = omega (arith, mod-lt (c .args .entry) (c .pre .0))
+mul-result-2 c = omega (arith, c .modulo .ensures, mod-lt (c .before .args .entry) (c .before .pre .0))
 
 add-result : tie.Need-add-result
-add-result c = omega (arith, mod-lt (c .args .entry) (c .pre .0))
+add-result c = omega (arith, c .modulo .ensures, mod-lt (c .before .args .entry) (c .before .pre .0))
 
 returns : tie.Need-returns
 unfolding entryPlace
-returns c = (refl, omega (arith, mod-lt (c .args .entry) (c .pre .0)))
+returns c = rw (c .modulo .ensures) (refl, omega (arith, mod-lt (c .before .args .entry) (c .before .pre .0)))
 
 pub entry-place-spec : {M : Type 1} → statement M
-entry-place-spec = tie.close (tie.spec mul-result rem-result mul-result-2 add-result returns)
+entry-place-spec = tie.close (tie.spec mul-result free mul-result-2 add-result returns)

@@ -2,7 +2,7 @@
 use mathlib.Core.Path.{sym, subst}
 use lib.Dec.{T}
 use lib.Ieee.{ofBits}
-use Rattle.observations.proofs.Largest.{not-below, below}
+use Rattle.observations.proofs.Deviation.{not-below, below}
 use Rattle.observations.proofs.is_no_deviation.Statement.{statement}
 use Rattle.observations.proofs.is_no_deviation.Tie as tie
 

@@ -1,19 +1,17 @@
--- The largest finite float: none is above it but the infinity. So a float is finite and not below 0 where it is from 0 up to the largest. Assumes nothing.
-use mathlib.Core.Path.{_≡_, refl, sym, subst, _∙_}
+-- The largest finite float: none is above it but the infinity. Assumes nothing.
+use mathlib.Core.Path.{_≡_, refl, sym, subst}
 use mathlib.Core.Bool.{Bool, true, false, not, _&&_}
-use mathlib.Core.Logic.{_⊎_, inl, inr}
+use mathlib.Core.Logic.{inl, inr}
 use Prim.Native.Nat.{ℕ, zero, suc, _+_, _-_, _*_, _%_, _^_, _≤_, _<_}
 use native.Mathlib.Nat.{mul-le-mul, mul-le-mul-right, lt-of-mul-lt-mul-right, zero-mul, le-trans}
 use native.Mathlib.Omega.{arith}
 use borrow.Author.Tests.{le-ltb}
 use lib.Dec.{T, ltb, leb, eqb, ltb→lt, nltb→le, lit≤}
 use lib.IntN.{ℤ, pos, negsuc}
-use lib.Ieee.{Float, nan, inf, fin, binary64, ofBits, fits, isNan, up, down, lt, le, eq}
+use lib.Ieee.{Float, nan, inf, fin, binary64, fits, isNan, up, down, lt, le}
 use lib.Ieee.Fits.{and-l, and-r}
 use lib.Pow.{pow-add, pow-pos, pow-mono}
-use Rattle.float64.proofs.Order.{le-not-lt, lt-or-ge}
-use Rattle.float64.specs.Pick.{yes, no}
-use Rattle.evaluation.specs.Observations.{isNoDeviation}
+use Rattle.float64.proofs.Order.{of-true, le-num-r, le-or-gt}
 
 abbrev pub largest : Float
 largest = fin false 9007199254740991 (pos 971)
@@ -59,7 +57,7 @@ up-to-largest m (negsuc k) l h = small m (9007199254740991 * 2 ^ 971) (2 ^ suc k
 nought : (u c : ℕ) → 0 * u * 1 ≤ c
 nought u c = omega (arith, zero-mul u)
 
-none-above : (s : Bool) (m : ℕ) (e : ℤ) → T (fits binary64 (fin s m e)) → lt largest (fin s m e) ≡ false
+pub none-above : (s : Bool) (m : ℕ) (e : ℤ) → T (fits binary64 (fin s m e)) → lt largest (fin s m e) ≡ false
 unfolding lt fits
 none-above true m e f = refl
 none-above false zero e f = le-ltb _ _ (nought (up e) _)
@@ -70,30 +68,10 @@ none-above false (suc m) e f =
     let d = ltb (suc m * up e) (2 ^ 1024 * down e) in
     le-ltb _ _ (up-to-largest (suc m) e (ltb→lt _ _ (and-r a b (and-l (a && b) c (and-l (a && b && c) d f)))) (ltb→lt _ _ (and-r (a && b && c) d f)))
 
-not-so : (b : Bool) → (T b → ⊥) → b ≡ false
-not-so true h = absurd (h tt)
-not-so false h = refl
-
-so : (b : Bool) → T b → b ≡ true
-so true h = refl
-so false h = absurd h
-
-abbrev nil : Float
-nil = fin false 0 (pos 0)
-
-under : (s : Bool) (m : ℕ) (e : ℤ) → le nil (fin s m e) ≡ false → T (lt (fin s m e) nil)
-under s m e h = elim (lt-or-ge (fin s m e) nil (unfold isNan in tt) (unfold isNan in tt)) [ inl g ↦ g | inr g ↦ absurd (subst T h g) ]
-
--- ---- the two exits of `is_no_deviation`
-pub not-below : (x : Float) → T (fits binary64 x) → le nil x ≡ true → lt largest x ≡ isNoDeviation x
-unfolding isNoDeviation ofBits lt le eq
-not-below nan f h = absurd (subst T (sym h) tt)
-not-below (inf true) f h = absurd (subst T (sym h) tt)
-not-below (inf false) f h = yes _ refl refl
-not-below (fin s m e) f h = no _ refl (none-above s m e f ∙ sym (not-so _ (le-not-lt nil (fin s m e) (subst T (sym h) tt))))
-
-pub below : (x : Float) → le nil x ≡ false → true ≡ isNoDeviation x
-unfolding isNoDeviation ofBits
-below nan h = yes _ refl refl
-below (inf s) h = yes _ refl refl
-below (fin s m e) h = no _ refl (sym (so (lt (fin s m e) nil) (under s m e h)))
+-- so a number that is not up to it is the infinity
+pub beyond : (x y : Float) → T (fits binary64 x) → le y x ≡ true → le x largest ≡ false → inf false ≡ x
+unfolding isNan
+beyond nan y f h g = absurd (le-num-r y nan (of-true _ h))
+beyond (inf true) y f h g = absurd (subst T g (unfold le in tt))
+beyond (inf false) y f h g = refl
+beyond (fin s m e) y f h g = elim (le-or-gt (fin s m e) largest tt tt) [ inl k ↦ absurd (subst T g k) | inr k ↦ absurd (subst T (none-above s m e f) k) ]
