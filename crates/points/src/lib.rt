@@ -3,7 +3,7 @@
 // words get their rows. By value, and defined for all values.
 ghost use mathlib.Core.Path.{_≡_};
 ghost use Rattle.float64.specs.Pick.{pick};
-ghost use Rattle.subjects.specs.Subjects.{settings, settings2, wanted1, wanted2, wantedBy, conditional1, conditional2, gridSources, bracketSources, sources1, currentSource, isNewBest, populationSource, sources2, withSearch, advanceBy};
+ghost use Rattle.subjects.specs.Subjects.{settings, settings2, wanted1, wanted2, wantedBy, conditional1, conditional2, gridSources, bracketSources, sources1, currentSource, isNewBest, populationSource, sources2, withSearch};
 use evaluation::Sums;
 use matrix::Pair;
 use mode::population_focei::Conditional;
@@ -16,7 +16,6 @@ use mode_2d::population_focei_2d::Request2;
 use mode_2d::population_focei_2d::Search2;
 use mode_2d::population_focei_2d::Settings2;
 use mode_2d::population_focei_2d::Stage2;
-use subjects::Advanced;
 use subjects::Fit;
 use subjects::Progress;
 use subjects::Wanted;
@@ -238,28 +237,5 @@ pub fn with_search(progress: Progress, search: Search, search_2d: Search2) -> Pr
         search_2d,
         ofv: progress.ofv,
         eta_squares: progress.eta_squares,
-    }
-}
-
-// The search with the evaluation of the point that it asked for.
-pub fn advance_by(fit: Fit, progress: Progress, eta: Pair, sums: Sums) -> Advanced
-    ensures { λ r. ⌜ r ≡ advanceBy fit progress eta sums ⌝ }
-{
-    let search = progress.search;
-    let search_2d = progress.search_2d;
-    if fit.effects == 2 {
-        let settings = settings_2d(fit, progress);
-        let c = conditional_2d(eta, sums);
-        let after = search_2d.advance(settings, c);
-        return Advanced {
-            progress: with_search(progress, search, after),
-            sources: sources_2d(settings, search_2d, after, c),
-        };
-    }
-    let c = conditional(fit, eta, sums);
-    let after = search.advance(settings(fit, progress), c);
-    Advanced {
-        progress: with_search(progress, after, search_2d),
-        sources: sources(search, c),
     }
 }
