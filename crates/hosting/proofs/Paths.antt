@@ -11,10 +11,8 @@ use Rattle.float64.specs.Answer.{Answer, given, refused}
 use Rattle.float64.specs.Pick.{pick, yes, no}
 use Rattle.matrix.specs.declared.Pair.{Pair}
 use Rattle.evaluation.specs.declared.AdditiveSd.{AdditiveSd}
-use Rattle.evaluation.specs.declared.AdditiveSd.the-variants.{Own, Override}
 use Rattle.evaluation.specs.declared.Check.{Check}
 use Rattle.evaluation.specs.declared.Evaluation.{Evaluation}
-use Rattle.admission.specs.declared.Lent.{Lent}
 use Rattle.admission.specs.declared.Parameters.{Parameters}
 use Rattle.admission.specs.declared.Setup.{Setup}
 use Rattle.subjects.specs.declared.Place.{Place}
@@ -24,19 +22,17 @@ use Rattle.subjects.specs.declared.Step.the-variants as Says
 use Rattle.subjects.specs.declared.Tally.{Tally}
 use Rattle.sessions.specs.Machine.{Ran}
 use Rattle.population.specs.Kept.{words}
-use Rattle.session.specs.Calls.{heldOf, called, entered, Setting, begunWith, openedBy, unadmitted, admitReply, finishReply}
+use Rattle.session.specs.Calls.{heldOf, called, entered, Setting, begunWith, openedBy, finishReply}
 use Rattle.session.specs.Session.{Held, enterObjective, enterFailure}
-use Rattle.session.specs.declared.Admitted.{Admitted}
 use Rattle.session.specs.declared.Awaited.{Awaited}
 use Rattle.session.specs.declared.Begun.{Begun}
 use Rattle.session.specs.declared.Called.{Called}
-use Rattle.session.specs.declared.Opening.{Opening}
 use Rattle.session.specs.declared.Opening.the-variants as Opens
 use Rattle.session.specs.declared.State.{State}
 use Rattle.session_words.specs.SessionWords as W
 use Rattle.session_words.specs.declared.LoadedState.{LoadedState}
 use Rattle.session_words.specs.declared.LoadedState.the-variants.{Given, None}
-use Rattle.hosting.specs.Hosting.{additiveSd, setupOf, parametersOf, answerWords, placeWords, answerOf, answered, numberOf, isUnaltered, Told, toldAs, told, noState, openedTo, opened, Out, outOf, out, did, unknown, withState, settled, openWith, objectiveWith, failureWith, admitWith, finishWith}
+use Rattle.hosting.specs.Hosting.{additiveSd, setupOf, parametersOf, answerWords, placeWords, answerOf, answered, numberOf, isUnaltered, toldAs, told, noState, openedTo, opened, Out, outOf, out, did, unknown, withState, openWith, objectiveWith, failureWith, finishWith}
 use Rattle.hosting.specs.declared.AnswerWords.{AnswerWords}
 use Rattle.hosting.specs.declared.Done.{Done}
 use Rattle.hosting.specs.declared.SessionParameters.{SessionParameters}
@@ -189,34 +185,23 @@ module _ (setup : Setup) (counts : List ℕ) (n : ℕ) (check : Check) (tally : 
 pub did-told : (state answer : List ℕ) {c : Called} {r : Done} {s w cache work warm results : List ℕ} {z : Ran (Held words) Step} → called c cache work warm results ≡ z → toldAs r s w ≡ told c state answer → out r s w cache work warm results ≡ did z state answer
 did-told state answer {cache = cache} {work = work} {warm = warm} {results = results} ec et = (λ i. outOf (et i) cache work warm results) ∙ ap (λ (x : Ran (Held words) Step). did x state answer) ec
 
--- x is what `load` answered
+-- ---- what is made of the state of some words, x being what `load` answered of them
 module _ (state : List ℕ) {x : LoadedState} (e : W.answer x ≡ W.loadedState state) where
-  given-is : {s : State} → x ≡ Given s → W.loadedState state ≡ given s
+  pub of-given : {X : Type 0} (f : Answer State → X) {s : State} {z : X} → x ≡ Given s → z ≡ f (given s) → z ≡ f (W.loadedState state)
   unfolding W.answer
-  given-is t = sym e ∙ ap W.answer t
+  of-given f t q = q ∙ ap f (sym (ap W.answer t) ∙ e)
 
-  none-is : x ≡ None → W.loadedState state ≡ refused 19
+  pub of-none : {X : Type 0} (f : Answer State → X) {z : X} → x ≡ None → z ≡ f (refused 19) → z ≡ f (W.loadedState state)
   unfolding W.answer
-  none-is t = sym e ∙ ap W.answer t
+  of-none f t q = q ∙ ap f (sym (ap W.answer t) ∙ e)
 
   pub with-given : (f : State → Out) (other : Out) {s : State} {z : Out} → x ≡ Given s → z ≡ f s → z ≡ withState f other (W.loadedState state)
   unfolding withState
-  with-given f other t q = q ∙ ap (withState f other) (sym (given-is t))
+  with-given f other t q = of-given (withState f other) t q
 
   pub with-none : (f : State → Out) (other : Out) {z : Out} → x ≡ None → z ≡ other → z ≡ withState f other (W.loadedState state)
   unfolding withState
-  with-none f other t q = q ∙ ap (withState f other) (sym (none-is t))
-
-  -- the first part of a reply; own is the setup, a what `admit_reply` of session answered
-  module _ (setup : Setup) (counts : List ℕ) (lent : Lent) (check : Check) (tally : Tally) (reply : List ℕ) {a : Admitted} where
-    pub admit-given : {s : State} {own : Setup} → x ≡ Given s → own ≡ setup → a ≡ admitReply own counts lent check s tally reply → a ≡ admitWith setup counts lent check tally reply (W.loadedState state)
-    unfolding admitWith
-    admit-given {s} t eo ea =
-        ea ∙ ap (λ (o : Setup). admitReply o counts lent check s tally reply) eo ∙ ap (admitWith setup counts lent check tally reply) (sym (given-is t))
-
-    pub admit-none : x ≡ None → a ≡ unadmitted → a ≡ admitWith setup counts lent check tally reply (W.loadedState state)
-    unfolding admitWith
-    admit-none t ea = ea ∙ ap (admitWith setup counts lent check tally reply) (sym (none-is t))
+  with-none f other t q = of-none (withState f other) t q
 
 -- ---- the calls; x is what `load` answered, own and p the setup and the parameters as the code has made them
 module _ (setup : Setup) (counts : List ℕ) (n : ℕ) (check : Check) (tally : Tally) (state answer cache work warm results : List ℕ) where

@@ -18,9 +18,7 @@ use Rattle.mode_2d.specs.declared.population_focei_2d.Conditional2.{Conditional
 use Rattle.mode_2d.specs.declared.population_focei_2d.Search2.{Search2}
 use Rattle.work.specs.Work.{block, moveRows}
 use Rattle.work.specs.declared.Sources.{Sources}
-use Rattle.cache.specs.Cache.{Cache, find, termsOf, copied}
-use Rattle.cache.specs.declared.CacheKey.{CacheKey}
-use Rattle.cache.specs.declared.CachedTerms.{CachedTerms}
+use Rattle.cache.specs.Cache.{Cache, termsOf, copied}
 use Rattle.cache.specs.declared.Found.{Found}
 use Rattle.cache.specs.declared.Found.the-variants as F
 use Rattle.subjects.specs.Subjects as B

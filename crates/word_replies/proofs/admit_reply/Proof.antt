@@ -1,9 +1,9 @@
 -- `admit_reply` meets its contract: each case by its law. Assumes nothing.
+use mathlib.Core.Path.{refl}
 use borrow.Author.Needs.{needs}
 use Rattle.float64.proofs.Laws.{free}
-use mathlib.Core.Path.{refl}
-use Rattle.hosting.specs.Hosting.{setupOf}
-use Rattle.hosting.proofs.Paths.{admit-given, admit-none}
+use Rattle.hosting.specs.Hosting.{setupOf, admitWith}
+use Rattle.hosting.proofs.Paths.{of-given, of-none}
 use Rattle.word_replies.proofs.admit_reply.Statement.{statement}
 use Rattle.word_replies.proofs.admit_reply.Tie as tie
 
@@ -20,10 +20,16 @@ same-length-2 : tie.Need-same-length-2
 same-length-2 c = search needs
 
 returns : tie.Need-returns
-returns c = let d = c .before .before .before .before .before .before .before .before .before .before in (admit-given (d .args .state .now) (c .before .before .before .before .before .load .ensures) (setupOf (d .args .setup)) (d .args .counts .now) (d .args .lent) (d .args .check) (d .args .tally) (d .args .reply .now) (c .before .before .before .at .given .1) (c .before .setup-of .ensures) (c .admit-reply .ensures), refl)
+unfolding admitWith
+returns c =
+    let d = c .before .before .before .before .before .before .before .before .before .before .args in
+    (of-given (d .state .now) (c .before .before .before .before .before .load .ensures) (admitWith (setupOf (d .setup)) (d .counts .now) (d .lent) (d .check) (d .tally) (d .reply .now)) (c .before .before .before .at .given .1) (rw (← c .before .setup-of .ensures) (c .admit-reply .ensures)), refl)
 
 returns-2 : tie.Need-returns-2
-returns-2 c = let d = c .before .before .before .before .before .before .before .before in (admit-none (d .args .state .now) (c .before .before .before .load .ensures) (setupOf (d .args .setup)) (d .args .counts .now) (d .args .lent) (d .args .check) (d .args .tally) (d .args .reply .now) (c .before .enum-told .given .1) (c .unadmitted .ensures), refl)
+unfolding admitWith
+returns-2 c =
+    let d = c .before .before .before .before .before .before .before .before .args in
+    (of-none (d .state .now) (c .before .before .before .load .ensures) (admitWith (setupOf (d .setup)) (d .counts .now) (d .lent) (d .check) (d .tally) (d .reply .now)) (c .before .enum-told .given .1) (c .unadmitted .ensures), refl)
 
 pub admit-reply-spec : {M : Type 1} → statement M
 admit-reply-spec = tie.close (tie.spec free enum-known-at free free enum-told free same-length returns same-length-2 returns-2)
