@@ -5,7 +5,8 @@ use mathlib.Core.List.{List}
 use Prim.Native.Nat.{ℕ, zero, suc, _-_, _≤_}
 use native.Mathlib.Numerals.{sub-one}
 use native.Mathlib.Omega.{arith}
-use lib.Dec.{T, eqb, eqb→eq}
+use borrow.Author.Tests.{ne-eqb}
+use Rattle.float64.specs.Pick.{yes, no, pick-yes, pick-no}
 use Rattle.matrix.specs.declared.Pair.{Pair}
 use Rattle.evaluation.specs.declared.Sums.{Sums}
 use Rattle.mode.specs.Rules.{advance}
@@ -18,7 +19,8 @@ use Rattle.mode_2d.specs.declared.population_focei_2d.Conditional2.{Conditional
 use Rattle.mode_2d.specs.declared.population_focei_2d.Search2.{Search2}
 use Rattle.work.specs.Work.{block, moveRows}
 use Rattle.work.specs.declared.Sources.{Sources}
-use Rattle.cache.specs.Cache.{Cache, termsOf, copied}
+use Rattle.cache.specs.Cache.{Cache, find, termsOf, copied}
+use Rattle.cache.specs.declared.CacheKey.{CacheKey}
 use Rattle.cache.specs.declared.Found.{Found}
 use Rattle.cache.specs.declared.Found.the-variants as F
 use Rattle.subjects.specs.Subjects as B
@@ -29,7 +31,7 @@ use Rattle.subjects.specs.declared.Wanted.{Wanted}
 use Rattle.subjects.specs.declared.Wanted.the-variants as Wants
 use Rattle.points.proofs.Paths.{wanted-one, wanted-two, advance-one, advance-two}
 use Rattle.population.specs.Population.{Worked, worked, take}
-use Rattle.kept_points.specs.Through.{isOver, etaOf, keptAt, foundAt, keptPoint, recalled, taken, taken1, taken2, reached, passed, through, throughFrom, reached1, reached2}
+use Rattle.kept_points.specs.Through.{isOver, etaOf, keptIn, keptAt, foundUnless, keptPoint, recalled, taken, taken1, taken2, reached, passed, through, throughFrom, reached1, reached2}
 use Rattle.kept_points.specs.declared.InHand.{InHand}
 use Rattle.kept_points.specs.declared.InHand.the-variants as Hand
 use Rattle.kept_points.specs.declared.Reached.{Reached}
@@ -43,23 +45,41 @@ over-at n e q = q ∙ ap (isOver n) (sym e)
 pub eta-at : {x v : Wanted} {p : Pair} → x ≡ v → p ≡ etaOf v → p ≡ etaOf x
 eta-at e q = q ∙ ap etaOf (sym e)
 
--- with a request left and a point wanted
+IsNone : Found → Type 0
+IsNone F.Nothing = Unit {0}
+IsNone (F.At slot) = ⊥
+
+none-is-none : {slot : ℕ} → F.Nothing ≡ F.At slot → ⊥
+unfolding IsNone
+none-is-none e = subst IsNone e tt
+
+-- what is found of a point: over is whether it is over
 module _ (fit : Fit) (subject : ℕ) (kept : Cache) where
-  wants-a-point : (n : ℕ) (x : Wanted) → isOver n x ≡ false → keptPoint fit subject kept x ≡ keptAt (etaOf x) (foundAt fit subject kept (etaOf x))
-  unfolding isOver keptPoint etaOf
-  wants-a-point n (Wants.Point eta) t = refl
-  wants-a-point n Wants.Mode t = absurd (subst T t tt)
-  wants-a-point n (Wants.Refused number) t = absurd (subst T t tt)
+  pub none-over : {over : Bool} (eta : Pair) → over ≡ true → F.Nothing ≡ foundUnless over fit subject kept eta
+  unfolding foundUnless
+  none-over eta t = yes _ t refl
 
-has-a-request : (n : ℕ) (x : Wanted) → isOver n x ≡ false → n ≡ 0 → ⊥
-unfolding isOver
-has-a-request n (Wants.Point eta) t e = absurd (subst T (sym (ap (λ (m : ℕ). eqb m 0) e) ∙ t) tt)
-has-a-request n Wants.Mode t e = absurd (subst T t tt)
-has-a-request n (Wants.Refused number) t e = absurd (subst T t tt)
+  pub found-by : {over : Bool} {key : CacheKey} {f : Found} (eta : Pair) → over ≡ false → key ≡ B.keyOf fit subject eta → f ≡ find (kept .words) (fit .k) (kept .order) key → f ≡ foundUnless over fit subject kept eta
+  unfolding foundUnless
+  found-by eta t ek ef = no _ t (ef ∙ ap (find (kept .words) (fit .k) (kept .order)) ek)
 
-pub one-left : (n : ℕ) (x : Wanted) {b : Bool} → b ≡ isOver n x → b ≡ false → 1 ≤ n
-one-left zero x e t = absurd (has-a-request zero x (sym e ∙ t) refl)
-one-left (suc n) x e t = omega arith
+  -- with no request left it is over; with one, what is found says whether the point that is wanted is kept
+  none-left : (x : Wanted) → foundUnless (isOver 0 x) fit subject kept (etaOf x) ≡ F.Nothing
+  unfolding foundUnless isOver
+  none-left (Wants.Point eta) = pick-yes _ _ _ refl
+  none-left Wants.Mode = pick-yes _ _ _ refl
+  none-left (Wants.Refused number) = pick-yes _ _ _ refl
+
+  found-is-kept : (n : ℕ) (x : Wanted) → keptAt (etaOf x) (foundUnless (isOver (suc n) x) fit subject kept (etaOf x)) ≡ keptPoint fit subject kept x
+  unfolding foundUnless isOver etaOf keptPoint
+  found-is-kept n (Wants.Point eta) = ap (keptAt eta) (pick-no _ _ _ (ne-eqb (suc n) 0 (λ e. omega (arith, e))))
+  found-is-kept n Wants.Mode = ap (keptAt (etaOf Wants.Mode)) (pick-yes _ _ _ refl)
+  found-is-kept n (Wants.Refused number) = ap (keptAt (etaOf (Wants.Refused number))) (pick-yes _ _ _ refl)
+
+  -- a request is left where something is found
+  pub one-left : (n : ℕ) (x : Wanted) {over : Bool} {eta : Pair} {f : Found} {slot : ℕ} → over ≡ isOver n x → eta ≡ etaOf x → f ≡ foundUnless over fit subject kept eta → f ≡ F.At slot → 1 ≤ n
+  one-left zero x eo ee ef t = absurd (none-is-none (sym (none-left x) ∙ (λ i. foundUnless (sym eo i) fit subject kept (sym ee i)) ∙ sym ef ∙ t))
+  one-left (suc n) x eo ee ef t = omega arith
 
 -- ---- what is in hand: y is the search afterwards, w the work words
 pub nothing-taken-one : (fit : Fit) (s : Settings) (rows : ℕ) (x : Search) (work : List ℕ) {hand : InHand} → hand ≡ Hand.Nothing → worked x work ≡ taken1 fit s rows hand x work
@@ -132,42 +152,38 @@ module _ (fit : Fit) (rows : ℕ) (kept : Cache) (n : ℕ) (hand : InHand) (prog
   told : worked (record { progress = p; left = n; wanted = wanted }) w ≡ worked (reached fit p n) w
   told = ap (λ (x : Wanted). worked (record { progress = p; left = n; wanted = x }) w) ew
 
-  over-from : (m : ℕ) (x : Wanted) → x ≡ B.wantedBy fit p → isOver m x ≡ true → worked (reached fit p m) w ≡ through fit rows kept m p w
-  unfolding through isOver keptPoint passed
-  over-from zero x e t = refl
-  over-from (suc m) (Wants.Point eta) e t = absurd (let q = eqb→eq (suc m) 0 (subst T (sym t) tt) in omega arith)
-  over-from (suc m) Wants.Mode e t = ap (λ (x : Wanted). passed fit rows kept (suc m) p w (λ p w. through fit rows kept m p w) (keptPoint fit (p .subject) kept x)) e
-  over-from (suc m) (Wants.Refused number) e t = ap (λ (x : Wanted). passed fit rows kept (suc m) p w (λ p w. through fit rows kept m p w) (keptPoint fit (p .subject) kept x)) e
+  module _ {over : Bool} {eta : Pair} {f : Found} (eo : over ≡ isOver n wanted) (ee : eta ≡ etaOf wanted) (ef : f ≡ foundUnless over fit (p .subject) kept eta) where
+    abbrev foundWith : ℕ → Found
+    foundWith m = foundUnless (isOver m wanted) fit (p .subject) kept (etaOf wanted)
 
-  pub is-over : {b : Bool} → b ≡ isOver n wanted → b ≡ true → Goes (worked (record { progress = p; left = n; wanted = wanted }) w)
-  is-over e t = from-taken (told ∙ over-from n wanted ew (sym e ∙ t))
+    found-is : f ≡ foundWith n
+    found-is = ef ∙ (λ i. foundUnless (eo i) fit (p .subject) kept (ee i))
 
-  module _ {b : Bool} {eta : Pair} {f : Found} (eo : b ≡ isOver n wanted) (tb : b ≡ false) (ee : eta ≡ etaOf wanted) (ef : f ≡ foundAt fit (p .subject) kept eta) where
-    point-is : {v : Found} → f ≡ v → keptAt eta v ≡ keptPoint fit (p .subject) kept (B.wantedBy fit p)
-    point-is {v} ev =
-        ap (keptAt eta) (sym ev ∙ ef)
-        ∙ ap (λ (e : Pair). keptAt e (foundAt fit (p .subject) kept e)) ee
-        ∙ sym (wants-a-point fit (p .subject) kept n wanted (sym eo ∙ tb))
-        ∙ ap (keptPoint fit (p .subject) kept) ew
-
-    one-more : (v : Found) (m : ℕ) → (m ≡ 0 → ⊥) → f ≡ v → passed fit rows kept m p w (λ p w. through fit rows kept (m - 1) p w) (keptAt eta v) ≡ through fit rows kept m p w
+    one-more : (m : ℕ) → passed fit rows kept (suc m) p w (λ p w. through fit rows kept m p w) (keptAt (etaOf wanted) (foundWith (suc m))) ≡ through fit rows kept (suc m) p w
     unfolding through
-    one-more v zero h t = absurd (h refl)
-    one-more v (suc m) h t = rw sub-one (ap (passed fit rows kept (suc m) p w (λ p w. through fit rows kept m p w)) (point-is t))
+    one-more m =
+        ap (passed fit rows kept (suc m) p w (λ p w. through fit rows kept m p w)) (found-is-kept fit (p .subject) kept m wanted ∙ ap (keptPoint fit (p .subject) kept) ew)
 
-    left-over : n ≡ 0 → ⊥
-    left-over = has-a-request n wanted (sym eo ∙ tb)
+    stops-from : (m : ℕ) → foundWith m ≡ F.Nothing → worked (reached fit p m) w ≡ through fit rows kept m p w
+    unfolding through passed
+    stops-from zero t = refl
+    stops-from (suc m) t = ap (λ (v : Found). passed fit rows kept (suc m) p w (λ p w. through fit rows kept m p w) (keptAt (etaOf wanted) v)) (sym t) ∙ one-more m
+
+    goes-from : (m slot : ℕ) → foundWith m ≡ F.At slot → passed fit rows kept m p w (λ p w. through fit rows kept (m - 1) p w) (keptIn (etaOf wanted) slot) ≡ through fit rows kept m p w
+    goes-from zero slot t = absurd (none-is-none (sym (none-left fit (p .subject) kept wanted) ∙ t))
+    goes-from (suc m) slot t =
+        rw sub-one
+        (ap (λ (v : Found). passed fit rows kept (suc m) p w (λ p w. through fit rows kept m p w) (keptAt (etaOf wanted) v)) (sym t) ∙ one-more m)
 
     pub stops : f ≡ F.Nothing → Goes (worked (record { progress = p; left = n; wanted = wanted }) w)
-    unfolding passed
-    stops t = from-taken (told ∙ one-more F.Nothing n left-over t)
+    stops t = from-taken (told ∙ stops-from n (sym found-is ∙ t))
 
     -- the kept sums are in hand then
     pub goes-on : {slot : ℕ} {sums : Sums} {v : List ℕ} → f ≡ F.At slot → v ≡ copied (kept .words) (fit .k) slot rows w (block rows 3) → sums ≡ B.sumsOf (termsOf (kept .words) (fit .k) slot) → throughFrom fit rows kept (n - 1) (Hand.Evaluated eta sums) p v ≡ throughFrom fit rows kept n hand progress work
     unfolding passed throughFrom taken recalled
     goes-on {slot} t ev es =
         from-taken
-        ((λ i. through fit rows kept (n - 1) (take fit rows p eta (es i) (ev i) .value) (take fit rows p eta (es i) (ev i) .work)) ∙ one-more (F.At slot) n left-over t)
+        ((λ i. through fit rows kept (n - 1) (take fit rows p (ee i) (es i) (ev i) .value) (take fit rows p (ee i) (es i) (ev i) .work)) ∙ goes-from n slot (sym found-is ∙ t))
 
 taken-idle : (fit : Fit) (rows : ℕ) (hand : InHand) (progress : Progress) (work : List ℕ) → taken fit rows hand (B.idle progress) work ≡ taken fit rows hand progress work
 unfolding taken take B.advanceBy B.advance1 B.advance2 B.settings B.settings2 B.idle B.withSearch

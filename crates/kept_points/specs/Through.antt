@@ -3,6 +3,7 @@ use mathlib.Core.Bool.{Bool, true}
 use mathlib.Core.List.{List}
 use Prim.Native.Nat.{ℕ, zero, suc}
 use lib.Dec.{eqb}
+use Rattle.float64.specs.Pick.{pick}
 use Rattle.matrix.specs.declared.Pair.{Pair}
 use Rattle.evaluation.specs.declared.Sums.{Sums}
 use Rattle.mode.specs.Rules.{advance}
@@ -77,6 +78,10 @@ unfoldable pub isOver : ℕ → Wanted → Bool
 isOver n (Wants.Point eta) = eqb n 0
 isOver n Wants.Mode = true
 isOver n (Wants.Refused number) = true
+
+-- what is found of a point, unless it is over
+unfoldable pub foundUnless : Bool → Fit → ℕ → Cache → Pair → Found
+foundUnless over fit subject kept eta = pick over F.Nothing (foundAt fit subject kept eta)
 
 -- the point that is wanted; zero where none is
 unfoldable pub etaOf : Wanted → Pair

@@ -8,7 +8,7 @@ ghost use Rattle.cache.specs.Cache.{termsOf, copied};
 ghost use Rattle.subjects.specs.Subjects.{sumsOf};
 ghost use Rattle.population.specs.Kept.{cacheOf};
 ghost use Rattle.population.specs.Population.{rowsOf, worked};
-ghost use Rattle.kept_points.specs.Through.{isOver, etaOf, foundAt, taken1, taken2, reached1, reached2, throughFrom};
+ghost use Rattle.kept_points.specs.Through.{isOver, etaOf, foundUnless, taken1, taken2, reached1, reached2, throughFrom};
 use cache::CacheOrder;
 use cache::Found;
 use evaluation::Sums;
@@ -75,9 +75,10 @@ fn eta_of(wanted: Wanted) -> Pair
     }
 }
 
-// The slot of the kept evaluation of a point. Both loops call it, so that it is compiled by itself, and two
-// floats are handed over faster than a pair.
+// The slot of the kept evaluation of a point, unless it is over. Both loops call it, so that it is compiled
+// by itself, and two floats are handed over faster than a pair.
 fn kept_at(
+    over: bool,
     fit: Fit,
     subject: usize,
     order: CacheOrder,
@@ -85,8 +86,11 @@ fn kept_at(
     second: f64,
     cache: &[u64],
 ) -> Found
-    ensures { λ r. ⌜ r ≡ foundAt fit subject (cacheOf (now (cache .entry)) order) (of first second) ⌝ }
+    ensures { λ r. ⌜ r ≡ foundUnless over fit subject (cacheOf (now (cache .entry)) order) (of first second) ⌝ }
 {
+    if over {
+        return Found::Nothing;
+    }
     let key = questions::key_of(fit, subject, Pair { first, second });
     cache::find(cache, fit.k, order, key)
 }
@@ -133,35 +137,29 @@ fn through_kept_1d(
     fit: Fit,
     rows: usize,
     order: CacheOrder,
-    progress: Progress,
+    start: Progress,
     hand: InHand,
     fuel: usize,
     cache: &[u64],
     work: &mut [u64],
 ) -> Reached1
     requires { ⌜ (fit .effects ≡ 2 → ⊥) ⌝ }
-    ensures { λ r. ⌜ worked (reached1 progress r) (now (work .exit)) ≡ throughFrom fit rows (cacheOf (now (cache .entry)) order) fuel hand progress (now (work .entry)) ⌝ }
+    ensures { λ r. ⌜ worked (reached1 start r) (now (work .exit)) ≡ throughFrom fit rows (cacheOf (now (cache .entry)) order) fuel hand start (now (work .entry)) ⌝ }
 {
-    let settings = points::settings(fit, progress);
-    let mut search = progress.search;
+    let settings = points::settings(fit, start);
+    let mut search = start.search;
     let mut left = fuel;
     let mut given = hand;
     'kept: loop {
         search = take_1d(fit, settings, rows, given, search, work);
         let wanted = points::wanted_1d(settings, search);
-        if is_over(left, wanted) {
-            break 'kept Reached1 {
-                search,
-                left,
-                wanted,
-            };
-        }
-        let eta = eta_of(wanted);
-        match kept_at(fit, progress.subject, order, eta.first, eta.second, cache) {
+        let over = is_over(left, wanted);
+        let at = eta_of(wanted);
+        match kept_at(over, fit, start.subject, order, at.first, at.second, cache) {
             Found::At(slot) => {
                 left -= 1;
                 recall_rows(fit.k, slot, rows, cache, work);
-                given = InHand::Evaluated(eta, recall(fit.k, slot, cache));
+                given = InHand::Evaluated(at, recall(fit.k, slot, cache));
             }
             Found::Nothing => {
                 break 'kept Reached1 {
@@ -201,35 +199,29 @@ fn through_kept_2d(
     fit: Fit,
     rows: usize,
     order: CacheOrder,
-    progress: Progress,
+    start: Progress,
     hand: InHand,
     fuel: usize,
     cache: &[u64],
     work: &mut [u64],
 ) -> Reached2
     requires { ⌜ fit .effects ≡ 2 ⌝ }
-    ensures { λ r. ⌜ worked (reached2 progress r) (now (work .exit)) ≡ throughFrom fit rows (cacheOf (now (cache .entry)) order) fuel hand progress (now (work .entry)) ⌝ }
+    ensures { λ r. ⌜ worked (reached2 start r) (now (work .exit)) ≡ throughFrom fit rows (cacheOf (now (cache .entry)) order) fuel hand start (now (work .entry)) ⌝ }
 {
-    let settings = points::settings_2d(fit, progress);
-    let mut search = progress.search_2d;
+    let settings = points::settings_2d(fit, start);
+    let mut search = start.search_2d;
     let mut left = fuel;
     let mut given = hand;
     'kept: loop {
         search = take_2d(settings, rows, given, search, work);
         let wanted = points::wanted_2d(settings, search);
-        if is_over(left, wanted) {
-            break 'kept Reached2 {
-                search,
-                left,
-                wanted,
-            };
-        }
-        let eta = eta_of(wanted);
-        match kept_at(fit, progress.subject, order, eta.first, eta.second, cache) {
+        let over = is_over(left, wanted);
+        let at = eta_of(wanted);
+        match kept_at(over, fit, start.subject, order, at.first, at.second, cache) {
             Found::At(slot) => {
                 left -= 1;
                 recall_rows(fit.k, slot, rows, cache, work);
-                given = InHand::Evaluated(eta, recall(fit.k, slot, cache));
+                given = InHand::Evaluated(at, recall(fit.k, slot, cache));
             }
             Found::Nothing => {
                 break 'kept Reached2 {

@@ -1,10 +1,14 @@
--- `kept_at` meets its contract. Assumes nothing.
+-- `kept_at` meets its contract: each exit by its law. Assumes nothing.
 use Rattle.float64.proofs.Laws.{free}
+use Rattle.kept_points.proofs.Paths.{none-over, found-by}
 use Rattle.kept_points.proofs.kept_at.Statement.{statement}
 use Rattle.kept_points.proofs.kept_at.Tie as tie
 
 returns : tie.Need-returns
-returns c = rw (← c .before .key-of .ensures) (c .find .ensures)
+returns c = none-over _ _ _ _ (c .if1 .taken)
+
+returns-2 : tie.Need-returns-2
+returns-2 c = found-by _ _ _ _ (c .before .before .if1 .left) (c .before .key-of .ensures) (c .find .ensures)
 
 pub kept-at-spec : {M : Type 1} → statement M
-kept-at-spec = tie.close (tie.spec free free returns)
+kept-at-spec = tie.close (tie.spec returns free free returns-2)

@@ -1,4 +1,4 @@
--- `through_kept_2d` meets its contract: each turn and each exit by its law. Assumes nothing.
+-- `through_kept_2d` meets its contract: each turn and the exit by its law. Assumes nothing.
 use borrow.Author.Needs.{needs}
 use mathlib.Core.Path.{refl, _≡_, _∙_}
 use native.Mathlib.Omega.{arith}
@@ -7,17 +7,17 @@ use Rattle.subjects.specs.Subjects.{withSearch}
 use Rattle.population.specs.Kept.{cacheOf}
 use Rattle.kept_points.specs.Through.{throughFrom}
 use Rattle.float64.proofs.Laws.{free}
-use Rattle.kept_points.proofs.Paths.{one-left, two-taken, two-wanted, is-over, stops, goes-on, from-idle}
+use Rattle.kept_points.proofs.Paths.{one-left, two-taken, two-wanted, stops, goes-on, from-idle}
 use Rattle.kept_points.proofs.through_kept_2d.Statement.{statement}
 use Rattle.kept_points.proofs.through_kept_2d.Tie as tie
 
 abbrev Inv-kept : tie.InvT-kept
-Inv-kept fit rows order progress fuel cache work₀ settings search₀ left₀ given₀ work search left given =
-    (throughFrom fit rows (cacheOf cache order) left given (withSearch progress (progress .search) search) work ≡ throughFrom fit rows (cacheOf cache order) left₀ given₀ (withSearch progress (progress .search) search₀) work₀)
+Inv-kept fit rows order start fuel cache work₀ settings search₀ left₀ given₀ work search left given =
+    (throughFrom fit rows (cacheOf cache order) left given (withSearch start (start .search) search) work ≡ throughFrom fit rows (cacheOf cache order) left₀ given₀ (withSearch start (start .search) search₀) work₀)
     × (length work ≡ length work₀)
 
 abbrev μ-kept : tie.MeasureT-kept
-μ-kept fit rows order progress fuel cache work₀ settings search₀ left₀ given₀ work search left given = left
+μ-kept fit rows order start fuel cache work₀ settings search₀ left₀ given₀ work search left given = left
 
 kept-holds : tie.Need-kept-holds Inv-kept μ-kept
 kept-holds c = (refl, refl)
@@ -26,21 +26,22 @@ enum-known-slot : tie.Need-enum-known-slot Inv-kept μ-kept
 enum-known-slot c = search needs
 
 sub-left : tie.Need-sub-left Inv-kept μ-kept
-sub-left c = one-left _ _ (c .before .before .before .before .before .before .is-over .ensures) (c .before .before .before .before .before .if1 .left)
+sub-left c = one-left _ _ _ _ _ (c .before .before .before .before .before .is-over .ensures) (c .before .before .before .before .eta-of .ensures) (c .before .before .before .kept-at .ensures) (c .before .slot .given .1)
 
 kept-less : tie.Need-kept-less Inv-kept μ-kept
-kept-less c = let h = one-left _ _ (c .before .before .before .before .before .before .before .before .before .before .before .is-over .ensures) (c .before .before .before .before .before .before .before .before .before .before .if1 .left) in omega arith
+kept-less c =
+    let h = one-left _ _ _ _ _ (c .before .before .before .before .before .before .before .before .before .before .is-over .ensures) (c .before .before .before .before .before .before .before .before .before .eta-of .ensures) (c .before .before .before .before .before .before .before .before .kept-at .ensures) (c .before .before .before .before .before .before .slot .given .1) in omega arith
 
 kept-again : tie.Need-kept-again Inv-kept μ-kept
 unfolding withSearch
 kept-again c =
-    let t = c .before .before .before .before .before .before .before .before .before .before .before .before in
+    let t = c .before .before .before .before .before .before .before .before .before .before .before in
     let at = t .before .before .before .before .before in
     let here = t .before .before .before .before .before .before in
     let d = here .before .before .before .before in
-    let taken = two-taken (d .args .fit) (d .args .rows) (d .args .progress) (d .pre) (here .before .settings-2d .ensures) _ _ _ (t .before .before .before .take-2d .ensures) in
-    let wanted = two-wanted (d .args .fit) (d .args .rows) (d .args .progress) (d .pre) (here .before .settings-2d .ensures) _ (t .wanted-2d .ensures) in (
-      goes-on _ _ _ _ _ _ _ taken wanted (c .before .before .before .before .before .before .before .before .before .before .before .is-over .ensures) (c .before .before .before .before .before .before .before .before .before .before .if1 .left) (c .before .before .before .before .before .before .before .before .before .eta-of .ensures) (c .before .before .before .before .before .before .before .before .kept-at .ensures) (c .before .before .before .before .before .before .slot .given .1) (c .before .before .before .recall-rows .ensures) (c .recall .ensures) ∙ at .kept .inv .0,
+    let taken = two-taken (d .args .fit) (d .args .rows) (d .args .start) (d .pre) (here .before .settings-2d .ensures) _ _ _ (t .before .before .before .take-2d .ensures) in
+    let wanted = two-wanted (d .args .fit) (d .args .rows) (d .args .start) (d .pre) (here .before .settings-2d .ensures) _ (t .wanted-2d .ensures) in (
+      goes-on _ _ _ _ _ _ _ taken wanted (c .before .before .before .before .before .before .before .before .before .before .is-over .ensures) (c .before .before .before .before .before .before .before .before .before .eta-of .ensures) (c .before .before .before .before .before .before .before .before .kept-at .ensures) (c .before .before .before .before .before .before .slot .given .1) (c .before .before .before .recall-rows .ensures) (c .recall .ensures) ∙ at .kept .inv .0,
       c .before .before .before .recall-rows .kept .1 .1 .1 .1 .0 ∙ t .before .before .before .take-2d .kept .1 .1 .1 .1 .0 ∙ at .kept .inv .1,
     )
 
@@ -48,35 +49,22 @@ enum-told : tie.Need-enum-told Inv-kept μ-kept
 enum-told c = search needs
 
 same-length : tie.Need-same-length Inv-kept μ-kept
-same-length c = c .before .before .before .before .before .take-2d .kept .1 .1 .1 .1 .0 ∙ c .before .before .before .before .before .before .before .kept .inv .1
+same-length c = c .before .before .before .before .before .before .before .before .take-2d .kept .1 .1 .1 .1 .0 ∙ c .before .before .before .before .before .before .before .before .before .before .kept .inv .1
 
 returns : tie.Need-returns Inv-kept μ-kept
-returns c =
-    let t = c .before .before in
-    let at = t .before .before .before .before .before in
-    let here = t .before .before .before .before .before .before in
-    let d = here .before .before .before .before in
-    let taken = two-taken (d .args .fit) (d .args .rows) (d .args .progress) (d .pre) (here .before .settings-2d .ensures) _ _ _ (t .before .before .before .take-2d .ensures) in
-    let wanted = two-wanted (d .args .fit) (d .args .rows) (d .args .progress) (d .pre) (here .before .settings-2d .ensures) _ (t .wanted-2d .ensures) in
-    is-over _ _ _ _ _ _ _ taken wanted (c .before .is-over .ensures) (c .if1 .taken) ∙ at .kept .inv .0 ∙ from-idle _ _ _ _ _ _ _
-
-same-length-2 : tie.Need-same-length-2 Inv-kept μ-kept
-same-length-2 c = c .before .before .before .before .before .before .before .before .before .take-2d .kept .1 .1 .1 .1 .0 ∙ c .before .before .before .before .before .before .before .before .before .before .before .kept .inv .1
-
-returns-2 : tie.Need-returns-2 Inv-kept μ-kept
 unfolding withSearch
-returns-2 c =
-    let t = c .before .before .before .before .before .before in
+returns c =
+    let t = c .before .before .before .before .before in
     let at = t .before .before .before .before .before in
     let here = t .before .before .before .before .before .before in
     let d = here .before .before .before .before in
-    let taken = two-taken (d .args .fit) (d .args .rows) (d .args .progress) (d .pre) (here .before .settings-2d .ensures) _ _ _ (t .before .before .before .take-2d .ensures) in
-    let wanted = two-wanted (d .args .fit) (d .args .rows) (d .args .progress) (d .pre) (here .before .settings-2d .ensures) _ (t .wanted-2d .ensures) in
-    stops _ _ _ _ _ _ _ taken wanted (c .before .before .before .before .before .is-over .ensures) (c .before .before .before .before .if1 .left) (c .before .before .before .eta-of .ensures) (c .before .before .kept-at .ensures) (c .enum-told .given .1) ∙ at .kept .inv .0 ∙ from-idle _ _ _ _ _ _ _
+    let taken = two-taken (d .args .fit) (d .args .rows) (d .args .start) (d .pre) (here .before .settings-2d .ensures) _ _ _ (t .before .before .before .take-2d .ensures) in
+    let wanted = two-wanted (d .args .fit) (d .args .rows) (d .args .start) (d .pre) (here .before .settings-2d .ensures) _ (t .wanted-2d .ensures) in
+    stops _ _ _ _ _ _ _ taken wanted (c .before .before .before .before .is-over .ensures) (c .before .before .before .eta-of .ensures) (c .before .before .kept-at .ensures) (c .enum-told .given .1) ∙ at .kept .inv .0 ∙ from-idle _ _ _ _ _ _ _
 
 pub through-kept-2d-spec : {M : Type 1} → statement M
 through-kept-2d-spec =
     tie.close
     (tie.spec
     Inv-kept μ-kept free kept-holds free free free free free enum-known-slot sub-left free free kept-less kept-again enum-told
-    same-length returns same-length-2 returns-2)
+    same-length returns)
