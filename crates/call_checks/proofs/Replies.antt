@@ -3,7 +3,7 @@ use mathlib.Core.Path.{_≡_, refl, sym, ap, _∙_}
 use mathlib.Core.Bool.{Bool, true, false}
 use mathlib.Core.List.{List}
 use Prim.Native.Nat.{ℕ, _+_}
-use Rattle.float64.specs.Pick.{pick, yes, no, yesOf, noOf, cases}
+use Rattle.float64.specs.Pick.{yes, no, yesOf, noOf, pick-through}
 use Rattle.matrix.specs.declared.Pair.{Pair}
 use Rattle.evaluation.specs.Observations.{smaller}
 use Rattle.evaluation.specs.Subject.{begin}
@@ -70,13 +70,9 @@ module _ (setup : Setup) (counts : List ℕ) (lent : Lent) (check : Check) (stat
   at-wanted Wants.Mode = refl
   at-wanted (Wants.Refused number) = refl
 
-  -- a function of a pick
-  through : {X Y : Type 0} (f : X → Y) (b : Bool) {x y : X} {p q : Y} → f x ≡ p → f y ≡ q → f (pick b x y) ≡ pick b p q
-  through f b {p = p} {q = q} ep eq = cases (λ v. f v ≡ pick b p q) b (λ t. yes _ t ep) (λ t. no _ t eq)
-
   pub whole-awaited : awaitedFor tested (awaitedPoint setup counts (lent .observations) state tally) ≡ admitAwaited setup counts lent check state tally
   unfolding awaitedPoint awaitedFor admitAwaited
-  whole-awaited = through (awaitedFor tested) (state .progress .awaits) (through (awaitedFor tested) (isStanding setup counts (lent .observations) tally (state .progress)) (at-wanted _) refl) refl
+  whole-awaited = pick-through (awaitedFor tested) (state .progress .awaits) (λ _. pick-through (awaitedFor tested) (isStanding setup counts (lent .observations) tally (state .progress)) (λ _. at-wanted _) refl) refl
 
   pub awaited-by : {wanted : Wanted} {own : Setup} {a : Admission} {r : Awaited} → wanted ≡ awaitedPoint setup counts (lent .observations) state tally → own ≡ withParameters setup (state .parameters) → a ≡ checks own counts lent check → r ≡ awaitedFor a wanted
       → r ≡ admitAwaited setup counts lent check state tally

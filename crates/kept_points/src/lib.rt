@@ -103,6 +103,7 @@ fn recall_rows(k: usize, slot: usize, rows: usize, cache: &[u64], work: &mut [u6
     kept_entries::copy_rows(cache, k, slot, rows, work, trial);
 }
 
+// Its sums.
 fn recall(k: usize, slot: usize, cache: &[u64]) -> Sums
     ensures { λ r. ⌜ r ≡ sumsOf (termsOf (now (cache .entry)) k slot) ⌝ }
 {

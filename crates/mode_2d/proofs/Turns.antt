@@ -1,11 +1,11 @@
 -- Where the code goes on after an evaluated point is where the rules do. Assumes nothing.
 use mathlib.Core.Path.{_≡_, refl, ap, _∙_}
-use mathlib.Core.Bool.{Bool, true, false}
+use mathlib.Core.Bool.{true}
 use Prim.Native.Nat.{ℕ, _+_, _<_}
 use native.Mathlib.Omega.{arith}
 use borrow.Author.Tests.{lt-ltb, ltb-true}
 use lib.Dec.{ltb}
-use Rattle.float64.specs.Pick.{pick, pick-yes, pick-no}
+use Rattle.float64.specs.Pick.{pick-yes, pick-no, pick-through}
 use Rattle.matrix.specs.Matrix.{Inverse, some, none, inversePositive}
 use Rattle.mode_2d.specs.declared.population_focei_2d.Settings2.{Settings2}
 use Rattle.mode_2d.specs.declared.population_focei_2d.Conditional2.{Conditional2}
@@ -18,19 +18,7 @@ use Rattle.mode_2d.specs.declared.population_focei_2d.Turn.the-variants.
 use Rattle.mode_2d.specs.declared.population_focei_2d.Onward.{Onward}
 use Rattle.mode_2d.specs.declared.population_focei_2d.Onward.the-variants.{Over}
 use Rattle.mode_2d.specs.Rules.{curvature, trying, between, finish, tryFrom, descendBy, descend, beginRound, take, leave, advanceAt}
-use Rattle.mode_2d.specs.Turns.{over, beginning, taking, leaving, turnAt, tried, descendedBy, descended, proceeded, goneOnBy, goneOn}
-
--- a function of what is picked
-pick-of : {X Y : Type 0} (f : X → Y) (b : Bool) (x y : X) → f (pick b x y) ≡ pick b (f x) (f y)
-unfolding pick
-pick-of f true x y = refl
-pick-of f false x y = refl
-
--- the same cases, where the first may use its test
-pick-by : {X : Type 0} (b : Bool) {x z y w : X} → (b ≡ true → x ≡ z) → y ≡ w → pick b x y ≡ pick b z w
-unfolding pick
-pick-by true p q = p refl
-pick-by false p q = q
+use Rattle.mode_2d.specs.Turns.{beginning, taking, leaving, turnAt, tried, descendedBy, descended, proceeded, goneOnBy, goneOn}
 
 -- ---- through the rounds
 
@@ -40,7 +28,7 @@ module _ (s : Settings2) (seed : ℕ) (c best : Conditional2) where
 
   tries : (round from : ℕ) (step : NewtonStep) → by (tried (s .«eta_bound») round from step) ≡ tryFrom s seed round from c best step
   unfolding tried tryFrom goneOnBy trying
-  tries round from step = pick-of by _ _ Over
+  tries round from step = pick-through by _ (λ _. refl) refl
 
   descends : (i : Inverse) (round from : ℕ) → by (descendedBy i s round from c) ≡ descendBy i s seed round from c best
   unfolding descendedBy descendBy goneOnBy
@@ -67,20 +55,17 @@ module _ (s : Settings2) (x : Search2) (c : Conditional2) where
   begins : (round : ℕ) → then (beginning s round c) ≡ beginRound s (x .seed) round c (x .best)
   unfolding beginning beginRound
   begins round =
-      pick-of then _ (over c) (Rounds round 0 c)
-      ∙ pick-by _ (λ _. at-end s (x .seed) c (x .best) 0) (in-round s (x .seed) c (x .best) round 0 (omega arith))
+      pick-through then _ (λ _. at-end s (x .seed) c (x .best) 0) (in-round s (x .seed) c (x .best) round 0 (omega arith))
 
   takes : then (taking s x c) ≡ take s x c
   unfolding taking take
   takes =
-      pick-of then _ (beginning s (x .round + 1) c) (over c)
-      ∙ pick-by _ (λ _. begins (x .round + 1)) (at-end s (x .seed) c (x .best) 0)
+      pick-through then _ (λ _. begins (x .round + 1)) (at-end s (x .seed) c (x .best) 0)
 
   leaves : then (leaving x) ≡ leave s x
   unfolding leaving leave
   leaves =
-      pick-of then _ (Rounds (x .round) (x .reduction + 1) (x .current)) (over (x .current))
-      ∙ pick-by _ (λ (e : ltb (x .reduction) 21 ≡ true). in-round s (x .seed) (x .current) (x .best) (x .round) (x .reduction + 1) (let h = ltb-true (x .reduction) 21 e in omega arith))
+      pick-through then _ (λ (e : ltb (x .reduction) 21 ≡ true). in-round s (x .seed) (x .current) (x .best) (x .round) (x .reduction + 1) (let h = ltb-true (x .reduction) 21 e in omega arith))
       (at-end s (x .seed) (x .current) (x .best) 0)
 
   -- it is the search after the point
@@ -88,6 +73,6 @@ module _ (s : Settings2) (x : Search2) (c : Conditional2) where
   unfolding turnAt advanceAt
   turned At.Zero = refl
   turned At.Start = begins 0
-  turned At.Trial = pick-of then _ (taking s x c) (leaving x) ∙ pick-by _ (λ _. takes) leaves
+  turned At.Trial = pick-through then _ (λ _. takes) leaves
   turned At.Found = refl
   turned (At.Halted number) = refl

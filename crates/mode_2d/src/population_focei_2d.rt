@@ -389,6 +389,7 @@ fn descend(s: Settings2, round: u32, from: u32, c: Conditional2) -> Onward
     }
 }
 
+// What the rounds do from there on.
 fn proceed(s: Settings2, round: u32, from: u32, c: Conditional2) -> Onward
     ensures { λ r. ⌜ r ≡ proceeded s round from c ⌝ }
 {
@@ -464,6 +465,7 @@ fn leave(x: Search2) -> Turn
     over(current)
 }
 
+// Which way `advance` goes, by the stage.
 fn turn_after(s: Settings2, x: Search2, c: Conditional2) -> Turn
     ensures { λ r. ⌜ r ≡ turnAfter s x c ⌝ }
 {

@@ -1,10 +1,10 @@
 -- The ways through the code: one law for each, over plain variables. Assumes nothing.
 use mathlib.Core.Path.{_≡_, refl, sym, ap, _∙_}
-use mathlib.Core.Bool.{Bool, true, false}
+use mathlib.Core.Bool.{Bool}
 use mathlib.Core.List.{List}
 use Prim.Native.Nat.{ℕ, zero, suc}
 use lib.ListN.{length}
-use Rattle.float64.specs.Pick.{pick}
+use Rattle.float64.specs.Pick.{pick, pick-through}
 use Rattle.matrix.specs.declared.Pair.{Pair}
 use Rattle.evaluation.specs.Subject.{finish}
 use Rattle.evaluation.specs.declared.Check.{Check}
@@ -24,7 +24,6 @@ use Rattle.subjects.specs.declared.Fit.{Fit}
 use Rattle.subjects.specs.declared.Halted.{Halted}
 use Rattle.subjects.specs.declared.Place.{Place}
 use Rattle.subjects.specs.declared.Place.the-variants as At
-use Rattle.subjects.specs.declared.Progress.{Progress}
 use Rattle.subjects.specs.declared.Step.{Step}
 use Rattle.subjects.specs.declared.Step.the-variants.{Refused}
 use Rattle.subjects.specs.declared.Tally.{Tally}
@@ -41,7 +40,6 @@ use Rattle.steps.specs.Steps.{wholeFrom}
 use Rattle.session.specs.Calls.{heldOf, called, run, entered, lentBy, refusedAs, endedAs, firstState, Setting, begunWith, opening, openedBy, startOf, admitObjective, unawaited, awaitedAt, admitAwaited, followed, finishReply}
 use Rattle.session.specs.Session.{Held, held, noTally, isStanding, lentOf, whenAdmitted, begun, admitted, enterObjective, atWanted, whenAwaited, enterFailure, over, replied, unaltered, heldBy, turnHeld}
 use Rattle.session.specs.declared.Awaited.{Awaited}
-use Rattle.session.specs.declared.Begun.{Begun}
 use Rattle.session.specs.declared.Called.{Called}
 use Rattle.session.specs.declared.Opening.the-variants as Opens
 use Rattle.session.specs.declared.State.{State}
@@ -100,9 +98,7 @@ module _ (setup : Setup) (counts : List ℕ) (n : ℕ) (check : Check) (tally : 
 
 -- ---- what goes into both cases goes into the one picked
 through-pick : {X Y : Type 0} (f : X → Y) (b : Bool) (x y : X) → pick b (f x) (f y) ≡ f (pick b x y)
-unfolding pick
-through-pick f true x y = refl
-through-pick f false x y = refl
+through-pick f b x y = sym (pick-through f b (λ _. refl) refl)
 
 -- ---- what is let in goes on, and what is not is refused: go is what the call does, and a what let it in, or not
 module _ (setup : Setup) (counts : List ℕ) (h : Held words) (go : Moved (Held words) Step) {a : Admission} {m : Moved (Held words) Step} (em : m ≡ whenAdmitted words setup counts h go a) where
