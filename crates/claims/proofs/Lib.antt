@@ -6,6 +6,8 @@ pub mod Domains
 pub mod Entries
 pub mod Evaluated
 pub mod Fitting
+pub mod Formats
+pub mod Formatted
 pub mod Lengths
 pub mod LetIn
 pub mod Limits

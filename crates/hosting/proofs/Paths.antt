@@ -8,7 +8,7 @@ use lib.Dec.{eqb}
 use lib.ListN.{length, set}
 use lib.Ieee.{Float, binary64, toBits}
 use Rattle.float64.specs.Answer.{Answer, given, refused}
-use Rattle.float64.specs.Pick.{pick, yes, no}
+use Rattle.float64.specs.Pick.{pick, yes, no, both}
 use Rattle.matrix.specs.declared.Pair.{Pair}
 use Rattle.evaluation.specs.declared.AdditiveSd.{AdditiveSd}
 use Rattle.evaluation.specs.declared.Check.{Check}
@@ -32,7 +32,7 @@ use Rattle.session.specs.declared.State.{State}
 use Rattle.session_words.specs.SessionWords as W
 use Rattle.session_words.specs.declared.LoadedState.{LoadedState}
 use Rattle.session_words.specs.declared.LoadedState.the-variants.{Given, None}
-use Rattle.hosting.specs.Hosting.{additiveSd, setupOf, parametersOf, answerWords, placeWords, answerOf, answered, numberOf, isUnaltered, toldAs, told, noState, openedTo, opened, Out, outOf, out, did, unknown, withState, openWith, objectiveWith, failureWith, finishWith}
+use Rattle.hosting.specs.Hosting.{additiveSd, setupOf, parametersOf, Fits, FitsSd, FitsSetup, FitsParameters, answerWords, placeWords, answerOf, answered, numberOf, isUnaltered, toldAs, told, noState, openedTo, opened, Out, outOf, out, did, unknown, withState, openWith, objectiveWith, failureWith, finishWith}
 use Rattle.hosting.specs.declared.AnswerWords.{AnswerWords}
 use Rattle.hosting.specs.declared.Done.{Done}
 use Rattle.hosting.specs.declared.SessionParameters.{SessionParameters}
@@ -76,6 +76,18 @@ pub parameters-made : (p : SessionParameters) {a : AdditiveSd} → a ≡ additiv
     → record { theta = record { first = p .theta; second = p .«theta_2» }; omega = p .omega; «additive_sd» = a } ≡ parametersOf p
 unfolding parametersOf
 parameters-made p e = λ i. record { theta = record { first = p .theta; second = p .«theta_2» }; omega = p .omega; «additive_sd» = e i }
+
+additive-fits : (has : Bool) (additive : Float) → Fits additive → FitsSd (additiveSd has additive)
+unfolding additiveSd
+additive-fits has additive f = both FitsSd has f tt
+
+pub setup-fits : (s : SessionSetup) → Fits (s .«eta_bound») → Fits (s .«omega_00») → Fits (s .additive) → s .«max_evaluations» < 4294967296 → FitsSetup (setupOf s)
+unfolding setupOf
+setup-fits s a b c d = record { bound = a; variance = b; additive = additive-fits (s .«has_additive») (s .additive) c; most = d }
+
+pub parameters-fit : (p : SessionParameters) → Fits (p .theta) → Fits (p .«theta_2») → Fits (p .omega) → Fits (p .additive) → FitsParameters (parametersOf p)
+unfolding parametersOf
+parameters-fit p a b c d = record { theta = a; theta-2 = b; variance = c; additive = additive-fits (p .«has_additive») (p .additive) d }
 
 -- ---- the words of an answer
 module _ (number : ℕ) {place : Place} where

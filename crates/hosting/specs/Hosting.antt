@@ -1,10 +1,10 @@
 -- A session's calls as a host makes them: the state and the answer as words, the tally and all that is lent beside them.
 use mathlib.Core.Bool.{Bool, true, false}
 use mathlib.Core.List.{List}
-use Prim.Native.Nat.{ℕ}
-use lib.Dec.{ltb, eqb}
+use Prim.Native.Nat.{ℕ, _<_}
+use lib.Dec.{T, ltb, eqb}
 use lib.ListN.{length, set}
-use lib.Ieee.{Float, binary64, toBits}
+use lib.Ieee.{Float, binary64, fits, toBits}
 use Rattle.float64.specs.Answer.{Answer, given, refused}
 use Rattle.float64.specs.Pick.{pick}
 use Rattle.likelihood.specs.declared.population_focei.Observation.{Observation}
@@ -60,6 +60,27 @@ setupOf s = record {
 
 unfoldable pub parametersOf : SessionParameters → Parameters
 parametersOf p = record { theta = record { first = p .theta; second = p .«theta_2» }; omega = p .omega; «additive_sd» = additiveSd (p .«has_additive») (p .additive) }
+
+-- every value of the code is one of its type: a float of the format, or a number of 32 bits. `setup_of` and `parameters_of` promise it of all that a
+-- host can hand over.
+abbrev pub Fits : Float → Type 0
+Fits x = T (fits binary64 x)
+
+abbrev pub FitsSd : AdditiveSd → Type 0
+FitsSd Own = Unit
+FitsSd (Override additive) = Fits additive
+
+pub record FitsSetup (s : Setup) : Type 0 where
+  pub bound : Fits (s .«eta_bound»)
+  pub variance : Fits (s .omega00)
+  pub additive : FitsSd (s .«additive_sd»)
+  pub most : s .«max_evaluations» < 4294967296
+
+pub record FitsParameters (p : Parameters) : Type 0 where
+  pub theta : Fits (p .theta .first)
+  pub theta-2 : Fits (p .theta .second)
+  pub variance : Fits (p .omega)
+  pub additive : FitsSd (p .«additive_sd»)
 
 -- ---- what a host gets
 
