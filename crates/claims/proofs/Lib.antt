@@ -13,6 +13,7 @@ pub mod Placed
 pub mod Plain
 pub mod Points
 pub mod Refined
+pub mod Remaining
 pub mod Requests
 pub mod Searches
 pub mod Session
