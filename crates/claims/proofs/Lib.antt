@@ -2,6 +2,7 @@ pub mod Accepted
 pub mod Always
 pub mod Copies
 pub mod Domains
+pub mod Endings
 pub mod Entries
 pub mod Evaluated
 pub mod Fitting

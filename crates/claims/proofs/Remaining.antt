@@ -75,16 +75,16 @@ goes1 s x m r = by (request s x) (λ p. (room-pos (x .stage) s x m r p, λ c. ro
     by One.Mode f = unfold Goes in tt
     by (One.Refused n) f = unfold Goes in tt
 
-module _ (N : ℕ → Type 0) (ends : (n : ℕ) → 6 ≤ n → n ≤ 18 → N n) where
+module _ (N : ℕ → Type 0) (known : (n : ℕ) → 13 ≤ n → n ≤ 16 → N n) where
   abbrev Known : Request → Type 0
   Known q = Numbered N (B.wants1 q)
 
   numbered1 : (st : Stage) (s : Settings) (x : Search) → Numbered N (B.wants1 (requestAt st s x))
   unfolding requestAt Numbered
-  numbered1 Grid s x = both Known _ tt (both Known _ (ends 13 (omega arith) (omega arith)) (both Known _ (ends 13 (omega arith) (omega arith)) (ends 14 (omega arith) (omega arith))))
+  numbered1 Grid s x = both Known _ tt (both Known _ (known 13 (omega arith) (omega arith)) (both Known _ (known 13 (omega arith) (omega arith)) (known 14 (omega arith) (omega arith))))
   numbered1 Warm s x = tt
   numbered1 Secant s x = both Known _ tt tt
-  numbered1 Halving s x = both Known _ tt (both Known _ tt (ends 15 (omega arith) (omega arith)))
+  numbered1 Halving s x = both Known _ tt (both Known _ tt (known 15 (omega arith) (omega arith)))
 
 -- ---- two effects, from any seed, round and reduction: at most n more are asked
 record InTrial (k r j n : ℕ) : Type 0 where
@@ -114,7 +114,7 @@ pub StandsBy : Bool → ℕ → Progress → Type 0
 StandsBy true m p = RoomOf2 m (p .«search_2d»)
 StandsBy false m p = RoomOf m (p .search)
 
-module _ (N : ℕ → Type 0) (ends : (n : ℕ) → 6 ≤ n → n ≤ 18 → N n) where
+module _ (N : ℕ → Type 0) (known : (n : ℕ) → 13 ≤ n → n ≤ 16 → N n) where
   abbrev Ended : Stage2 → Type 0
   Ended Zero = Unit
   Ended Start = Unit
@@ -129,8 +129,8 @@ module _ (N : ℕ → Type 0) (ends : (n : ℕ) → 6 ≤ n → n ≤ 18 → N n
   finish-left : (s : Settings2) (k : ℕ) (c b : Conditional2) (n : ℕ) → (5 - k) * 1057 ≤ n → Left2 n (R2.finish s k c b)
   unfolding R2.finish R2.between
   finish-left s k c b n h =
-      cases (Left2 n) (R2.isUnresolved s c) {x = R2.between (Halted 13) k c b} (λ _. (tt, ends 13 (omega arith) (omega arith)))
-      (λ _. cases (Left2 n) (R2.isFar k c b) {x = R2.between (Halted 14) k c b} (λ _. (tt, ends 14 (omega arith) (omega arith)))
+      cases (Left2 n) (R2.isUnresolved s c) {x = R2.between (Halted 13) k c b} (λ _. (tt, known 13 (omega arith) (omega arith)))
+      (λ _. cases (Left2 n) (R2.isFar k c b) {x = R2.between (Halted 14) k c b} (λ _. (tt, known 14 (omega arith) (omega arith)))
       (λ _. cases (Left2 n) (ltb k 5) {x = R2.between Start (k + 1) c (R2.better s k c b)} {y = R2.between Found 6 c (R2.better s k c b)}
       (λ e. (let l : k < 5 = ltb-true k 5 e in omega arith, tt)) (λ _. (tt, tt))))
 
@@ -151,7 +151,7 @@ module _ (N : ℕ → Type 0) (ends : (n : ℕ) → 6 ≤ n → n ≤ 18 → N n
     descend-left = go (inversePositive (R2.curvature s c))
       where
         go : (i : Inverse) → Left2 n (R2.descendBy i s k r j c b)
-        go none = (tt, ends 16 (omega arith) (omega arith))
+        go none = (tt, known 16 (omega arith) (omega arith))
         go (some inverse det) = try-left (R2.stepBy s c inverse)
 
   round-left : (s : Settings2) (k r : ℕ) (c b : Conditional2) (n : ℕ) → r < 48 → 22 + (47 - r) * 22 + (5 - k) * 1057 ≤ n → Left2 n (R2.beginRound s k r c b)
@@ -241,7 +241,7 @@ module _ (N : ℕ → Type 0) (ends : (n : ℕ) → 6 ≤ n → n ≤ 18 → N n
     where
       go : (b : Bool) → LeftBy b m p → Numbered N (pick b (B.wants2 (R2.request (B.settings2 fit p) (p .«search_2d»))) (B.wants1 (request (B.settings fit p) (p .search))))
       go true l = numbered2 (p .«search_2d» .stage) (B.settings2 fit p) (p .«search_2d») (l .1)
-      go false l = numbered1 N ends (p .search .stage) (B.settings fit p) (p .search)
+      go false l = numbered1 N known (p .search .stage) (B.settings fit p) (p .search)
 
   -- a search that has asked nothing
   pub begins : (b : Bool) (subject first : ℕ) (warm : Pair) (ofv squares : Float) → LeftBy b 6343 (B.beginSubject subject first warm ofv squares)
