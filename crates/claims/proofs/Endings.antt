@@ -111,7 +111,7 @@ module _ (N : ℕ → Type 0) (Refuses : ℕ → ℕ → Type 0) (setup : Setup)
     pub work : length (h .whole .work) ≡ L
     pub calls : h .whole .tally .calls .0 ≡ c
 
-  one-left : (h : Held words) → Going 0 h → ⊥
+  pub one-left : (h : Held words) → Going 0 h → ⊥
   one-left h g = go (g .ahead .left) (h .whole .progress .subject) (length counts) (g .ahead .subject) (g .ahead .enough)
     where
       go : (m i k : ℕ) → i < k → m + (k - i) * 6344 ≤ 0 + 6343 → ⊥

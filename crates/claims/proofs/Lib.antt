@@ -3,6 +3,7 @@ pub mod Always
 pub mod Copies
 pub mod Domains
 pub mod Endings
+pub mod Entered
 pub mod Entries
 pub mod Evaluated
 pub mod Fitting

@@ -224,6 +224,19 @@ module _ (N : ℕ → Type 0) (known : (n : ℕ) → 13 ≤ n → n ≤ 16 → N
   stands true m p l = l .0
   stands false m p l = l
 
+  -- where any number will do
+  pub lifts : ((n : ℕ) → N n) → (b : Bool) (m : ℕ) (p : Progress) → StandsBy b m p → LeftBy b m p
+  unfolding StandsBy LeftBy
+  lifts any true m p l = (l, at (p .«search_2d» .stage))
+    where
+      at : (st : Stage2) → Ended st
+      at Zero = tt
+      at Start = tt
+      at Trial = tt
+      at Found = tt
+      at (Halted i) = any i
+  lifts any false m p l = l
+
   pub points : (fit : Fit) (p : Progress) (m : ℕ) → StandsBy (eqb (fit .effects) 2) m p
       → Goes m ((eta : Pair) (sums : Sums) → LeftBy (eqb (fit .effects) 2) (m - 1) (B.advanceBy fit p eta sums .progress)) (B.wantedBy fit p)
   unfolding StandsBy LeftBy B.wantedBy B.advanceBy pick B.advance1 B.advance2 B.withSearch B.wanted1 B.wanted2
