@@ -15,6 +15,7 @@ pub mod Placed
 pub mod Plain
 pub mod Points
 pub mod Refined
+pub mod Refusals
 pub mod Remaining
 pub mod Requests
 pub mod Searches
