@@ -174,9 +174,9 @@ module _ (setup : Setup) (counts : List ℕ) (h : Held words) where
   pub nineteen : Enters (S.unaltered words setup counts 19 At.Nowhere h)
   nineteen = stays 19 (inr refl) (λ e. omega (arith, e))
 
-  pub admits : (go : Moved (Held words) Step) (a : Admission) → Judged (length counts) a → (length counts ≤ 4096 → Enters go) → Enters (whenAdmitted words setup counts h go a)
+  pub admits : (go : Moved (Held words) Step) (a : Admission) → Judged (length counts) a → (a ≡ A.Accepted → length counts ≤ 4096 → Enters go) → Enters (whenAdmitted words setup counts h go a)
   unfolding whenAdmitted Judged Enters
-  admits go A.Accepted j f = f j
+  admits go A.Accepted j f = f refl j
   admits go (A.Refused n) j f = stays n (j .0) (j .1)
   admits go (A.Unsound at) j f = inl (record { number = 4; place = _; answer = refl; same = refl; unaltering = inl (omega arith, omega arith); carries = inl (refl, (at .subject, at .observation, refl)) })
 
@@ -197,7 +197,7 @@ module _ (setup : Setup) (counts : List ℕ) (h : Held words) where
       })
 
   -- ---- a search goes on with a reply
-  stood : (n : ℕ) (p : Progress) → isStanding setup counts n (h .whole .tally) p ≡ true → (p .subject < length counts) × StandsBy (eqb (setup .effects) 2) 6343 p
+  pub stood : (n : ℕ) (p : Progress) → isStanding setup counts n (h .whole .tally) p ≡ true → (p .subject < length counts) × StandsBy (eqb (setup .effects) 2) 6343 p
   unfolding isStanding
   stood n p e = placed OfSearch (endings most c .known) (setup .effects) counts n p (not-first _ _ false-not-true e .1)
 
@@ -243,7 +243,7 @@ module _ (setup : Setup) (counts : List ℕ) (h : Held words) where
     objectives parameters =
         both Enters _ nineteen
         (cases Enters (isStanding setup counts n (h .whole .tally) (h .whole .progress))
-        (λ t. admits _ _ (judged parameters) (λ few. begun few (stood n (h .whole .progress) t .0))) (λ f. nineteen))
+        (λ t. admits _ _ (judged parameters) (λ e few. begun few (stood n (h .whole .progress) t .0))) (λ f. nineteen))
       where
         begun : length counts ≤ 4096 → h .whole .progress .subject < length counts → Enters (on (S.begun words setup counts parameters (h .whole)))
         begun few some = unfold Enters S.begun B.beginSubject in (few, record { ahead = record { subject = omega (arith, some); left = 6343; search = begins OfSearch (endings most c .known) _ 0 0 _ _ _; enough = omega (arith, few) }; work = refl; calls = refl })
@@ -255,7 +255,7 @@ module _ (setup : Setup) (counts : List ℕ) (h : Held words) where
     awaited go f = both Enters _ (cases Enters (isStanding setup counts n (h .whole .tally) (h .whole .progress)) (λ t. at (stood n (h .whole .progress) t) _ refl) (λ g. nineteen)) nineteen
       where
         at : (h .whole .progress .subject < length counts) × StandsBy (eqb (setup .effects) 2) 6343 (h .whole .progress) → (v : Wanted) → B.wantedBy (B.fitOf setup (h .parameters)) (h .whole .progress) ≡ v → Enters (S.atWanted words setup counts n check h go v)
-        at s (Wants.Point eta) e = unfold S.atWanted in admits _ _ (judged (h .parameters)) (f eta s e)
+        at s (Wants.Point eta) e = unfold S.atWanted in admits _ _ (judged (h .parameters)) (λ q. f eta s e)
         at s Wants.Mode e = unfold S.atWanted in nineteen
         at s (Wants.Refused k) e = unfold S.atWanted in nineteen
 

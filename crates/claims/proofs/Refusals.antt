@@ -11,6 +11,7 @@ use lib.ListN.{getD, set, length, take, drop, length-take, length-set}
 use lib.Seq.{getD-set-same, getD-set-other}
 use Rattle.float64.specs.Answer.{Answer, given, refused}
 use Rattle.float64.specs.Pick.{pick, both, cases, pick-yes, pick-no}
+use Rattle.matrix.specs.declared.Pair.{Pair}
 use Rattle.likelihood.specs.declared.population_focei.Observation.{Observation}
 use Rattle.evaluation.specs.Subject.{Evaluating, evaluating, begin, addObservations, finish}
 use Rattle.evaluation.specs.declared.Evaluation.the-variants as E
@@ -37,7 +38,7 @@ use Rattle.subjects.specs.declared.Wanted.the-variants as Wants
 use Rattle.sessions.specs.Machine.{Moved, on, halt, Ran, ran, onward, call}
 use Rattle.population.specs.Kept.{words}
 use Rattle.population.specs.Population.{rowsOf, spent}
-use Rattle.session.specs.Calls.{heldOf, lentBy, stateOf, entered, openedBy, opening, unawaited, trialBy, finishReply}
+use Rattle.session.specs.Calls.{heldOf, lentBy, stateOf, entered, openedBy, opening, unawaited, trialBy, nothingAdmitted, finishReply}
 use Rattle.session.specs.Session as S
 use Rattle.session.specs.Session.{Held, Call, objective, reply, failure, fuel, isStanding, turnHeld, whenAdmitted, enter, session, allChecked}
 use Rattle.session.specs.declared.Admitted.{Admitted}
@@ -54,7 +55,7 @@ use Rattle.word_replies.specs.SubjectReplies.{subjectChecked, admitSubjectWith,
 use Rattle.claims.specs.Refusals as R
 use Rattle.claims.specs.Refusals.{Exported, opens, calls, replies, AltersNothing, EndsObjective, Carries, Awaits, does, number, OutOfTurn, EveryRefusal, SixOnlyAtTheLimit, ZerosAfterAnEnd, NeverSpent, EveryWord}
 use Rattle.claims.proofs.Endings.{Tells, Says, Answered, Going, one-left, turns, unspent}
-use Rattle.claims.proofs.Entered.{Judged, counts-judged, plain, late, Done, Enters, done, nineteen, admits, Like, replies as goes-on, enters, endings, Ending, OfSearch, Answers-with}
+use Rattle.claims.proofs.Entered.{Judged, counts-judged, plain, unheard, late, stood, Done, Enters, done, nineteen, admits, Like, replies as goes-on, enters, endings, Ending, OfSearch, Answers-with}
 use Rattle.claims.proofs.Evaluated.{work-length}
 use Rattle.claims.proofs.Plain.{true-not-false, false-not-true, split}
 use Rattle.claims.proofs.Remaining.{lifts, placed, StandsBy}
@@ -110,6 +111,15 @@ loaded state s e =
     let long = not-first (ltb (length state) 63) _ never e in
     let flags = not-first _ _ never (not-first _ _ never (long .1) .1) in
     (ltb-false _ _ (long .0), search-loaded state s _ (flags .1))
+
+-- ---- all records are counted
+adds-up : (effects subjects total n : ℕ) → isCohort effects subjects total n ≡ true → total ≡ n
+unfolding isCohort
+adds-up effects subjects total n e =
+    let one = not-first _ _ false-not-true e in
+    let two = not-first _ _ false-not-true (one .1) in
+    let three = not-first _ _ false-not-true (two .1) in
+    eqb-true _ _ (not-first _ _ false-not-true (three .1) .1)
 
 -- ---- what a call gives back and writes, with all that it was lent
 module _ (setup : Setup) (counts : List ℕ) (observations : List Observation) (tally : Tally) (state answer cache work warm results : List ℕ) where
@@ -206,3 +216,278 @@ module _ (setup : Setup) (counts : List ℕ) (observations : List Observation) (
       at : (l : Answer State) → loadedState state ≡ l → Way (withState (λ s. did (call (session words setup counts observations) x (h s)) state answer) (unknown tally state answer cache work warm results) l)
       at (given s) e = unfold withState call in way s (loaded state s e .0) _ (done setup counts (h s) _ (enters setup counts (h s) observations x))
       at (refused n) e = unfold withState in nobody
+
+  -- ---- a reply that lends one subject's observations
+  module _ (said : List ℕ) where
+    abbrev evaluates : Admitted → Evaluating
+    evaluates a = addObservations (a .trial) said (take (a .to - a .from) (drop (a .from) observations)) (evaluating (a .evaluation) work)
+
+    -- what it comes to, let in or not
+    abbrev ends-as : Admitted → State → Out
+    ends-as a s = let e = evaluates a in did (finishReply setup counts (a .awaited) (e .evaluation) (heldOf s tally cache (e .work) warm results)) state answer
+
+    abbrev told-to : Answer State → Out
+    told-to l =
+        let a = admitSubjectWith setup counts lent (subjectChecked setup counts observations state) tally said l in
+        withState (ends-as a) (unknown tally state answer cache (evaluates a .work) warm results) l
+
+    module _ (s : State) where
+      abbrev judgement : Admission
+      judgement = subjectChecks (withParameters setup (s .parameters)) counts (s .progress .subject) lent (subjectChecked setup counts observations state)
+
+      abbrev trial : Trial
+      trial = trialBy setup s (rowsOf counts (s .progress .subject))
+
+      -- for what the search wants
+      abbrev wanting : Wanted → Out
+      wanting v = let w = awaitedFor judgement v in ends-as (admittedOver setup trial said w 0 (length observations) (w .admission)) s
+
+      wanting-is : told-to (given s) ≡ wanting (awaitedPoint setup counts mostRows s tally)
+      unfolding withState admitSubjectWith admitSubjectReply subjectAwaited
+      wanting-is = refl
+
+      judged : Judged (length counts) judgement
+      unfolding subjectChecks
+      judged =
+          let one = plain (length counts) 1 (omega arith) (omega arith) (λ e. omega (arith, e)) in
+          both (Judged (length counts)) _ one (both (Judged (length counts)) _ one (counts-judged _ (length counts) lent _ _))
+
+      abbrev count : ℕ
+      count = getD counts (s .progress .subject) 0
+
+      few-lent : judgement ≡ A.Accepted → length observations ≤ 100000
+      unfolding subjectChecks checksOf
+      few-lent e =
+          let never : A.Refused 1 ≡ A.Accepted → ⊥ = λ q. let z : _≡_ {A = ℕ} 0 1 = cc in omega arith in
+          let low = not-first _ _ never (not-first _ _ never e .1) in
+          let n : count ≤ 100000 = ltb-false _ _ (low .0) in
+          cases (λ (a : Admission). a ≡ A.Accepted → length observations ≤ 100000) (isCohort (withParameters setup (s .parameters) .effects) (length counts) count (length observations))
+          (λ t q. let m = adds-up _ (length counts) count (length observations) t in omega (arith, n, m)) (λ f q. absurd (never q)) (low .1)
+
+      -- not let in
+      barred-way : 63 ≤ length state → (eta : Pair) (a : Admission) → (a ≡ A.Accepted → ⊥) → Judged (length counts) a → (n : ℕ) → Way (ends-as (nothingAdmitted (record { admission = a; eta = eta }) trial n) s)
+      unfolding finishReply
+      barred-way long eta a never j n = way s long _ (done setup counts (h s) _ (admits setup counts (h s) _ a j (λ q. absurd (never q))))
+
+      refused-way : 63 ≤ length state → (eta : Pair) (n : ℕ) → Judged (length counts) (A.Refused n) → Way (ends-as (admittedOver setup trial said (record { admission = A.Refused n; eta = eta }) 0 (length observations) (A.Refused n)) s)
+      unfolding admittedOver
+      refused-way long eta n j = barred-way long eta (A.Refused n) (λ q. let z : _≡_ {A = ℕ} 0 1 = cc in omega arith) j n
+
+      point-way : 63 ≤ length state → (eta : Pair) → (s .progress .subject < length counts) × StandsBy (eqb (setup .effects) 2) 6343 (s .progress) → B.wantedBy (B.fitOf setup (s .parameters)) (s .progress) ≡ Wants.Point eta
+          → (a : Admission) → judgement ≡ a → Judged (length counts) a → Way (ends-as (admittedOver setup trial said (record { admission = a; eta = eta }) 0 (length observations) a) s)
+      unfolding admittedOver finishReply Judged whenAdmitted
+      point-way long eta st wants A.Accepted q j =
+          let os = take (length observations - 0) (drop 0 observations) in
+          let e = addObservations trial said os (evaluating (begin said (setup .width) (setup .effects) (setup .«output_budget»)) work) in
+          let l = work-length trial said (setup .width) (setup .effects) (setup .«output_budget») os work in
+          let n = length-take (length observations - 0) (drop 0 observations) in
+          let few = few-lent q in
+          way s long _ (done setup counts (h s) _ (goes-on setup counts (h s) (heldOf s tally cache (e .work) warm results) (record { work = l; calls = refl }) st eta wants j (e .work) l _ (late trial (setup .«output_budget») said os work (omega (arith, n, few)))))
+      point-way long eta st wants (A.Refused n) q j = refused-way long eta n j
+      point-way long eta st wants (A.Unsound at) q j = barred-way long eta (A.Unsound at) (λ q. let z : _≡_ {A = ℕ} 0 1 = cc in omega arith) j 4
+
+      -- a point is awaited only where the positions are right, and then it is what the search wants
+      point-wanted : (eta : Pair) → awaitedPoint setup counts mostRows s tally ≡ Wants.Point eta → (isStanding setup counts mostRows tally (s .progress) ≡ true) × (B.wantedBy (B.fitOf setup (s .parameters)) (s .progress) ≡ Wants.Point eta)
+      unfolding awaitedPoint
+      point-wanted eta =
+          let never : Wants.Refused 19 ≡ Wants.Point eta → ⊥ = λ q. let z : _≡_ {A = ℕ} 0 1 = cc in omega arith in
+          let st = isStanding setup counts mostRows tally (s .progress) in
+          let v = B.wantedBy (B.fitOf setup (s .parameters)) (s .progress) in
+          let P : Wanted → Type 0 = λ (w : Wanted). w ≡ Wants.Point eta → (st ≡ true) × (v ≡ Wants.Point eta) in
+          cases P (s .progress .awaits) (λ t. cases P st (λ i q. (i, q)) (λ f q. absurd (never q))) (λ f q. absurd (never q))
+
+      wanted-way : 63 ≤ length state → (v : Wanted) → awaitedPoint setup counts mostRows s tally ≡ v → Way (wanting v)
+      unfolding awaitedFor
+      wanted-way long (Wants.Point eta) e = let w = point-wanted eta e in point-way long eta (stood setup counts (h s) mostRows (s .progress) (w .0)) (w .1) judgement refl judged
+      wanted-way long Wants.Mode e = refused-way long (unawaited .eta) 19 (unheard (length counts))
+      wanted-way long (Wants.Refused n) e = refused-way long (unawaited .eta) 19 (unheard (length counts))
+
+    subject-way : Way (subjectReplyOver setup counts observations tally state answer cache work warm results said)
+    unfolding subjectReplyOver finishWith
+    subject-way = at (loadedState state) refl
+      where
+        at : (l : Answer State) → loadedState state ≡ l → Way (told-to l)
+        at (given s) e = subst Way (sym (wanting-is s)) (wanted-way s (loaded state s e .0) _ refl)
+        at (refused n) e = unfold withState admitSubjectWith in nobody
+
+  ways : (x : Exported) → Way (does setup counts observations tally state answer cache work warm results x)
+  ways opens = setup-way
+  ways (calls x) = call-way x
+  ways (replies said) = subject-way said
+
+  -- ---- out of turn
+  abbrev number-of : Moved (Held words) Step → ℕ
+  number-of m = did (entered setup counts m) state answer .told .done .number
+
+  awaits-is : (s : State) → loadedState state ≡ given s → Awaits state → s .progress .awaits ≡ true
+  awaits-is s e a = loaded state s e .1 ∙ eq-eqb _ _ a
+
+  idle-is : (s : State) → loadedState state ≡ given s → (Awaits state → ⊥) → s .progress .awaits ≡ false
+  idle-is s e a = loaded state s e .1 ∙ ne-eqb _ _ a
+
+  -- 19 for the words that are no state, and for those whose entry is refused so
+  called : (x : Call) → ((s : State) → loadedState state ≡ given s → enter words setup counts observations x (h s) ≡ S.unaltered words setup counts 19 At.Nowhere (h s))
+      → (l : Answer State) → loadedState state ≡ l → withState (λ s. did (call (session words setup counts observations) x (h s)) state answer) (unknown tally state answer cache work warm results) l .told .done .number ≡ 19
+  unfolding withState call onward H.told H.numberOf
+  called x f (given s) e = ap number-of (f s e)
+  called x f (refused n) e = refl
+
+  objective-refused : Awaits state → (parameters : Parameters) (s : State) → loadedState state ≡ given s → enter words setup counts observations (objective parameters) (h s) ≡ S.unaltered words setup counts 19 At.Nowhere (h s)
+  unfolding enter S.enterObjective
+  objective-refused a parameters s e = pick-yes _ _ _ (awaits-is s e a)
+
+  reply-refused : (Awaits state → ⊥) → (said : List ℕ) (s : State) → loadedState state ≡ given s → enter words setup counts observations (reply said) (h s) ≡ S.unaltered words setup counts 19 At.Nowhere (h s)
+  unfolding enter S.enterReply S.whenAwaited
+  reply-refused a said s e = pick-no _ _ _ (idle-is s e a)
+
+  failure-refused : (Awaits state → ⊥) → (s : State) → loadedState state ≡ given s → enter words setup counts observations failure (h s) ≡ S.unaltered words setup counts 19 At.Nowhere (h s)
+  unfolding enter S.enterFailure S.whenAwaited
+  failure-refused a s e = pick-no _ _ _ (idle-is s e a)
+
+  subject-refused : (said : List ℕ) (l : Answer State) → ((s : State) → l ≡ given s → s .progress .awaits ≡ false) → told-to said l .told .done .number ≡ 19
+  unfolding withState admitSubjectWith
+  subject-refused said (given s) f = ap (λ (o : Out). o .told .done .number) (wanting-is said s) ∙ unwanted said s (f s refl)
+    where
+      unwanted : (said : List ℕ) (s : State) → s .progress .awaits ≡ false → wanting said s (awaitedPoint setup counts mostRows s tally) .told .done .number ≡ 19
+      unwanted said s f = unfold awaitedPoint awaitedFor admittedOver finishReply whenAdmitted onward H.told H.numberOf in ap (λ (v : Wanted). wanting said s v .told .done .number) (pick-no _ _ _ f)
+  subject-refused said (refused n) f = refl
+
+  out-of-turn : OutOfTurn setup counts observations tally state answer cache work warm results
+  unfolding callOver subjectReplyOver finishWith setupOver H.openWith
+  out-of-turn = record {
+    objectives = λ a parameters. called _ (objective-refused a parameters) (loadedState state) refl;
+    answers = λ a said. called _ (reply-refused a said) (loadedState state) refl;
+    subjects = λ a said. subject-refused said (loadedState state) (λ s e. idle-is s e a);
+    failures = λ a. called _ (failure-refused a) (loadedState state) refl;
+    stateless = λ n e x. called x (λ s q. absurd (never n s (sym e ∙ q))) (loadedState state) refl;
+    stateless-subjects = λ n e said. subject-refused said (loadedState state) (λ s q. absurd (never n s (sym e ∙ q)));
+    short = λ l. ap (λ (o : Out). o .told .done .number) (pick-yes _ _ _ (lt-ltb _ _ l));
+  }
+    where
+      never : (n : ℕ) (s : State) → refused n ≡ given s → ⊥
+      never n s q = let z : _≡_ {A = ℕ} 0 1 = cc in omega arith
+
+-- ---- what each way says
+module _ (setup : Setup) (counts : List ℕ) (observations : List Observation) (tally : Tally) (state answer cache work warm results : List ℕ) (x : Exported) where
+  abbrev o : Out
+  o = does setup counts observations tally state answer cache work warm results x
+
+  abbrev Taken : Type 0
+  Taken = Way setup counts observations tally state answer cache work warm results o
+
+  apart : (n : ℕ) → n ≡ 0 → AltersNothing n → ⊥
+  apart n e (inl l) = let a = l .0 in omega (arith, a, e)
+  apart n e (inr l) = omega (arith, e, l)
+
+  other : (n : ℕ) → EndsObjective n → AltersNothing n → ⊥
+  other n l (inl m) = let a = l .0 in let b = m .1 in omega (arith, a, b)
+  other n l (inr e) = let a = l .1 in omega (arith, a, e)
+
+  abbrev Unaltered : ℕ → Type 0
+  Unaltered n = (place : Place) × Carries n place × (o ≡ out (record { number = n; tally = tally }) state (answered (placeWords n place) answer) cache work warm results)
+
+  refusals-of : Taken → EveryRefusal setup counts observations tally state answer cache work warm results x
+  refusals-of (stays n place u k e) =
+      let same : o .told .done .number ≡ n = ap (λ (y : Out). y .told .done .number) e in
+      record {
+        numbers = inr (inl (subst AltersNothing (sym same) u));
+        unaltered = λ v. subst Unaltered (sym same) (place, k, e);
+        others = λ l. absurd (other _ l (subst AltersNothing (sym same) u));
+      }
+  refusals-of (asks k) = record { numbers = inl (k .number); unaltered = λ v. absurd (apart _ (k .number) v); others = λ l. absurd (let a = k .number in let b = l .0 in omega (arith, a, b)) }
+  refusals-of (finishes k) = record { numbers = inl (k .number); unaltered = λ v. absurd (apart _ (k .number) v); others = λ l. absurd (let a = k .number in let b = l .0 in omega (arith, a, b)) }
+  refusals-of (refuses k) = record { numbers = inr (inr (k .ending .number)); unaltered = λ v. absurd (other _ (k .ending .number) v); others = λ l. (k .place, k .answer-is) }
+
+  limits-of : Taken → SixOnlyAtTheLimit setup counts observations tally state answer cache work warm results x
+  limits-of (stays n place u k e) =
+      let same : o .told .done .number ≡ n = ap (λ (y : Out). y .told .done .number) e in
+      let tallies : o .told .done .tally .calls .0 ≡ tally .calls .0 = ap (λ (y : Out). y .told .done .tally .calls .0) e in
+      let never : o .told .done .number ≡ 6 → ⊥ = λ q. other 6 (omega arith, omega arith) (subst AltersNothing (sym same ∙ q) u) in
+      record { reached = λ q. absurd (never q); same = λ q. absurd (never q); rises = inl (omega (arith, tallies)) }
+  limits-of (asks k) =
+      let a = k .number in
+      let b = k .rise in
+      let l = k .below in
+      record { reached = λ q. absurd (omega (arith, a, q)); same = λ q. absurd (omega (arith, a, q)); rises = inr (b, omega (arith, b, l)) }
+  limits-of (finishes k) = let a = k .number in record { reached = λ q. absurd (omega (arith, a, q)); same = λ q. absurd (omega (arith, a, q)); rises = inl (k .rise) }
+  limits-of (refuses k) = record {
+    reached = λ q. let s = k .ending .six q in let a = s .0 in let b = s .1 in omega (arith, a, b);
+    same = λ q. k .ending .six q .0;
+    rises = ⊎-elim (λ e. inl (omega (arith, e))) (λ e. let a = e .0 in let b = e .1 in inr (a, omega (arith, a, b))) (k .ending .rise);
+  }
+
+  -- the answer's first word
+  kinds : (a : AnswerWords) {k n : ℕ} → a .kind ≡ k → o .told .answer ≡ answered a answer → 1 ≤ length answer → getD (o .told .answer) 0 0 ≡ n → k ≡ n
+  kinds a d e l q = sym d ∙ sym (answer-word a answer l) ∙ sym (ap (λ (w : List ℕ). getD w 0 0) e) ∙ q
+
+  place-kind : (n : ℕ) (place : Place) → placeWords n place .kind ≡ 2
+  unfolding placeWords
+  place-kind n At.Nowhere = refl
+  place-kind n (At.Subject i) = refl
+  place-kind n (At.Observation i j) = refl
+
+  refusal-kind : (n : ℕ) (place : Place) {k : ℕ} → o .told .answer ≡ answered (placeWords n place) answer → 1 ≤ length answer → getD (o .told .answer) 0 0 ≡ k → 2 ≡ k
+  refusal-kind n place e l q = kinds (placeWords n place) (place-kind n place) e l q
+
+  ends-of : Taken → ZerosAfterAnEnd setup counts observations tally state answer cache work warm results x
+  ends-of (stays n place u k e) =
+      let same : o .told .done .number ≡ n = ap (λ (y : Out). y .told .done .number) e in
+      let told = ap (λ (y : Out). y .told .answer) e in
+      record {
+        refused = λ l. absurd (other _ l (subst AltersNothing (sym same) u));
+        finished = λ l q. absurd (let z = refusal-kind n place told l q in omega (arith, z));
+        asked = λ l q. absurd (let z = refusal-kind n place told l q in omega (arith, z));
+      }
+  ends-of (asks k) = record {
+    refused = λ l. absurd (let a = k .number in let b = l .0 in omega (arith, a, b));
+    finished = λ l q. absurd (let z = kinds (k .said) (k .kind) (k .answer-is) l q in omega (arith, z));
+    asked = λ l q. k .awaits;
+  }
+  ends-of (finishes k) = record {
+    refused = λ l. absurd (let a = k .number in let b = l .0 in omega (arith, a, b));
+    finished = λ l q. (k .work-is, k .idle);
+    asked = λ l q. absurd (let z = kinds (k .said) (k .kind) (k .answer-is) l q in omega (arith, z));
+  }
+  ends-of (refuses k) = record {
+    refused = λ l. (k .work-is, k .idle);
+    finished = λ l q. absurd (let z = refusal-kind (o .told .done .number) (k .place) (k .answer-is) l q in omega (arith, z));
+    asked = λ l q. absurd (let z = refusal-kind (o .told .done .number) (k .place) (k .answer-is) l q in omega (arith, z));
+  }
+
+-- ---- the requests are never used up
+module _ (setup : Setup) (counts : List ℕ) where
+  anything : (most c : ℕ) → Tells (λ n. Unit) (λ n k. Unit) most c
+  anything most c = record { known = λ n a b. tt; ended = λ n a. tt; limit = λ l. tt; wild = λ l. tt; mode = λ n a b. tt }
+
+  requests : NeverSpent setup counts
+  requests = record {
+    within = λ few n h e other more.
+        let c = h .whole .tally .calls .0 in
+        let most = setup .«max_evaluations» in
+        let L = length (h .whole .work) in
+        let t = anything most c in
+        let p = placed (λ n. Unit) (t .known) (setup .effects) counts n (h .whole .progress) e in
+        unspent (turnHeld words setup counts) (Going (λ n. Unit) (λ n k. Unit) setup counts L c t) (Answered (λ n. Unit) (λ n k. Unit) setup counts L c t)
+        (one-left _ _ setup counts L c t) (turns _ _ setup counts L c t few) spent other fuel (fuel + more) h
+        (record { ahead = record { subject = p .0; left = 6343; search = lifts (λ n. Unit) (t .known) (λ n. tt) _ 6343 (h .whole .progress) (p .1); enough = omega (arith, few) }; work = refl; calls = refl }) (omega arith);
+    entered = λ observations x h t e other more.
+        let c = h .whole .tally .calls .0 in
+        let most = setup .«max_evaluations» in
+        let L = length (h .whole .work) in
+        let g = going h t (subst (Enters setup counts h) e (enters setup counts h observations x)) in
+        unspent (turnHeld words setup counts) (Going OfSearch (Ending most c) setup counts L c (endings most c)) (Answered OfSearch (Ending most c) setup counts L c (endings most c))
+        (one-left _ _ setup counts L c (endings most c)) (turns _ _ setup counts L c (endings most c) (g .0)) spent other fuel (fuel + more) t (g .1) (omega arith);
+  }
+    where
+      going : (h t : Held words) → Enters setup counts h (on t)
+          → (length counts ≤ 4096) × Going OfSearch (Ending (setup .«max_evaluations») (h .whole .tally .calls .0)) setup counts (length (h .whole .work)) (h .whole .tally .calls .0) (endings (setup .«max_evaluations») (h .whole .tally .calls .0)) fuel t
+      going h t g = unfold Enters in g
+
+pub every-word : EveryWord
+every-word = record {
+  turns = out-of-turn;
+  refusals = λ setup counts observations tally state answer cache work warm results x. refusals-of setup counts observations tally state answer cache work warm results x (ways setup counts observations tally state answer cache work warm results x);
+  limits = λ setup counts observations tally state answer cache work warm results x. limits-of setup counts observations tally state answer cache work warm results x (ways setup counts observations tally state answer cache work warm results x);
+  ends = λ setup counts observations tally state answer cache work warm results x. ends-of setup counts observations tally state answer cache work warm results x (ways setup counts observations tally state answer cache work warm results x);
+  requests = requests;
+}
