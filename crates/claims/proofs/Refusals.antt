@@ -53,7 +53,7 @@ use Rattle.hosting.specs.Hosting.{Out, out, did, unknown, withState, answered, 
 use Rattle.hosting.specs.declared.AnswerWords.{AnswerWords}
 use Rattle.word_replies.specs.SubjectReplies.{subjectChecked, admitSubjectWith, subjectReplyOver}
 use Rattle.claims.specs.Refusals as R
-use Rattle.claims.specs.Refusals.{Exported, opens, calls, replies, AltersNothing, EndsObjective, Carries, Awaits, does, number, OutOfTurn, EveryRefusal, SixOnlyAtTheLimit, ZerosAfterAnEnd, NeverSpent, EveryWord}
+use Rattle.claims.specs.Refusals.{Exported, opens, calls, replies, Lending, does, AltersNothing, EndsObjective, Carries, Awaits, OutOfTurn, EveryRefusal, SixOnlyAtTheLimit, ZerosAfterAnEnd, NeverSpent, ForAllWords}
 use Rattle.claims.proofs.Endings.{Tells, Says, Answered, Going, one-left, turns, unspent}
 use Rattle.claims.proofs.Entered.{Judged, counts-judged, plain, unheard, late, stood, Done, Enters, done, nineteen, admits, Like, replies as goes-on, enters, endings, Ending, OfSearch, Answers-with}
 use Rattle.claims.proofs.Evaluated.{work-length}
@@ -310,7 +310,10 @@ module _ (setup : Setup) (counts : List ℕ) (observations : List Observation) (
         at (given s) e = subst Way (sym (wanting-is s)) (wanted-way s (loaded state s e .0) _ refl)
         at (refused n) e = unfold withState admitSubjectWith in nobody
 
-  ways : (x : Exported) → Way (does setup counts observations tally state answer cache work warm results x)
+  abbrev all : Lending
+  all = record { setup = setup; counts = counts; observations = observations; tally = tally; state = state; answer = answer; cache = cache; work = work; warm = warm; results = results }
+
+  ways : (x : Exported) → Way (does all x)
   ways opens = setup-way
   ways (calls x) = call-way x
   ways (replies said) = subject-way said
@@ -352,7 +355,7 @@ module _ (setup : Setup) (counts : List ℕ) (observations : List Observation) (
       unwanted said s f = unfold awaitedPoint awaitedFor admittedOver finishReply whenAdmitted onward H.told H.numberOf in ap (λ (v : Wanted). wanting said s v .told .done .number) (pick-no _ _ _ f)
   subject-refused said (refused n) f = refl
 
-  out-of-turn : OutOfTurn setup counts observations tally state answer cache work warm results
+  out-of-turn : OutOfTurn all
   unfolding callOver subjectReplyOver finishWith setupOver H.openWith
   out-of-turn = record {
     objectives = λ a parameters. called _ (objective-refused a parameters) (loadedState state) refl;
@@ -368,47 +371,47 @@ module _ (setup : Setup) (counts : List ℕ) (observations : List Observation) (
       never n s q = let z : _≡_ {A = ℕ} 0 1 = cc in omega arith
 
 -- ---- what each way says
-module _ (setup : Setup) (counts : List ℕ) (observations : List Observation) (tally : Tally) (state answer cache work warm results : List ℕ) (x : Exported) where
+module _ (l : Lending) (x : Exported) where
   abbrev o : Out
-  o = does setup counts observations tally state answer cache work warm results x
+  o = does l x
 
   abbrev Taken : Type 0
-  Taken = Way setup counts observations tally state answer cache work warm results o
+  Taken = Way (l .setup) (l .counts) (l .observations) (l .tally) (l .state) (l .answer) (l .cache) (l .work) (l .warm) (l .results) o
 
   apart : (n : ℕ) → n ≡ 0 → AltersNothing n → ⊥
-  apart n e (inl l) = let a = l .0 in omega (arith, a, e)
-  apart n e (inr l) = omega (arith, e, l)
+  apart n e (inl i) = let a = i .0 in omega (arith, a, e)
+  apart n e (inr i) = omega (arith, e, i)
 
   other : (n : ℕ) → EndsObjective n → AltersNothing n → ⊥
-  other n l (inl m) = let a = l .0 in let b = m .1 in omega (arith, a, b)
-  other n l (inr e) = let a = l .1 in omega (arith, a, e)
+  other n i (inl m) = let a = i .0 in let b = m .1 in omega (arith, a, b)
+  other n i (inr e) = let a = i .1 in omega (arith, a, e)
 
   abbrev Unaltered : ℕ → Type 0
-  Unaltered n = (place : Place) × Carries n place × (o ≡ out (record { number = n; tally = tally }) state (answered (placeWords n place) answer) cache work warm results)
+  Unaltered n = (place : Place) × Carries n place × (o ≡ out (record { number = n; tally = l .tally }) (l .state) (answered (placeWords n place) (l .answer)) (l .cache) (l .work) (l .warm) (l .results))
 
-  refusals-of : Taken → EveryRefusal setup counts observations tally state answer cache work warm results x
+  refusals-of : Taken → EveryRefusal l x
   refusals-of (stays n place u k e) =
       let same : o .told .done .number ≡ n = ap (λ (y : Out). y .told .done .number) e in
       record {
         numbers = inr (inl (subst AltersNothing (sym same) u));
         unaltered = λ v. subst Unaltered (sym same) (place, k, e);
-        others = λ l. absurd (other _ l (subst AltersNothing (sym same) u));
+        others = λ i. absurd (other _ i (subst AltersNothing (sym same) u));
       }
-  refusals-of (asks k) = record { numbers = inl (k .number); unaltered = λ v. absurd (apart _ (k .number) v); others = λ l. absurd (let a = k .number in let b = l .0 in omega (arith, a, b)) }
-  refusals-of (finishes k) = record { numbers = inl (k .number); unaltered = λ v. absurd (apart _ (k .number) v); others = λ l. absurd (let a = k .number in let b = l .0 in omega (arith, a, b)) }
-  refusals-of (refuses k) = record { numbers = inr (inr (k .ending .number)); unaltered = λ v. absurd (other _ (k .ending .number) v); others = λ l. (k .place, k .answer-is) }
+  refusals-of (asks k) = record { numbers = inl (k .number); unaltered = λ v. absurd (apart _ (k .number) v); others = λ i. absurd (let a = k .number in let b = i .0 in omega (arith, a, b)) }
+  refusals-of (finishes k) = record { numbers = inl (k .number); unaltered = λ v. absurd (apart _ (k .number) v); others = λ i. absurd (let a = k .number in let b = i .0 in omega (arith, a, b)) }
+  refusals-of (refuses k) = record { numbers = inr (inr (k .ending .number)); unaltered = λ v. absurd (other _ (k .ending .number) v); others = λ i. (k .place, k .answer-is) }
 
-  limits-of : Taken → SixOnlyAtTheLimit setup counts observations tally state answer cache work warm results x
+  limits-of : Taken → SixOnlyAtTheLimit l x
   limits-of (stays n place u k e) =
       let same : o .told .done .number ≡ n = ap (λ (y : Out). y .told .done .number) e in
-      let tallies : o .told .done .tally .calls .0 ≡ tally .calls .0 = ap (λ (y : Out). y .told .done .tally .calls .0) e in
+      let tallies : o .told .done .tally .calls .0 ≡ l .tally .calls .0 = ap (λ (y : Out). y .told .done .tally .calls .0) e in
       let never : o .told .done .number ≡ 6 → ⊥ = λ q. other 6 (omega arith, omega arith) (subst AltersNothing (sym same ∙ q) u) in
       record { reached = λ q. absurd (never q); same = λ q. absurd (never q); rises = inl (omega (arith, tallies)) }
   limits-of (asks k) =
       let a = k .number in
       let b = k .rise in
-      let l = k .below in
-      record { reached = λ q. absurd (omega (arith, a, q)); same = λ q. absurd (omega (arith, a, q)); rises = inr (b, omega (arith, b, l)) }
+      let m = k .below in
+      record { reached = λ q. absurd (omega (arith, a, q)); same = λ q. absurd (omega (arith, a, q)); rises = inr (b, omega (arith, b, m)) }
   limits-of (finishes k) = let a = k .number in record { reached = λ q. absurd (omega (arith, a, q)); same = λ q. absurd (omega (arith, a, q)); rises = inl (k .rise) }
   limits-of (refuses k) = record {
     reached = λ q. let s = k .ending .six q in let a = s .0 in let b = s .1 in omega (arith, a, b);
@@ -417,8 +420,8 @@ module _ (setup : Setup) (counts : List ℕ) (observations : List Observation) (
   }
 
   -- the answer's first word
-  kinds : (a : AnswerWords) {k n : ℕ} → a .kind ≡ k → o .told .answer ≡ answered a answer → 1 ≤ length answer → getD (o .told .answer) 0 0 ≡ n → k ≡ n
-  kinds a d e l q = sym d ∙ sym (answer-word a answer l) ∙ sym (ap (λ (w : List ℕ). getD w 0 0) e) ∙ q
+  kinds : (a : AnswerWords) {k n : ℕ} → a .kind ≡ k → o .told .answer ≡ answered a (l .answer) → 1 ≤ length (l .answer) → getD (o .told .answer) 0 0 ≡ n → k ≡ n
+  kinds a d e i q = sym d ∙ sym (answer-word a (l .answer) i) ∙ sym (ap (λ (w : List ℕ). getD w 0 0) e) ∙ q
 
   place-kind : (n : ℕ) (place : Place) → placeWords n place .kind ≡ 2
   unfolding placeWords
@@ -426,32 +429,32 @@ module _ (setup : Setup) (counts : List ℕ) (observations : List Observation) (
   place-kind n (At.Subject i) = refl
   place-kind n (At.Observation i j) = refl
 
-  refusal-kind : (n : ℕ) (place : Place) {k : ℕ} → o .told .answer ≡ answered (placeWords n place) answer → 1 ≤ length answer → getD (o .told .answer) 0 0 ≡ k → 2 ≡ k
-  refusal-kind n place e l q = kinds (placeWords n place) (place-kind n place) e l q
+  refusal-kind : (n : ℕ) (place : Place) {k : ℕ} → o .told .answer ≡ answered (placeWords n place) (l .answer) → 1 ≤ length (l .answer) → getD (o .told .answer) 0 0 ≡ k → 2 ≡ k
+  refusal-kind n place e i q = kinds (placeWords n place) (place-kind n place) e i q
 
-  ends-of : Taken → ZerosAfterAnEnd setup counts observations tally state answer cache work warm results x
+  ends-of : Taken → ZerosAfterAnEnd l x
   ends-of (stays n place u k e) =
       let same : o .told .done .number ≡ n = ap (λ (y : Out). y .told .done .number) e in
       let told = ap (λ (y : Out). y .told .answer) e in
       record {
-        refused = λ l. absurd (other _ l (subst AltersNothing (sym same) u));
-        finished = λ l q. absurd (let z = refusal-kind n place told l q in omega (arith, z));
-        asked = λ l q. absurd (let z = refusal-kind n place told l q in omega (arith, z));
+        refusals = λ i. absurd (other _ i (subst AltersNothing (sym same) u));
+        finished = λ i q. absurd (let z = refusal-kind n place told i q in omega (arith, z));
+        asked = λ i q. absurd (let z = refusal-kind n place told i q in omega (arith, z));
       }
   ends-of (asks k) = record {
-    refused = λ l. absurd (let a = k .number in let b = l .0 in omega (arith, a, b));
-    finished = λ l q. absurd (let z = kinds (k .said) (k .kind) (k .answer-is) l q in omega (arith, z));
-    asked = λ l q. k .awaits;
+    refusals = λ i. absurd (let a = k .number in let b = i .0 in omega (arith, a, b));
+    finished = λ i q. absurd (let z = kinds (k .said) (k .kind) (k .answer-is) i q in omega (arith, z));
+    asked = λ i q. k .awaits;
   }
   ends-of (finishes k) = record {
-    refused = λ l. absurd (let a = k .number in let b = l .0 in omega (arith, a, b));
-    finished = λ l q. (k .work-is, k .idle);
-    asked = λ l q. absurd (let z = kinds (k .said) (k .kind) (k .answer-is) l q in omega (arith, z));
+    refusals = λ i. absurd (let a = k .number in let b = i .0 in omega (arith, a, b));
+    finished = λ i q. (k .work-is, k .idle);
+    asked = λ i q. absurd (let z = kinds (k .said) (k .kind) (k .answer-is) i q in omega (arith, z));
   }
   ends-of (refuses k) = record {
-    refused = λ l. (k .work-is, k .idle);
-    finished = λ l q. absurd (let z = refusal-kind (o .told .done .number) (k .place) (k .answer-is) l q in omega (arith, z));
-    asked = λ l q. absurd (let z = refusal-kind (o .told .done .number) (k .place) (k .answer-is) l q in omega (arith, z));
+    refusals = λ i. (k .work-is, k .idle);
+    finished = λ i q. absurd (let z = refusal-kind (o .told .done .number) (k .place) (k .answer-is) i q in omega (arith, z));
+    asked = λ i q. absurd (let z = refusal-kind (o .told .done .number) (k .place) (k .answer-is) i q in omega (arith, z));
   }
 
 -- ---- the requests are never used up
@@ -483,11 +486,13 @@ module _ (setup : Setup) (counts : List ℕ) where
           → (length counts ≤ 4096) × Going OfSearch (Ending (setup .«max_evaluations») (h .whole .tally .calls .0)) setup counts (length (h .whole .work)) (h .whole .tally .calls .0) (endings (setup .«max_evaluations») (h .whole .tally .calls .0)) fuel t
       going h t g = unfold Enters in g
 
-pub every-word : EveryWord
-every-word = record {
-  turns = out-of-turn;
-  refusals = λ setup counts observations tally state answer cache work warm results x. refusals-of setup counts observations tally state answer cache work warm results x (ways setup counts observations tally state answer cache work warm results x);
-  limits = λ setup counts observations tally state answer cache work warm results x. limits-of setup counts observations tally state answer cache work warm results x (ways setup counts observations tally state answer cache work warm results x);
-  ends = λ setup counts observations tally state answer cache work warm results x. ends-of setup counts observations tally state answer cache work warm results x (ways setup counts observations tally state answer cache work warm results x);
-  requests = requests;
-}
+pub for-all-words : ForAllWords
+for-all-words =
+    let taken : (l : Lending) (x : Exported) → Taken l x = λ l. ways (l .setup) (l .counts) (l .observations) (l .tally) (l .state) (l .answer) (l .cache) (l .work) (l .warm) (l .results) in
+    record {
+      turns = λ l. out-of-turn (l .setup) (l .counts) (l .observations) (l .tally) (l .state) (l .answer) (l .cache) (l .work) (l .warm) (l .results);
+      refusals = λ l x. refusals-of l x (taken l x);
+      limits = λ l x. limits-of l x (taken l x);
+      ends = λ l x. ends-of l x (taken l x);
+      requests = requests;
+    }
