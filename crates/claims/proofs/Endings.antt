@@ -3,7 +3,6 @@
 use mathlib.Core.Path.{_≡_, refl, sym, ap, subst, _∙_}
 use mathlib.Core.Bool.{Bool, true, false}
 use mathlib.Core.List.{List}
-use mathlib.Core.Logic.{_⊎_, inl, inr}
 use mathlib.Core.Option.{Option, none, some}
 use Prim.Native.Nat.{ℕ, zero, suc, _+_, _-_, _*_, _≤_, _<_}
 use native.Mathlib.Nat.{mod-eq-of-lt, not-suc-le-zero, le-of-suc-le-suc}
@@ -17,6 +16,7 @@ use Rattle.float64.specs.Float64.{nonfinite}
 use Rattle.float64.specs.Pick.{pick, both, cases, pick-yes}
 use Rattle.matrix.specs.declared.Pair.{Pair}
 use Rattle.evaluation.specs.Subject.{individualValues}
+use Rattle.evaluation.specs.declared.Sums.{Sums}
 use Rattle.work.specs.Work.{zeros, block, isSameGrid}
 use Rattle.admission.specs.declared.Setup.{Setup}
 use Rattle.subjects.specs.Subjects as B
@@ -33,27 +33,28 @@ use Rattle.subjects.specs.declared.Wanted.{Wanted}
 use Rattle.subjects.specs.declared.Wanted.the-variants as Wants
 use Rattle.sessions.specs.Machine.{Moved, on, halt, Ran, onward, loop}
 use Rattle.population.specs.Kept.{Recalled, words}
-use Rattle.population.specs.Population.{rowsOf, take, answered, atPoint, Worked, nextSubject, raised, Ended, ended, closing, atMode, servedBy, served, isOver, turned, Whole, moved, turn}
+use Rattle.population.specs.Population.{rowsOf, take, answered, atPoint, Worked, nextSubject, raised, Ended, ended, closing, atMode, servedBy, served, isOver, turned, Whole, moved, turn, spent}
 use Rattle.population.specs.declared.Turned.{Turned}
 use Rattle.population.specs.declared.Turned.the-variants.{On, Halt}
-use Rattle.session.specs.Session.{Held, heldBy, turnHeld}
+use Rattle.session.specs.Session.{Held, heldBy, turnHeld, fuel}
 use Rattle.claims.proofs.Lengths.{zeros-length, move-rows-length, recalled-length}
 use Rattle.claims.proofs.Remaining.{Goes, Numbered, LeftBy, stands, points, refusals, begins}
 use Rattle.claims.proofs.Standing.{advanced-alike, fit-effects, fit-most}
 
 -- ---- any loop: `Going n` says that at most n turns are left, this one counted, and `Answered` is what every turn that halts gives
 module _ {State Answer : Type 0} (turn : State → Moved State Answer) (Going : ℕ → State → Type 0) (Answered : Answer → State → Type 0) where
-  unfoldable pub Moves : ℕ → Moved State Answer → Type 0
+  unfoldable Moves : ℕ → Moved State Answer → Type 0
   Moves n (on t) = Going n t
   Moves n (halt a t) = Answered a t
 
   module _ (now : (s : State) → Going 0 s → ⊥) (turns : (n : ℕ) (s : State) → Going (suc n) s → Moves n (turn s)) (spent : Answer) where
-    answers : (n : ℕ) (k : State → Ran State Answer) → ((t : State) → Going n t → Answered (k t .answer) (k t .state)) → (m : Moved State Answer) → Moves n m → Answered (onward m k .answer) (onward m k .state)
+    answers : (n : ℕ) (k : State → Ran State Answer) → ((t : State) → Going n t → Answered (k t .answer) (k t .state)) → (m : Moved State Answer) → Moves n m
+        → Answered (onward m k .answer) (onward m k .state)
     unfolding Moves onward
     answers n k f (on t) g = f t g
     answers n k f (halt a t) g = g
 
-    pub halts : (n : ℕ) (s : State) → Going n s → Answered (loop turn spent n s .answer) (loop turn spent n s .state)
+    halts : (n : ℕ) (s : State) → Going n s → Answered (loop turn spent n s .answer) (loop turn spent n s .state)
     unfolding loop
     halts zero s g = absurd (now s g)
     halts (suc n) s g = answers n _ (halts n) (turn s) (turns n s g)
@@ -64,13 +65,14 @@ module _ {State Answer : Type 0} (turn : State → Moved State Answer) (Going : 
     same n k l f (on t) g = f t g
     same n k l f (halt a t) g = refl
 
-    pub unspent : (other : Answer) (n k : ℕ) (s : State) → Going n s → n ≤ k → loop turn other k s ≡ loop turn spent n s
+    unspent : (other : Answer) (n k : ℕ) (s : State) → Going n s → n ≤ k → loop turn other k s ≡ loop turn spent n s
     unfolding loop
     unspent other zero k s g h = absurd (now s g)
     unspent other (suc n) zero s g h = absurd (not-suc-le-zero h)
     unspent other (suc n) (suc k) s g h = same n _ _ (λ t u. unspent other n k t u (le-of-suc-le-suc h)) (turn s) (turns n s g)
 
--- ---- what a turn refuses with: N is the numbers that a search ends with, and `Refuses` what is said of a number and of the tally's evaluations then. There are c of them before, and `most` at most.
+-- ---- what a turn refuses with: N is the numbers that a search ends with, and `Refuses` what is said of a number and of the tally's evaluations then. There are c of them before the call, and
+-- `most` is their limit.
 pub record Tells (N : ℕ → Type 0) (Refuses : ℕ → ℕ → Type 0) (most c : ℕ) : Type 0 where
   pub known : (n : ℕ) → 13 ≤ n → n ≤ 16 → N n
   pub ended : (n : ℕ) → N n → Refuses n c
@@ -111,7 +113,7 @@ module _ (N : ℕ → Type 0) (Refuses : ℕ → ℕ → Type 0) (setup : Setup)
     pub work : length (h .whole .work) ≡ L
     pub calls : h .whole .tally .calls .0 ≡ c
 
-  pub one-left : (h : Held words) → Going 0 h → ⊥
+  one-left : (h : Held words) → Going 0 h → ⊥
   one-left h g = go (g .ahead .left) (h .whole .progress .subject) (length counts) (g .ahead .subject) (g .ahead .enough)
     where
       go : (m i k : ℕ) → i < k → m + (k - i) * 6344 ≤ 0 + 6343 → ⊥
@@ -147,7 +149,8 @@ module _ (N : ℕ → Type 0) (Refuses : ℕ → ℕ → Type 0) (setup : Setup)
       work : length (e .work) ≡ L
 
     closes : (t : Turned) (work warm results : List ℕ) → TurnsTo t → length work ≡ L
-        → Moves (turnHeld words setup counts) Going Answered n (heldBy words setup counts (h .parameters) (moved words (w .tally) (w .kept) (pick (isOver t) (zeros (length work)) work) warm results t))
+        → Moves (turnHeld words setup counts) Going Answered n
+        (heldBy words setup counts (h .parameters) (moved words (w .tally) (w .kept) (pick (isOver t) (zeros (length work)) work) warm results t))
     unfolding Moves heldBy moved isOver TurnsTo pick
     closes (On q) work warm results t l = record { ahead = t; work = l; calls = g .calls }
     closes (Halt x) work warm results t l = record { says = t; zeroed = λ e. pick-yes _ _ _ e ∙ ap zeros l }
@@ -187,7 +190,11 @@ module _ (N : ℕ → Type 0) (Refuses : ℕ → ℕ → Type 0) (setup : Setup)
         (λ t. let l : w .tally .calls .0 < fit .«max_evaluations» = ltb-true _ _ t in asks-for (omega (arith, e, m, l)) eta _ (values _ eta _))
         (λ f. let l : fit .«max_evaluations» ≤ w .tally .calls .0 = ltb-false _ _ f in refuses 6 _ (tells .limit (omega (arith, e, m, l))))
 
-    advances : (eta : Pair) → Goes (a .left) ((x : Pair) (sums : _) → Left (eqb (fit .effects) 2) (a .left - 1) (B.advanceBy fit p x sums .progress)) (Wants.Point eta) → (sums : _) → Ahead n (B.advanceBy fit p eta sums .progress)
+    -- with any evaluation of a point that is wanted, one less is left
+    abbrev Fewer : Type 0
+    Fewer = (eta : Pair) (sums : Sums) → Left (eqb (fit .effects) 2) (a .left - 1) (B.advanceBy fit p eta sums .progress)
+
+    advances : (eta : Pair) → Goes (a .left) Fewer (Wants.Point eta) → (sums : Sums) → Ahead n (B.advanceBy fit p eta sums .progress)
     unfolding Goes
     advances eta s sums =
         let e = advanced-alike fit p eta sums .subject in
@@ -201,7 +208,8 @@ module _ (N : ℕ → Type 0) (Refuses : ℕ → ℕ → Type 0) (setup : Setup)
         go : (m k : ℕ) → 1 ≤ m → m + k * 6344 ≤ suc n + 6343 → m - 1 + k * 6344 ≤ n + 6343
         go m k x y = omega arith
 
-    by-recall : (eta : Pair) → ((sums : _) → Ahead n (B.advanceBy fit p eta sums .progress)) → (o : Option Recalled) → ((r : Recalled) → o ≡ some r → length (r .work) ≡ length (w .work))
+    by-recall : (eta : Pair) → ((sums : Sums) → Ahead n (B.advanceBy fit p eta sums .progress)) → (o : Option Recalled)
+        → ((r : Recalled) → o ≡ some r → length (r .work) ≡ length (w .work))
         → Ends (ended (answered fit rows p (w .tally) eta (w .work) o .value) (answered fit rows p (w .tally) eta (w .work) o .work) (w .warm) (w .results))
     unfolding answered take TurnsTo
     by-recall eta s (some r) f = record { turned = s (B.sumsOf (r .terms)); work = move-rows-length rows _ (r .work) ∙ f r refl ∙ g .work }
@@ -214,7 +222,8 @@ module _ (N : ℕ → Type 0) (Refuses : ℕ → ℕ → Type 0) (setup : Setup)
     raised-is : subject ≡ suc (p .subject)
     raised-is = mod-eq-of-lt (omega (arith, a .subject, few)) ∙ omega arith
 
-    next : (m : Mode) (warm results : List ℕ) → Ends (ended (nextSubject fit counts p (w .tally) m rows warm (w .work) .value) (nextSubject fit counts p (w .tally) m rows warm (w .work) .work) warm results)
+    next : (m : Mode) (warm results : List ℕ)
+        → Ends (ended (nextSubject fit counts p (w .tally) m rows warm (w .work) .value) (nextSubject fit counts p (w .tally) m rows warm (w .work) .work) warm results)
     unfolding nextSubject TurnsTo
     next m warm results =
         cases (λ (x : Worked Turned). Ends (ended (x .value) (x .work) warm results)) (ltb subject (length counts))
@@ -232,7 +241,9 @@ module _ (N : ℕ → Type 0) (Refuses : ℕ → ℕ → Type 0) (setup : Setup)
             go m k i x y = omega arith
 
         finishes : (ofv squares : Float) → TurnsTo (Halt (B.objectiveOf p (w .tally) ofv squares))
-        finishes ofv squares = unfold B.objectiveOf in both (λ (x : Halted). TurnsTo (Halt x)) (nonfinite ofv) (refuses 18 _ (tells .mode 18 (omega arith) (omega arith))) (unfold TurnsTo Says B.finished in (refl, g .calls))
+        finishes ofv squares =
+            unfold B.objectiveOf in both (λ (x : Halted). TurnsTo (Halt x)) (nonfinite ofv) (refuses 18 _ (tells .mode 18 (omega arith) (omega arith)))
+            (unfold TurnsTo Says B.finished in (refl, g .calls))
 
     closed : (k : Closed) → Ends (closing fit counts p (w .tally) rows (w .work) (w .warm) (w .results) k)
     unfolding closing
@@ -240,16 +251,24 @@ module _ (N : ℕ → Type 0) (Refuses : ℕ → ℕ → Type 0) (setup : Setup)
     closed (Positive m) = both Ends (isSameGrid (w .work) rows) (next m _ _) (refused-ends 17 _ _ _ (tells .mode 17 (omega arith) (omega arith)))
 
     -- ---- every request
-    serves : (v : Wanted) → Goes (a .left) ((x : Pair) (sums : _) → Left (eqb (fit .effects) 2) (a .left - 1) (B.advanceBy fit p x sums .progress)) v → Numbered N v
+    serves : (v : Wanted) → Goes (a .left) Fewer v → Numbered N v
         → Ends (servedBy words fit counts p (w .tally) (w .kept) (w .work) (w .warm) (w .results) v)
     unfolding servedBy atPoint atMode Numbered
     serves (Wants.Point eta) s i = by-recall eta (advances eta s) _ (λ r q. recalled-length _ _ rows (w .work) (block rows 3) _ r q)
     serves Wants.Mode s i = closed (B.closedBy fit p rows)
     serves (Wants.Refused k) s i = refused-ends k _ _ _ (tells .ended k i)
 
-    pub turns : Moves (turnHeld words setup counts) Going Answered n (turnHeld words setup counts h)
+    turns : Moves (turnHeld words setup counts) Going Answered n (turnHeld words setup counts h)
     unfolding turnHeld turn turned served
     turns =
         let e = serves (B.wantedBy fit p) (points N (tells .known) fit p (a .left) (stands N (tells .known) _ (a .left) p fitted)) (refusals N (tells .known) fit p (a .left) fitted) in
         let x = servedBy words fit counts p (w .tally) (w .kept) (w .work) (w .warm) (w .results) (B.wantedBy fit p) in
         closes (x .turned) (x .work) (x .warm) (x .results) (e .turned) (e .work)
+
+  -- ---- a call's requests: they come to an answer, and more of them would change nothing
+  module _ (few : length counts ≤ 4096) (t : Held words) (g : Going fuel t) where
+    pub comes-to : Answered (loop (turnHeld words setup counts) spent fuel t .answer) (loop (turnHeld words setup counts) spent fuel t .state)
+    comes-to = halts (turnHeld words setup counts) Going Answered one-left (turns few) spent fuel t g
+
+    pub never-spent : (other : Step) (more : ℕ) → loop (turnHeld words setup counts) other (fuel + more) t ≡ loop (turnHeld words setup counts) spent fuel t
+    never-spent other more = unspent (turnHeld words setup counts) Going Answered one-left (turns few) spent other fuel (fuel + more) t g (omega arith)

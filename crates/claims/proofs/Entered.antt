@@ -1,9 +1,9 @@
 -- What the entry of a call does, whatever is lent: it refuses and alters nothing, it ends the objective, or it goes on to the requests from a place that they are enough for. Assumes nothing.
 use mathlib.Core.Path.{_≡_, refl, sym, ap, subst, _∙_}
-use mathlib.Core.Bool.{Bool, true, false}
+use mathlib.Core.Bool.{true}
 use mathlib.Core.List.{List}
-use mathlib.Core.Logic.{_⊎_, inl, inr, ⊎-elim}
-use Prim.Native.Nat.{ℕ, suc, _+_, _-_, _*_, _≤_, _<_, _^_}
+use mathlib.Core.Logic.{_⊎_, inl, inr}
+use Prim.Native.Nat.{ℕ, suc, _+_, _-_, _≤_, _<_, _^_}
 use native.Mathlib.Omega.{arith}
 use borrow.Author.Tests.{ltb-true}
 use lib.Dec.{ltb, eqb}
@@ -17,6 +17,7 @@ use Rattle.evaluation.specs.declared.Check.{Check}
 use Rattle.evaluation.specs.declared.Check.the-variants.{Sound, Unsound}
 use Rattle.evaluation.specs.declared.Evaluation.{Evaluation}
 use Rattle.evaluation.specs.declared.Evaluation.the-variants as E
+use Rattle.evaluation.specs.declared.Sums.{Sums}
 use Rattle.evaluation.specs.declared.Trial.{Trial}
 use Rattle.evaluation.proofs.Ends.{evaluates}
 use Rattle.work.specs.Work.{zeros}
@@ -38,14 +39,14 @@ use Rattle.subjects.specs.declared.Step.{Step}
 use Rattle.subjects.specs.declared.Step.the-variants as Answers
 use Rattle.subjects.specs.declared.Wanted.{Wanted}
 use Rattle.subjects.specs.declared.Wanted.the-variants as Wants
-use Rattle.sessions.specs.Machine.{Moved, on, halt, Ran, onward, loop}
+use Rattle.sessions.specs.Machine.{Moved, on, halt, onward, loop}
 use Rattle.population.specs.Kept.{words}
 use Rattle.population.specs.Population.{rowsOf, spent, receive, take as takes}
 use Rattle.session.specs.Calls.{entered}
 use Rattle.session.specs.Session as S
-use Rattle.session.specs.Session.{Held, Call, objective, reply, failure, fuel, isPlaced, isStanding, turnHeld, whenAdmitted, enter}
+use Rattle.session.specs.Session.{Held, Call, objective, reply, failure, fuel, isStanding, turnHeld, whenAdmitted, enter}
 use Rattle.claims.specs.Refusals.{AltersNothing, EndsObjective, Carries}
-use Rattle.claims.proofs.Endings.{Tells, Says, Answered, Ahead, Going, one-left, turns, halts}
+use Rattle.claims.proofs.Endings.{Tells, Says, Answered, Ahead, Going, comes-to, never-spent}
 use Rattle.claims.proofs.Evaluated.{work-length}
 use Rattle.claims.proofs.Lengths.{move-rows-length}
 use Rattle.claims.proofs.Plain.{false-not-true}
@@ -128,6 +129,13 @@ endings most c = record {
   mode = λ n a b. record { number = (omega (arith, a), omega (arith, b)); rise = inl refl; six = λ e. absurd (omega (arith, a, e)) };
 }
 
+-- ---- a search that 19 lets pass, among the subjects; and what it wants
+abbrev pub Stood : Setup → List ℕ → Progress → Type 0
+Stood setup counts p = (p .subject < length counts) × StandsBy (eqb (setup .effects) 2) 6343 p
+
+abbrev pub wantedAt : Setup → Held words → Wanted
+wantedAt setup u = B.wantedBy (B.fitOf setup (u .parameters)) (u .whole .progress)
+
 -- ---- a call on what is held as h
 module _ (setup : Setup) (counts : List ℕ) (h : Held words) where
   abbrev most : ℕ
@@ -163,8 +171,12 @@ module _ (setup : Setup) (counts : List ℕ) (h : Held words) where
 
   pub done : (m : Moved (Held words) Step) → Enters m → Done (entered setup counts m .answer) (entered setup counts m .state)
   unfolding Enters onward
-  done (on t) e = inr (halts (turnHeld words setup counts) Goes-on Answers-with (one-left _ _ setup counts L c (endings most c)) (turns _ _ setup counts L c (endings most c) (e .0)) spent fuel t (e .1))
+  done (on t) e = inr (comes-to _ _ setup counts L c (endings most c) (e .0) t (e .1))
   done (halt a t) e = e
+
+  pub unspent : (t : Held words) → Enters (on t) → (other : Step) (more : ℕ) → loop (turnHeld words setup counts) other (fuel + more) t ≡ loop (turnHeld words setup counts) spent fuel t
+  unfolding Enters
+  unspent t e = never-spent _ _ setup counts L c (endings most c) (e .0) t (e .1)
 
   -- ---- 1 to 5 and 19
   stays : (n : ℕ) → AltersNothing n → (n ≡ 4 → ⊥) → Enters (S.unaltered words setup counts n At.Nowhere h)
@@ -178,7 +190,8 @@ module _ (setup : Setup) (counts : List ℕ) (h : Held words) where
   unfolding whenAdmitted Judged Enters
   admits go A.Accepted j f = f refl j
   admits go (A.Refused n) j f = stays n (j .0) (j .1)
-  admits go (A.Unsound at) j f = inl (record { number = 4; place = _; answer = refl; same = refl; unaltering = inl (omega arith, omega arith); carries = inl (refl, (at .subject, at .observation, refl)) })
+  admits go (A.Unsound at) j f =
+      inl (record { number = 4; place = _; answer = refl; same = refl; unaltering = inl (omega arith, omega arith); carries = inl (refl, (at .subject, at .observation, refl)) })
 
   -- ---- an evaluation's refusal, and the simulator's: u holds as much
   pub record Like (u : Held words) : Type 0 where
@@ -197,32 +210,34 @@ module _ (setup : Setup) (counts : List ℕ) (h : Held words) where
       })
 
   -- ---- a search goes on with a reply
-  pub stood : (n : ℕ) (p : Progress) → isStanding setup counts n (h .whole .tally) p ≡ true → (p .subject < length counts) × StandsBy (eqb (setup .effects) 2) 6343 p
+  pub stood : (n : ℕ) (p : Progress) → isStanding setup counts n (h .whole .tally) p ≡ true → Stood setup counts p
   unfolding isStanding
   stood n p e = placed OfSearch (endings most c .known) (setup .effects) counts n p (not-first _ _ false-not-true e .1)
 
-  module _ (u : Held words) (l : Like u) (stands : (u .whole .progress .subject < length counts) × StandsBy (eqb (setup .effects) 2) 6343 (u .whole .progress)) (eta : Pair)
-      (wants : B.wantedBy (B.fitOf setup (u .parameters)) (u .whole .progress) ≡ Wants.Point eta) (few : length counts ≤ 4096) where
+  module _ (u : Held words) (l : Like u) (stands : Stood setup counts (u .whole .progress)) (eta : Pair) (wants : wantedAt setup u ≡ Wants.Point eta) (few : length counts ≤ 4096) where
     abbrev fit : Fit
     fit = B.fitOf setup (u .parameters)
 
     abbrev p : Progress
     p = u .whole .progress
 
-    next : (sums : _) → LeftBy OfSearch (endings most c .known) (eqb (fit .effects) 2) (6343 - 1) (B.advanceBy fit p eta sums .progress)
+    abbrev Left : ℕ → Progress → Type 0
+    Left effects q = LeftBy OfSearch (endings most c .known) (eqb effects 2) (6343 - 1) q
+
+    next : (sums : Sums) → Left (fit .effects) (B.advanceBy fit p eta sums .progress)
     unfolding Goes
     next sums =
         let g = points OfSearch (endings most c .known) fit p 6343 (subst (λ (k : ℕ). StandsBy (eqb k 2) 6343 p) (sym (fit-effects setup (u .parameters))) (stands .1)) in
-        let at : Goes 6343 ((x : Pair) (sums : _) → LeftBy OfSearch (endings most c .known) (eqb (fit .effects) 2) (6343 - 1) (B.advanceBy fit p x sums .progress)) (Wants.Point eta) = subst (Goes 6343 _) wants g in
+        let at : Goes 6343 ((x : Pair) (sums : Sums) → Left (fit .effects) (B.advanceBy fit p x sums .progress)) (Wants.Point eta) = subst (Goes 6343 _) wants g in
         at .1 eta sums
 
-    ahead : (sums : _) → Ahead OfSearch (Ending most c) setup counts L c (endings most c) fuel (B.advanceBy fit p eta sums .progress)
+    ahead : (sums : Sums) → Ahead OfSearch (Ending most c) setup counts L c (endings most c) fuel (B.advanceBy fit p eta sums .progress)
     ahead sums =
         let e = advanced-alike fit p eta sums .subject in
         record {
           subject = subst (λ (i : ℕ). i < length counts) (sym e) (stands .0);
           left = 6343 - 1;
-          search = subst (λ (k : ℕ). LeftBy OfSearch (endings most c .known) (eqb k 2) (6343 - 1) (B.advanceBy fit p eta sums .progress)) (fit-effects setup (u .parameters)) (next sums);
+          search = subst (λ (k : ℕ). Left k (B.advanceBy fit p eta sums .progress)) (fit-effects setup (u .parameters)) (next sums);
           enough = omega (arith, few);
         }
 
@@ -246,29 +261,37 @@ module _ (setup : Setup) (counts : List ℕ) (h : Held words) where
         (λ t. admits _ _ (judged parameters) (λ e few. begun few (stood n (h .whole .progress) t .0))) (λ f. nineteen))
       where
         begun : length counts ≤ 4096 → h .whole .progress .subject < length counts → Enters (on (S.begun words setup counts parameters (h .whole)))
-        begun few some = unfold Enters S.begun B.beginSubject in (few, record { ahead = record { subject = omega (arith, some); left = 6343; search = begins OfSearch (endings most c .known) _ 0 0 _ _ _; enough = omega (arith, few) }; work = refl; calls = refl })
+        begun few some = unfold Enters S.begun B.beginSubject in (
+          few,
+          record {
+            ahead = record { subject = omega (arith, some); left = 6343; search = begins OfSearch (endings most c .known) _ 0 0 _ _ _; enough = omega (arith, few) };
+            work = refl;
+            calls = refl;
+          },
+        )
 
     awaited : (go : Pair → Moved (Held words) Step)
-        → ((eta : Pair) → (h .whole .progress .subject < length counts) × StandsBy (eqb (setup .effects) 2) 6343 (h .whole .progress) → B.wantedBy (B.fitOf setup (h .parameters)) (h .whole .progress) ≡ Wants.Point eta → length counts ≤ 4096 → Enters (go eta))
+        → ((eta : Pair) → Stood setup counts (h .whole .progress) → wantedAt setup h ≡ Wants.Point eta → length counts ≤ 4096 → Enters (go eta))
         → Enters (S.whenAwaited words setup counts n check h go)
     unfolding S.whenAwaited
     awaited go f = both Enters _ (cases Enters (isStanding setup counts n (h .whole .tally) (h .whole .progress)) (λ t. at (stood n (h .whole .progress) t) _ refl) (λ g. nineteen)) nineteen
       where
-        at : (h .whole .progress .subject < length counts) × StandsBy (eqb (setup .effects) 2) 6343 (h .whole .progress) → (v : Wanted) → B.wantedBy (B.fitOf setup (h .parameters)) (h .whole .progress) ≡ v → Enters (S.atWanted words setup counts n check h go v)
+        at : Stood setup counts (h .whole .progress) → (v : Wanted) → wantedAt setup h ≡ v → Enters (S.atWanted words setup counts n check h go v)
         at s (Wants.Point eta) e = unfold S.atWanted in admits _ _ (judged (h .parameters)) (λ q. f eta s e)
         at s Wants.Mode e = unfold S.atWanted in nineteen
         at s (Wants.Refused k) e = unfold S.atWanted in nineteen
 
   module _ (observations : List Observation) where
-    answered : (said : List ℕ) (eta : Pair) → (h .whole .progress .subject < length counts) × StandsBy (eqb (setup .effects) 2) 6343 (h .whole .progress)
-        → B.wantedBy (B.fitOf setup (h .parameters)) (h .whole .progress) ≡ Wants.Point eta → length counts ≤ 4096 → Enters (S.answered words setup counts observations said eta h)
+    answered : (said : List ℕ) (eta : Pair) → Stood setup counts (h .whole .progress) → wantedAt setup h ≡ Wants.Point eta → length counts ≤ 4096
+        → Enters (S.answered words setup counts observations said eta h)
     unfolding S.answered
     answered said eta s e few =
         let p = h .whole .progress in
         let rows = rowsOf counts (p .subject) in
         let os = take rows (drop (p .first) observations) in
         let trial = S.trialOf words setup counts (B.fitOf setup (h .parameters)) p in
-        replies h like s eta e few _ (work-length trial said (setup .width) (setup .effects) (setup .«output_budget») os (h .whole .work)) _ (late trial (setup .«output_budget») said os (h .whole .work) (short (rows-few counts (p .subject)) (drop (p .first) observations)))
+        replies h like s eta e few _ (work-length trial said (setup .width) (setup .effects) (setup .«output_budget») os (h .whole .work)) _
+        (late trial (setup .«output_budget») said os (h .whole .work) (short (rows-few counts (p .subject)) (drop (p .first) observations)))
       where
         short : {rows : ℕ} → rows ≤ 100000 → (os : List Observation) → length (take rows os) < 2 ^ 64
         short {rows} l os = let t = length-take rows os in omega (arith, l, t)

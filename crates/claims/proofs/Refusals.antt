@@ -1,20 +1,19 @@
 -- Refusals and the end of an objective, for all that a host may lend: the proof of specs/Refusals. Assumes nothing.
 use mathlib.Core.Path.{_≡_, refl, sym, ap, subst, _∙_}
-use mathlib.Core.Bool.{Bool, true, false}
+use mathlib.Core.Bool.{true, false}
 use mathlib.Core.List.{List}
-use mathlib.Core.Logic.{_⊎_, inl, inr, ⊎-elim}
-use Prim.Native.Nat.{ℕ, suc, _+_, _-_, _≤_, _<_, _^_}
+use mathlib.Core.Logic.{inl, inr, ⊎-elim}
+use Prim.Native.Nat.{ℕ, suc, _-_, _≤_, _<_}
 use native.Mathlib.Omega.{arith}
 use borrow.Author.Tests.{lt-ltb, le-ltb, eq-eqb, ne-eqb, ltb-false, eqb-true}
 use lib.Dec.{ltb, eqb}
-use lib.ListN.{getD, set, length, take, drop, length-take, length-set}
+use lib.ListN.{getD, set, length, take, drop, length-take}
 use lib.Seq.{getD-set-same, getD-set-other}
 use Rattle.float64.specs.Answer.{Answer, given, refused}
 use Rattle.float64.specs.Pick.{pick, both, cases, pick-yes, pick-no}
 use Rattle.matrix.specs.declared.Pair.{Pair}
 use Rattle.likelihood.specs.declared.population_focei.Observation.{Observation}
-use Rattle.evaluation.specs.Subject.{Evaluating, evaluating, begin, addObservations, finish}
-use Rattle.evaluation.specs.declared.Evaluation.the-variants as E
+use Rattle.evaluation.specs.Subject.{Evaluating, evaluating, begin, addObservations}
 use Rattle.evaluation.specs.declared.Trial.{Trial}
 use Rattle.mode.specs.declared.population_focei.Search.{Search}
 use Rattle.mode_2d.specs.declared.population_focei_2d.Search2.{Search2}
@@ -35,14 +34,13 @@ use Rattle.subjects.specs.declared.Step.the-variants as Answers
 use Rattle.subjects.specs.declared.Tally.{Tally}
 use Rattle.subjects.specs.declared.Wanted.{Wanted}
 use Rattle.subjects.specs.declared.Wanted.the-variants as Wants
-use Rattle.sessions.specs.Machine.{Moved, on, halt, Ran, ran, onward, call}
+use Rattle.sessions.specs.Machine.{Moved, Ran, ran, onward, call}
 use Rattle.population.specs.Kept.{words}
-use Rattle.population.specs.Population.{rowsOf, spent}
+use Rattle.population.specs.Population.{rowsOf}
 use Rattle.session.specs.Calls.{heldOf, lentBy, stateOf, entered, openedBy, opening, unawaited, trialBy, nothingAdmitted, finishReply}
 use Rattle.session.specs.Session as S
-use Rattle.session.specs.Session.{Held, Call, objective, reply, failure, fuel, isStanding, turnHeld, whenAdmitted, enter, session, allChecked}
+use Rattle.session.specs.Session.{Held, Call, objective, reply, failure, fuel, isPlaced, isStanding, whenAdmitted, enter, session, allChecked}
 use Rattle.session.specs.declared.Admitted.{Admitted}
-use Rattle.session.specs.declared.Awaited.{Awaited}
 use Rattle.session.specs.declared.State.{State}
 use Rattle.session_words.specs.SessionWords as W
 use Rattle.session_words.specs.SessionWords.{loadedState, savedState}
@@ -52,13 +50,12 @@ use Rattle.hosting.specs.Hosting as H
 use Rattle.hosting.specs.Hosting.{Out, out, did, unknown, withState, answered, placeWords, isUnaltered, finishWith, setupOver, callOver}
 use Rattle.hosting.specs.declared.AnswerWords.{AnswerWords}
 use Rattle.word_replies.specs.SubjectReplies.{subjectChecked, admitSubjectWith, subjectReplyOver}
-use Rattle.claims.specs.Refusals as R
 use Rattle.claims.specs.Refusals.{Exported, opens, calls, replies, Lending, does, AltersNothing, EndsObjective, Carries, Awaits, OutOfTurn, EveryRefusal, SixOnlyAtTheLimit, ZerosAfterAnEnd, NeverSpent, ForAllWords}
-use Rattle.claims.proofs.Endings.{Tells, Says, Answered, Going, one-left, turns, unspent}
-use Rattle.claims.proofs.Entered.{Judged, counts-judged, plain, unheard, late, stood, Done, Enters, done, nineteen, admits, Like, replies as goes-on, enters, endings, Ending, OfSearch, Answers-with}
+use Rattle.claims.proofs.Endings.{Tells, Says, Going, never-spent}
+use Rattle.claims.proofs.Entered.{Judged, counts-judged, plain, unheard, late, stood, Done, Enters, Stood, wantedAt, done, unspent, admits, replies as goes-on, enters, Ending, Answers-with}
 use Rattle.claims.proofs.Evaluated.{work-length}
-use Rattle.claims.proofs.Plain.{true-not-false, false-not-true, split}
-use Rattle.claims.proofs.Remaining.{lifts, placed, StandsBy}
+use Rattle.claims.proofs.Plain.{false-not-true}
+use Rattle.claims.proofs.Remaining.{lifts, placed}
 
 -- ---- numbers
 unaltered-yes : (n : ℕ) → AltersNothing n → isUnaltered n ≡ true
@@ -180,10 +177,26 @@ module _ (setup : Setup) (counts : List ℕ) (observations : List Observation) (
     unfolding Says H.told H.numberOf H.answerOf isUnaltered B.isOver
     went (Answers.Asked eta v) t g =
         let q : pick (isUnaltered 0) state (savedState (stateOf t) state) ≡ savedState (stateOf t) state = pick-no _ _ _ (pick-yes _ _ _ refl) in
-        asks (record { number = refl; said = _; kind = refl; answer-is = refl; awaits = subst Awaits (sym q) (awaited-word (stateOf t) state long (g .says .0)); rise = g .says .1; below = g .says .2 })
+        asks (record {
+          number = refl;
+          said = _;
+          kind = refl;
+          answer-is = refl;
+          awaits = subst Awaits (sym q) (awaited-word (stateOf t) state long (g .says .0));
+          rise = g .says .1;
+          below = g .says .2;
+        })
     went (Answers.Finished ofv) t g =
         let q : pick (isUnaltered 0) state (savedState (stateOf t) state) ≡ savedState (stateOf t) state = pick-no _ _ _ (pick-yes _ _ _ refl) in
-        finishes (record { number = refl; said = _; kind = refl; answer-is = refl; idle = λ x. idle-word (stateOf t) state long (g .says .0) (subst Awaits q x); work-is = g .zeroed refl; rise = let e = g .says .1 in omega (arith, e) })
+        finishes (record {
+          number = refl;
+          said = _;
+          kind = refl;
+          answer-is = refl;
+          idle = λ x. idle-word (stateOf t) state long (g .says .0) (subst Awaits q x);
+          work-is = g .zeroed refl;
+          rise = let e = g .says .1 in omega (arith, e);
+        })
     went (Answers.Refused n place) t g =
         let r = g .says .1 in
         let q : pick (isUnaltered n) state (savedState (stateOf t) state) ≡ savedState (stateOf t) state = pick-no _ _ _ (unaltered-no n (r .number)) in
@@ -197,10 +210,19 @@ module _ (setup : Setup) (counts : List ℕ) (observations : List Observation) (
   abbrev lent : Lent
   lent = lentBy (length observations) (length cache) (length work) (length warm) (length results)
 
-  opens-way : 63 ≤ length state → (a : Admission) → Judged (length counts) a → Way (H.settled setup counts (length observations) (allChecked setup counts observations) tally state answer cache work warm results (opening setup counts lent tally cache work warm results a))
+  opens-way : 63 ≤ length state → (a : Admission) → Judged (length counts) a
+      → Way (H.settled setup counts (length observations) (allChecked setup counts observations) tally state answer cache work warm results (opening setup counts lent tally cache work warm results a))
   unfolding Judged opening H.opened H.openedTo B.beginSubject
   opens-way long A.Accepted j =
-      finishes (record { number = refl; said = _; kind = refl; answer-is = refl; idle = idle-word (stateOf (S.opened words setup counts lent results)) state long refl; work-is = refl; rise = omega arith })
+      finishes (record {
+        number = refl;
+        said = _;
+        kind = refl;
+        answer-is = refl;
+        idle = idle-word (stateOf (S.opened words setup counts lent results)) state long refl;
+        work-is = refl;
+        rise = omega arith;
+      })
   opens-way long (A.Refused n) j = stays n At.Nowhere (j .0) (inr (j .1, refl)) refl
   opens-way long (A.Unsound at) j = stays 4 _ (inl (omega arith, omega arith)) (inl (refl, (at .subject, at .observation, refl))) refl
 
@@ -209,11 +231,14 @@ module _ (setup : Setup) (counts : List ℕ) (observations : List Observation) (
   setup-way = cases Way (ltb (length state) 63) (λ t. nobody) (λ f. opens-way (ltb-false _ _ f) _ (counts-judged setup (length counts) lent (allChecked setup counts observations) _))
 
   -- ---- a new objective, a reply, a failure
+  abbrev called-with : Call → Answer State → Out
+  called-with x l = withState (λ s. did (call (session words setup counts observations) x (h s)) state answer) (unknown tally state answer cache work warm results) l
+
   call-way : (x : Call) → Way (callOver setup counts observations tally state answer cache work warm results x)
   unfolding callOver
   call-way x = at (loadedState state) refl
     where
-      at : (l : Answer State) → loadedState state ≡ l → Way (withState (λ s. did (call (session words setup counts observations) x (h s)) state answer) (unknown tally state answer cache work warm results) l)
+      at : (l : Answer State) → loadedState state ≡ l → Way (called-with x l)
       at (given s) e = unfold withState call in way s (loaded state s e .0) _ (done setup counts (h s) _ (enters setup counts (h s) observations x))
       at (refused n) e = unfold withState in nobody
 
@@ -265,15 +290,17 @@ module _ (setup : Setup) (counts : List ℕ) (observations : List Observation) (
           (λ t q. let m = adds-up _ (length counts) count (length observations) t in omega (arith, n, m)) (λ f q. absurd (never q)) (low .1)
 
       -- not let in
-      barred-way : 63 ≤ length state → (eta : Pair) (a : Admission) → (a ≡ A.Accepted → ⊥) → Judged (length counts) a → (n : ℕ) → Way (ends-as (nothingAdmitted (record { admission = a; eta = eta }) trial n) s)
+      barred-way : 63 ≤ length state → (eta : Pair) (a : Admission) → (a ≡ A.Accepted → ⊥) → Judged (length counts) a → (n : ℕ)
+          → Way (ends-as (nothingAdmitted (record { admission = a; eta = eta }) trial n) s)
       unfolding finishReply
       barred-way long eta a never j n = way s long _ (done setup counts (h s) _ (admits setup counts (h s) _ a j (λ q. absurd (never q))))
 
-      refused-way : 63 ≤ length state → (eta : Pair) (n : ℕ) → Judged (length counts) (A.Refused n) → Way (ends-as (admittedOver setup trial said (record { admission = A.Refused n; eta = eta }) 0 (length observations) (A.Refused n)) s)
+      refused-way : 63 ≤ length state → (eta : Pair) (n : ℕ) → Judged (length counts) (A.Refused n)
+          → Way (ends-as (admittedOver setup trial said (record { admission = A.Refused n; eta = eta }) 0 (length observations) (A.Refused n)) s)
       unfolding admittedOver
       refused-way long eta n j = barred-way long eta (A.Refused n) (λ q. let z : _≡_ {A = ℕ} 0 1 = cc in omega arith) j n
 
-      point-way : 63 ≤ length state → (eta : Pair) → (s .progress .subject < length counts) × StandsBy (eqb (setup .effects) 2) 6343 (s .progress) → B.wantedBy (B.fitOf setup (s .parameters)) (s .progress) ≡ Wants.Point eta
+      point-way : 63 ≤ length state → (eta : Pair) → Stood setup counts (s .progress) → wantedAt setup (h s) ≡ Wants.Point eta
           → (a : Admission) → judgement ≡ a → Judged (length counts) a → Way (ends-as (admittedOver setup trial said (record { admission = a; eta = eta }) 0 (length observations) a) s)
       unfolding admittedOver finishReply Judged whenAdmitted
       point-way long eta st wants A.Accepted q j =
@@ -282,18 +309,20 @@ module _ (setup : Setup) (counts : List ℕ) (observations : List Observation) (
           let l = work-length trial said (setup .width) (setup .effects) (setup .«output_budget») os work in
           let n = length-take (length observations - 0) (drop 0 observations) in
           let few = few-lent q in
-          way s long _ (done setup counts (h s) _ (goes-on setup counts (h s) (heldOf s tally cache (e .work) warm results) (record { work = l; calls = refl }) st eta wants j (e .work) l _ (late trial (setup .«output_budget») said os work (omega (arith, n, few)))))
+          let u = heldOf s tally cache (e .work) warm results in
+          way s long _ (done setup counts (h s) _ (goes-on setup counts (h s) u (record { work = l; calls = refl }) st eta wants j (e .work) l _
+          (late trial (setup .«output_budget») said os work (omega (arith, n, few)))))
       point-way long eta st wants (A.Refused n) q j = refused-way long eta n j
       point-way long eta st wants (A.Unsound at) q j = barred-way long eta (A.Unsound at) (λ q. let z : _≡_ {A = ℕ} 0 1 = cc in omega arith) j 4
 
       -- a point is awaited only where the positions are right, and then it is what the search wants
-      point-wanted : (eta : Pair) → awaitedPoint setup counts mostRows s tally ≡ Wants.Point eta → (isStanding setup counts mostRows tally (s .progress) ≡ true) × (B.wantedBy (B.fitOf setup (s .parameters)) (s .progress) ≡ Wants.Point eta)
+      point-wanted : (eta : Pair) → awaitedPoint setup counts mostRows s tally ≡ Wants.Point eta
+          → (isStanding setup counts mostRows tally (s .progress) ≡ true) × (wantedAt setup (h s) ≡ Wants.Point eta)
       unfolding awaitedPoint
       point-wanted eta =
           let never : Wants.Refused 19 ≡ Wants.Point eta → ⊥ = λ q. let z : _≡_ {A = ℕ} 0 1 = cc in omega arith in
           let st = isStanding setup counts mostRows tally (s .progress) in
-          let v = B.wantedBy (B.fitOf setup (s .parameters)) (s .progress) in
-          let P : Wanted → Type 0 = λ (w : Wanted). w ≡ Wants.Point eta → (st ≡ true) × (v ≡ Wants.Point eta) in
+          let P : Wanted → Type 0 = λ (w : Wanted). w ≡ Wants.Point eta → (st ≡ true) × (wantedAt setup (h s) ≡ Wants.Point eta) in
           cases P (s .progress .awaits) (λ t. cases P st (λ i q. (i, q)) (λ f q. absurd (never q))) (λ f q. absurd (never q))
 
       wanted-way : 63 ≤ length state → (v : Wanted) → awaitedPoint setup counts mostRows s tally ≡ v → Way (wanting v)
@@ -329,22 +358,24 @@ module _ (setup : Setup) (counts : List ℕ) (observations : List Observation) (
   idle-is s e a = loaded state s e .1 ∙ ne-eqb _ _ a
 
   -- 19 for the words that are no state, and for those whose entry is refused so
-  called : (x : Call) → ((s : State) → loadedState state ≡ given s → enter words setup counts observations x (h s) ≡ S.unaltered words setup counts 19 At.Nowhere (h s))
-      → (l : Answer State) → loadedState state ≡ l → withState (λ s. did (call (session words setup counts observations) x (h s)) state answer) (unknown tally state answer cache work warm results) l .told .done .number ≡ 19
-  unfolding withState call onward H.told H.numberOf
+  Refused : Call → State → Type 0
+  Refused x s = enter words setup counts observations x (h s) ≡ S.unaltered words setup counts 19 At.Nowhere (h s)
+
+  called : (x : Call) → ((s : State) → loadedState state ≡ given s → Refused x s) → (l : Answer State) → loadedState state ≡ l → called-with x l .told .done .number ≡ 19
+  unfolding Refused withState call onward H.told H.numberOf
   called x f (given s) e = ap number-of (f s e)
   called x f (refused n) e = refl
 
-  objective-refused : Awaits state → (parameters : Parameters) (s : State) → loadedState state ≡ given s → enter words setup counts observations (objective parameters) (h s) ≡ S.unaltered words setup counts 19 At.Nowhere (h s)
-  unfolding enter S.enterObjective
+  objective-refused : Awaits state → (parameters : Parameters) (s : State) → loadedState state ≡ given s → Refused (objective parameters) s
+  unfolding Refused enter S.enterObjective
   objective-refused a parameters s e = pick-yes _ _ _ (awaits-is s e a)
 
-  reply-refused : (Awaits state → ⊥) → (said : List ℕ) (s : State) → loadedState state ≡ given s → enter words setup counts observations (reply said) (h s) ≡ S.unaltered words setup counts 19 At.Nowhere (h s)
-  unfolding enter S.enterReply S.whenAwaited
+  reply-refused : (Awaits state → ⊥) → (said : List ℕ) (s : State) → loadedState state ≡ given s → Refused (reply said) s
+  unfolding Refused enter S.enterReply S.whenAwaited
   reply-refused a said s e = pick-no _ _ _ (idle-is s e a)
 
-  failure-refused : (Awaits state → ⊥) → (s : State) → loadedState state ≡ given s → enter words setup counts observations failure (h s) ≡ S.unaltered words setup counts 19 At.Nowhere (h s)
-  unfolding enter S.enterFailure S.whenAwaited
+  failure-refused : (Awaits state → ⊥) → (s : State) → loadedState state ≡ given s → Refused failure s
+  unfolding Refused enter S.enterFailure S.whenAwaited
   failure-refused a s e = pick-no _ _ _ (idle-is s e a)
 
   subject-refused : (said : List ℕ) (l : Answer State) → ((s : State) → l ≡ given s → s .progress .awaits ≡ false) → told-to said l .told .done .number ≡ 19
@@ -387,7 +418,8 @@ module _ (l : Lending) (x : Exported) where
   other n i (inr e) = let a = i .1 in omega (arith, a, e)
 
   abbrev Unaltered : ℕ → Type 0
-  Unaltered n = (place : Place) × Carries n place × (o ≡ out (record { number = n; tally = l .tally }) (l .state) (answered (placeWords n place) (l .answer)) (l .cache) (l .work) (l .warm) (l .results))
+  Unaltered n =
+      (place : Place) × Carries n place × (o ≡ out (record { number = n; tally = l .tally }) (l .state) (answered (placeWords n place) (l .answer)) (l .cache) (l .work) (l .warm) (l .results))
 
   refusals-of : Taken → EveryRefusal l x
   refusals-of (stays n place u k e) =
@@ -457,34 +489,26 @@ module _ (l : Lending) (x : Exported) where
     asked = λ i q. absurd (let z = refusal-kind (o .told .done .number) (k .place) (k .answer-is) i q in omega (arith, z));
   }
 
--- ---- the requests are never used up
+-- ---- the requests are never used up: of the numbers nothing is asked
 module _ (setup : Setup) (counts : List ℕ) where
   anything : (most c : ℕ) → Tells (λ n. Unit) (λ n k. Unit) most c
   anything most c = record { known = λ n a b. tt; ended = λ n a. tt; limit = λ l. tt; wild = λ l. tt; mode = λ n a b. tt }
 
+  stands-so : length counts ≤ 4096 → (n : ℕ) (h : Held words) → isPlaced (setup .effects) counts n (h .whole .progress) ≡ true
+      → Going (λ n. Unit) (λ n k. Unit) setup counts (length (h .whole .work)) (h .whole .tally .calls .0) (anything _ _) fuel h
+  stands-so few n h e =
+      let p = placed (λ n. Unit) (λ n a b. tt) (setup .effects) counts n (h .whole .progress) e in
+      record {
+        ahead = record { subject = p .0; left = 6343; search = lifts (λ n. Unit) (λ n a b. tt) (λ n. tt) _ 6343 (h .whole .progress) (p .1); enough = omega (arith, few) };
+        work = refl;
+        calls = refl;
+      }
+
   requests : NeverSpent setup counts
   requests = record {
-    within = λ few n h e other more.
-        let c = h .whole .tally .calls .0 in
-        let most = setup .«max_evaluations» in
-        let L = length (h .whole .work) in
-        let t = anything most c in
-        let p = placed (λ n. Unit) (t .known) (setup .effects) counts n (h .whole .progress) e in
-        unspent (turnHeld words setup counts) (Going (λ n. Unit) (λ n k. Unit) setup counts L c t) (Answered (λ n. Unit) (λ n k. Unit) setup counts L c t)
-        (one-left _ _ setup counts L c t) (turns _ _ setup counts L c t few) spent other fuel (fuel + more) h
-        (record { ahead = record { subject = p .0; left = 6343; search = lifts (λ n. Unit) (t .known) (λ n. tt) _ 6343 (h .whole .progress) (p .1); enough = omega (arith, few) }; work = refl; calls = refl }) (omega arith);
-    entered = λ observations x h t e other more.
-        let c = h .whole .tally .calls .0 in
-        let most = setup .«max_evaluations» in
-        let L = length (h .whole .work) in
-        let g = going h t (subst (Enters setup counts h) e (enters setup counts h observations x)) in
-        unspent (turnHeld words setup counts) (Going OfSearch (Ending most c) setup counts L c (endings most c)) (Answered OfSearch (Ending most c) setup counts L c (endings most c))
-        (one-left _ _ setup counts L c (endings most c)) (turns _ _ setup counts L c (endings most c) (g .0)) spent other fuel (fuel + more) t (g .1) (omega arith);
+    within = λ few n h e. never-spent _ _ setup counts _ _ (anything _ _) few h (stands-so few n h e);
+    entered = λ observations x h t e. unspent setup counts h t (subst (Enters setup counts h) e (enters setup counts h observations x));
   }
-    where
-      going : (h t : Held words) → Enters setup counts h (on t)
-          → (length counts ≤ 4096) × Going OfSearch (Ending (setup .«max_evaluations») (h .whole .tally .calls .0)) setup counts (length (h .whole .work)) (h .whole .tally .calls .0) (endings (setup .«max_evaluations») (h .whole .tally .calls .0)) fuel t
-      going h t g = unfold Enters in g
 
 pub for-all-words : ForAllWords
 for-all-words =

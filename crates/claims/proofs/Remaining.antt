@@ -32,7 +32,6 @@ use Rattle.histories.proofs.Count2.{reduction-ge}
 use Rattle.histories.proofs.Trials.{isPoint}
 use Rattle.evaluation.specs.declared.Sums.{Sums}
 use Rattle.subjects.specs.Subjects as B
-use Rattle.subjects.specs.declared.Advanced.{Advanced}
 use Rattle.subjects.specs.declared.Fit.{Fit}
 use Rattle.subjects.specs.declared.Progress.{Progress}
 use Rattle.subjects.specs.declared.Wanted.{Wanted}
@@ -157,7 +156,8 @@ module _ (N : ℕ → Type 0) (known : (n : ℕ) → 13 ≤ n → n ≤ 16 → N
   round-left : (s : Settings2) (k r : ℕ) (c b : Conditional2) (n : ℕ) → r < 48 → 22 + (47 - r) * 22 + (5 - k) * 1057 ≤ n → Left2 n (R2.beginRound s k r c b)
   unfolding R2.beginRound
   round-left s k r c b n R h =
-      cases (Left2 n) (le (R2.norm s c) (word 0x3ee4_f8b5_88e3_68f1)) {x = R2.finish s k c b} {y = R2.descend s k r 0 c b} (λ _. finish-left s k c b n (omega arith)) (λ _. descend-left s k r 0 c b n R (omega arith))
+      cases (Left2 n) (le (R2.norm s c) (word 0x3ee4_f8b5_88e3_68f1)) {x = R2.finish s k c b} {y = R2.descend s k r 0 c b} (λ _. finish-left s k c b n (omega arith))
+      (λ _. descend-left s k r 0 c b n R (omega arith))
 
   -- a trial is taken, or not
   module _ (s : Settings2) (x : Search2) (c : Conditional2) (n : ℕ) (w : InTrial (x .seed) (x .round) (x .reduction) n) where
@@ -198,8 +198,10 @@ module _ (N : ℕ → Type 0) (known : (n : ℕ) → 13 ≤ n → n ≤ 16 → N
 
       on : (k : ℕ) → 1057 + (5 - k) * 1057 ≤ m → 22 + (47 - 0) * 22 + (5 - k) * 1057 ≤ m - 1
       on k h = omega arith
-  goes-at Trial s x m r =
-      (go (x .seed) (x .round) (x .reduction) (r .left) (r .reduction), λ c. cases (Left2 (m - 1)) (R2.isTaken s x c) {x = R2.take s x c} {y = R2.leave s x} (λ _. take-left s x c m r) (λ _. leave-left s x c m r))
+  goes-at Trial s x m r = (
+    go (x .seed) (x .round) (x .reduction) (r .left) (r .reduction),
+    λ c. cases (Left2 (m - 1)) (R2.isTaken s x c) {x = R2.take s x c} {y = R2.leave s x} (λ _. take-left s x c m r) (λ _. leave-left s x c m r),
+  )
     where
       go : (k r j : ℕ) → 22 - j + (47 - r) * 22 + (5 - k) * 1057 ≤ m → j < 22 → 1 ≤ m
       go k r j a b = omega arith
@@ -243,7 +245,8 @@ module _ (N : ℕ → Type 0) (known : (n : ℕ) → 13 ≤ n → n ≤ 16 → N
   points fit p m r = go (eqb (fit .effects) 2) r
     where
       go : (b : Bool) → StandsBy b m p
-          → Goes m ((eta : Pair) (sums : Sums) → LeftBy b (m - 1) (pick b (B.advance2 (B.settings2 fit p) p (B.conditional2 eta sums)) (B.advance1 (B.settings fit p) p (B.conditional1 fit eta sums)) .progress))
+          → Goes m ((eta : Pair) (sums : Sums)
+          → LeftBy b (m - 1) (pick b (B.advance2 (B.settings2 fit p) p (B.conditional2 eta sums)) (B.advance1 (B.settings fit p) p (B.conditional1 fit eta sums)) .progress))
           (pick b (B.wanted2 (B.settings2 fit p) (p .«search_2d»)) (B.wanted1 (B.settings fit p) (p .search)))
       go true r = goes-map m (λ f eta sums. f (B.conditional2 eta sums)) _ (goes-at (p .«search_2d» .stage) (B.settings2 fit p) (p .«search_2d») m r)
       go false r = goes-map m (λ f eta sums. f (B.conditional1 fit eta sums)) _ (goes1 (B.settings fit p) (p .search) m r)

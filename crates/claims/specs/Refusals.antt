@@ -45,10 +45,13 @@ pub record Lending : Type 0 where
 
 -- all that a call gives back and writes: what the exported functions promise
 abbrev pub does : Lending → Exported → Out
-does l opens = setupOver (l .setup) (l .counts) (l .observations) (l .tally) (l .state) (l .answer) (l .cache) (l .work) (l .warm) (l .results)
-does l (calls c) = callOver (l .setup) (l .counts) (l .observations) (l .tally) (l .state) (l .answer) (l .cache) (l .work) (l .warm) (l .results) c
+does l opens =
+    setupOver (l .setup) (l .counts) (l .observations) (l .tally) (l .state) (l .answer) (l .cache) (l .work) (l .warm) (l .results)
+does l (calls c) =
+    callOver (l .setup) (l .counts) (l .observations) (l .tally) (l .state) (l .answer) (l .cache) (l .work) (l .warm) (l .results) c
 does l (replies said) =
-    subjectReplyOver (l .setup) (l .counts) (l .observations) (l .tally) (l .state) (l .answer) (l .cache) (l .work) (l .warm) (l .results) said
+    subjectReplyOver (l .setup) (l .counts) (l .observations) (l .tally) (l .state) (l .answer) (l .cache) (l .work) (l .warm) (l .results)
+    said
 
 -- ---- document 01's numbers
 
@@ -132,10 +135,12 @@ module _ (l : Lending) where
 pub record NeverSpent (setup : Setup) (counts : List ℕ) : Type 0 where
   -- from every place whose subject is one of 4,096 at most and whose search is within the limits that 19 asks for, whatever its floats
   pub within : length counts ≤ 4096 → (n : ℕ) (h : Held words) → isPlaced (setup .effects) counts n (h .whole .progress) ≡ true
-      → (other : Step) (more : ℕ) → loop (turnHeld words setup counts) other (fuel + more) h ≡ loop (turnHeld words setup counts) spent fuel h
+      → (other : Step) (more : ℕ)
+      → loop (turnHeld words setup counts) other (fuel + more) h ≡ loop (turnHeld words setup counts) spent fuel h
   -- and after every entry that goes on to the requests
   pub entered : (observations : List Observation) (c : Call) (h t : Held words) → enter words setup counts observations c h ≡ on t
-      → (other : Step) (more : ℕ) → loop (turnHeld words setup counts) other (fuel + more) t ≡ loop (turnHeld words setup counts) spent fuel t
+      → (other : Step) (more : ℕ)
+      → loop (turnHeld words setup counts) other (fuel + more) t ≡ loop (turnHeld words setup counts) spent fuel t
 
 -- ---- of every call, with whatever is lent
 
