@@ -62,7 +62,7 @@ Judged subjects (A.Unsound place) = Unit
 -- n from 1 to 5, and not 4
 pub plain : (subjects n : ℕ) → 1 ≤ n → n ≤ 5 → (n ≡ 4 → ⊥) → Judged subjects (A.Refused n)
 unfolding Judged
-plain subjects n low high other = (inl (low, high), other)
+plain subjects n low high other = (inl (low, omega (arith, high)), other)
 
 pub unheard : (subjects : ℕ) → Judged subjects (A.Refused 19)
 unfolding Judged
