@@ -3,6 +3,8 @@ pub mod Always
 pub mod Blocks
 pub mod Copies
 pub mod Domains
+pub mod Endings
+pub mod Entered
 pub mod Entries
 pub mod Evaluated
 pub mod Fitting
@@ -17,6 +19,8 @@ pub mod Placed
 pub mod Plain
 pub mod Points
 pub mod Refined
+pub mod Refusals
+pub mod Remaining
 pub mod Requests
 pub mod Results
 pub mod Searches

@@ -28,7 +28,7 @@ Room Warm i n = 65 ≤ n
 Room Secant i n = (64 ≤ i + n) × (i ≤ 15)
 Room Halving i n = 48 ≤ i + n
 
-abbrev RoomOf : ℕ → Search → Type 0
+abbrev pub RoomOf : ℕ → Search → Type 0
 RoomOf n x = Room (x .stage) (x .count) n
 
 -- ---- which requests are points
@@ -64,7 +64,7 @@ past : (i n : ℕ) → i < n → n ≤ i → ⊥
 past i n h k = omega arith
 
 -- ---- one more is asked
-room-pos : (st : Stage) (s : Settings) (x : Search) (n : ℕ) → Room st (x .count) n → T (isPoint (requestAt st s x)) → 1 ≤ n
+pub room-pos : (st : Stage) (s : Settings) (x : Search) (n : ℕ) → Room st (x .count) n → T (isPoint (requestAt st s x)) → 1 ≤ n
 room-pos Grid s x n r h = omega arith
 room-pos Warm s x n r h = omega arith
 room-pos Secant s x n r h = omega arith
@@ -76,7 +76,7 @@ entered-room true true n h = h
 entered-room true false n h = omega arith
 entered-room false u n h = omega arith
 
-room-step : (st : Stage) (s : Settings) (x : Search) (c : Conditional) (n : ℕ) → Room st (x .count) n → T (isPoint (requestAt st s x)) → RoomOf (n - 1) (advanceAt st s x c)
+pub room-step : (st : Stage) (s : Settings) (x : Search) (c : Conditional) (n : ℕ) → Room st (x .count) n → T (isPoint (requestAt st s x)) → RoomOf (n - 1) (advanceAt st s x c)
 unfolding advanceAt tried screened entered chosen firstStage
 room-step Grid s x c n r h =
     let k = on-grid s x h in
