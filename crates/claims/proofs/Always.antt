@@ -45,12 +45,12 @@ module _ (R : Rules) (K : Claims R) (M : Machine) (Y : View R M) (Sound : M .Sta
   after-entry c s h (failed t e n o) = o .sound
 
 -- ---- a call, a session
-onward-keeps : {State Answer : Type 0} (P : State → Type 0) (m : Moved State Answer) (k : State → Ran State Answer) → After P m → ((s : State) → P s → P (k s .state)) → P (onward m k .state)
+pub onward-keeps : {State Answer : Type 0} (P : State → Type 0) (m : Moved State Answer) (k : State → Ran State Answer) → After P m → ((s : State) → P s → P (k s .state)) → P (onward m k .state)
 unfolding After onward
 onward-keeps P (on s) k p f = f s p
 onward-keeps P (halt a s) k p f = p
 
-loop-keeps : {State Answer : Type 0} (P : State → Type 0) (turn : State → Moved State Answer) (spent : Answer) → ((s : State) → P s → After P (turn s)) → (n : ℕ) (s : State) → P s → P (loop turn spent n s .state)
+pub loop-keeps : {State Answer : Type 0} (P : State → Type 0) (turn : State → Moved State Answer) (spent : Answer) → ((s : State) → P s → After P (turn s)) → (n : ℕ) (s : State) → P s → P (loop turn spent n s .state)
 unfolding loop
 loop-keeps P turn spent keeps zero s p = p
 loop-keeps P turn spent keeps (suc n) s p = onward-keeps P (turn s) _ (keeps s p) (loop-keeps P turn spent keeps n)

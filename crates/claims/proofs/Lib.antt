@@ -10,6 +10,7 @@ pub mod Evaluated
 pub mod Fitting
 pub mod Formats
 pub mod Formatted
+pub mod Host
 pub mod Lengths
 pub mod LetIn
 pub mod Limits
