@@ -52,7 +52,7 @@ use Rattle.hosting.specs.declared.AnswerWords.{AnswerWords}
 use Rattle.word_replies.specs.SubjectReplies.{subjectChecked, admitSubjectWith, subjectReplyOver}
 use Rattle.claims.specs.Refusals.{Exported, opens, calls, replies, Lending, does, AltersNothing, EndsObjective, Carries, Awaits, OutOfTurn, EveryRefusal, SixOnlyAtTheLimit, ZerosAfterAnEnd, NeverSpent, ForAllWords}
 use Rattle.claims.proofs.Endings.{Tells, Says, Going, never-spent}
-use Rattle.claims.proofs.Entered.{Judged, counts-judged, plain, unheard, late, stood, Done, Enters, Stood, wantedAt, done, unspent, admits, replies as goes-on, enters, Ending, Answers-with}
+use Rattle.claims.proofs.Entered.{Judged, counts-judged, one, unheard, late, stood, Done, Enters, Stood, wantedAt, done, unspent, admits, replies as goes-on, enters, Ending, Answers-with}
 use Rattle.claims.proofs.Evaluated.{work-length}
 use Rattle.claims.proofs.Plain.{false-not-true}
 use Rattle.claims.proofs.Remaining.{lifts, placed}
@@ -156,7 +156,7 @@ module _ (setup : Setup) (counts : List ℕ) (observations : List Observation) (
     answer-is : o .told .answer ≡ answered (placeWords (o .told .done .number) place) answer
     idle : Awaits (o .told .state) → ⊥
     work-is : o .work ≡ zeros (length work)
-    ending : Ending most c (o .told .done .number) (o .told .done .tally .calls .0)
+    ending : Ending most c (o .told .done .number) place (o .told .done .tally .calls .0)
 
   data Way (o : Out) : Type 0 where
     stays : (n : ℕ) (place : Place) → AltersNothing n → Carries n place → o ≡ kept n place → Way o
@@ -165,7 +165,7 @@ module _ (setup : Setup) (counts : List ℕ) (observations : List Observation) (
     refuses : Refuses o → Way o
 
   nobody : Way (unknown tally state answer cache work warm results)
-  nobody = stays 19 At.Nowhere (inr refl) (inr (λ e. omega (arith, e), refl)) refl
+  nobody = stays 19 At.Nowhere (inr refl) (inr (inr (inr refl))) refl
 
   -- ---- from what the machine did
   module _ (s : State) (long : 63 ≤ length state) where
@@ -223,8 +223,8 @@ module _ (setup : Setup) (counts : List ℕ) (observations : List Observation) (
         work-is = refl;
         rise = omega arith;
       })
-  opens-way long (A.Refused n) j = stays n At.Nowhere (j .0) (inr (j .1, refl)) refl
-  opens-way long (A.Unsound at) j = stays 4 _ (inl (omega arith, omega arith)) (inl (refl, (at .subject, at .observation, refl))) refl
+  opens-way long (A.Refused n) j = stays n At.Nowhere (j .0) (j .1) refl
+  opens-way long (A.Unsound at) j = stays 4 _ (inl (omega arith, omega arith)) (inl refl) refl
 
   setup-way : Way (setupOver setup counts observations tally state answer cache work warm results)
   unfolding setupOver H.openWith openedBy checks
@@ -274,8 +274,7 @@ module _ (setup : Setup) (counts : List ℕ) (observations : List Observation) (
       judged : Judged (length counts) judgement
       unfolding subjectChecks
       judged =
-          let one = plain (length counts) 1 (omega arith) (omega arith) (λ e. omega (arith, e)) in
-          both (Judged (length counts)) _ one (both (Judged (length counts)) _ one (counts-judged _ (length counts) lent _ _))
+          both (Judged (length counts)) _ (one (length counts)) (both (Judged (length counts)) _ (one (length counts)) (counts-judged _ (length counts) lent _ _))
 
       abbrev count : ℕ
       count = getD counts (s .progress .subject) 0
@@ -431,7 +430,7 @@ module _ (l : Lending) (x : Exported) where
       }
   refusals-of (asks k) = record { numbers = inl (k .number); unaltered = λ v. absurd (apart _ (k .number) v); others = λ i. absurd (let a = k .number in let b = i .0 in omega (arith, a, b)) }
   refusals-of (finishes k) = record { numbers = inl (k .number); unaltered = λ v. absurd (apart _ (k .number) v); others = λ i. absurd (let a = k .number in let b = i .0 in omega (arith, a, b)) }
-  refusals-of (refuses k) = record { numbers = inr (inr (k .ending .number)); unaltered = λ v. absurd (other _ (k .ending .number) v); others = λ i. (k .place, k .answer-is) }
+  refusals-of (refuses k) = record { numbers = inr (inr (k .ending .number)); unaltered = λ v. absurd (other _ (k .ending .number) v); others = λ i. (k .place, k .ending .carries, k .answer-is) }
 
   limits-of : Taken → SixOnlyAtTheLimit l x
   limits-of (stays n place u k e) =
@@ -491,11 +490,11 @@ module _ (l : Lending) (x : Exported) where
 
 -- ---- the requests are never used up: of the numbers nothing is asked
 module _ (setup : Setup) (counts : List ℕ) where
-  anything : (most c : ℕ) → Tells (λ n. Unit) (λ n k. Unit) most c
-  anything most c = record { known = λ n a b. tt; ended = λ n a. tt; limit = λ l. tt; wild = λ l. tt; mode = λ n a b. tt }
+  anything : (most c : ℕ) → Tells (λ n. Unit) (λ n place k. Unit) most c
+  anything most c = record { known = λ n a b. tt; ended = λ n i a. tt; limit = λ i l. tt; wild = λ i l. tt; mode = λ n i a b. tt; total = tt }
 
   stands-so : length counts ≤ 4096 → (n : ℕ) (h : Held words) → isPlaced (setup .effects) counts n (h .whole .progress) ≡ true
-      → Going (λ n. Unit) (λ n k. Unit) setup counts (length (h .whole .work)) (h .whole .tally .calls .0) (anything _ _) fuel h
+      → Going (λ n. Unit) (λ n place k. Unit) setup counts (length (h .whole .work)) (h .whole .tally .calls .0) (anything _ _) fuel h
   stands-so few n h e =
       let p = placed (λ n. Unit) (λ n a b. tt) (setup .effects) counts n (h .whole .progress) e in
       record {

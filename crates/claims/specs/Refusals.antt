@@ -63,9 +63,11 @@ AltersNothing n = ((1 ≤ n) × (n ≤ 5)) ⊎ (n ≡ 19)
 abbrev pub EndsObjective : ℕ → Type 0
 EndsObjective n = (6 ≤ n) × (n ≤ 18)
 
--- 4 carries subject and observation; 1 to 3, 5 and 19 carry no place
+-- what each carries: 1 to 3, 5, 18 and 19 no place; 4, 10, 11 and a row's 12 subject and observation; the others the subject
 abbrev pub Carries : ℕ → Place → Type 0
-Carries n place = ((n ≡ 4) × ((i : ℕ) × (j : ℕ) × (place ≡ At.Observation i j))) ⊎ ((n ≡ 4 → ⊥) × (place ≡ At.Nowhere))
+Carries n At.Nowhere = ((1 ≤ n) × (n ≤ 3)) ⊎ ((n ≡ 5) ⊎ ((n ≡ 18) ⊎ (n ≡ 19)))
+Carries n (At.Observation i j) = (n ≡ 4) ⊎ ((10 ≤ n) × (n ≤ 12))
+Carries n (At.Subject i) = ((6 ≤ n) × (n ≤ 9)) ⊎ ((12 ≤ n) × (n ≤ 17))
 
 -- a state's first word is 1 where a reply is awaited
 abbrev pub Awaits : List ℕ → Type 0
@@ -108,7 +110,8 @@ module _ (l : Lending) where
         × (does l x ≡ out (record { number = number x; tally = l .tally }) (l .state) (answered (placeWords (number x) place) (l .answer))
         (l .cache) (l .work) (l .warm) (l .results))
     -- the answer to the others is 2, the number and its place too
-    pub others : EndsObjective (number x) → (place : Place) × (does l x .told .answer ≡ answered (placeWords (number x) place) (l .answer))
+    pub others : EndsObjective (number x) → (place : Place) × Carries (number x) place
+        × (does l x .told .answer ≡ answered (placeWords (number x) place) (l .answer))
 
   -- ---- 6 only where no evaluation is left
 
