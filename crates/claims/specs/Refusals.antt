@@ -84,7 +84,7 @@ module _ (l : Lending) where
   abbrev pub after : Exported → ℕ
   after x = does l x .told .done .tally .calls .0
 
-  -- ---- 19: a call out of turn, or with words that are no state
+  -- ---- 19: a call out of turn, words that are no state, or one that stands beyond what is lent
 
   pub record OutOfTurn : Type 0 where
     -- a new objective while a reply is awaited
@@ -93,10 +93,11 @@ module _ (l : Lending) where
     pub answers : (Awaits (l .state) → ⊥) → (said : List ℕ) → number (calls (reply said)) ≡ 19
     pub subjects : (Awaits (l .state) → ⊥) → (said : List ℕ) → number (replies said) ≡ 19
     pub failures : (Awaits (l .state) → ⊥) → number (calls failure) ≡ 19
-    -- words that are no state
-    pub stateless : (n : ℕ) → loadedState (l .state) ≡ refused n → (c : Call) → number (calls c) ≡ 19
-    pub stateless-subjects : (n : ℕ) → loadedState (l .state) ≡ refused n → (said : List ℕ) → number (replies said) ≡ 19
-    -- too few words for the state that setup is to give
+    -- any call but setup: words that are no state; a subject that has no count; kept rows above K
+    pub stateless : (n : ℕ) → loadedState (l .state) ≡ refused n → (x : Exported) → (x ≡ opens → ⊥) → number x ≡ 19
+    pub misplaced : length (l .counts) ≤ getD (l .state) 8 0 → (x : Exported) → (x ≡ opens → ⊥) → number x ≡ 19
+    pub crowded : l .setup .k < l .tally .«cached_rows» .0 → (x : Exported) → (x ≡ opens → ⊥) → number x ≡ 19
+    -- setup: too few words for the state that it is to give
     pub short : length (l .state) < 63 → number opens ≡ 19
 
   -- ---- every refusal: its number, and what it leaves
