@@ -75,8 +75,10 @@ module _ {State Answer : Type 0} (turn : State → Moved State Answer) (Going : 
 -- ---- what a turn refuses with: N is the numbers that a search ends with, and `Refuses` what is said of a number, its place and the tally's evaluations then. There are c of them before the
 -- call, and `most` is their limit.
 pub record Tells (N : ℕ → Type 0) (Refuses : ℕ → Place → ℕ → Type 0) (most c : ℕ) : Type 0 where
+  -- 13 to 16 are such numbers, and a search ends with no other
   pub known : (n : ℕ) → 13 ≤ n → n ≤ 16 → N n
   pub ended : (n i : ℕ) → N n → Refuses n (At.Subject i) c
+  -- 6, 7, then 16 and 17 of a mode, and 18
   pub limit : (i : ℕ) → most ≤ c → Refuses 6 (At.Subject i) c
   pub wild : (i : ℕ) → c < most → Refuses 7 (At.Subject i) (suc c)
   pub mode : (n i : ℕ) → 16 ≤ n → n ≤ 17 → Refuses n (At.Subject i) c
