@@ -26,6 +26,7 @@ use Rattle.subjects.specs.declared.Fit.{Fit}
 use Rattle.subjects.specs.declared.Halted.{Halted}
 use Rattle.subjects.specs.declared.Mode.{Mode}
 use Rattle.subjects.specs.declared.Place.{Place}
+use Rattle.subjects.specs.declared.Place.the-variants as At
 use Rattle.subjects.specs.declared.Progress.{Progress}
 use Rattle.subjects.specs.declared.Step.{Step}
 use Rattle.subjects.specs.declared.Step.the-variants as Answers
@@ -71,17 +72,20 @@ module _ {State Answer : Type 0} (turn : State → Moved State Answer) (Going : 
     unspent other (suc n) zero s g h = absurd (not-suc-le-zero h)
     unspent other (suc n) (suc k) s g h = same n _ _ (λ t u. unspent other n k t u (le-of-suc-le-suc h)) (turn s) (turns n s g)
 
--- ---- what a turn refuses with: N is the numbers that a search ends with, and `Refuses` what is said of a number and of the tally's evaluations then. There are c of them before the call, and
--- `most` is their limit.
-pub record Tells (N : ℕ → Type 0) (Refuses : ℕ → ℕ → Type 0) (most c : ℕ) : Type 0 where
+-- ---- what a turn refuses with: N is the numbers that a search ends with, and `Refuses` what is said of a number, its place and the tally's evaluations then. There are c of them before the
+-- call, and `most` is their limit.
+pub record Tells (N : ℕ → Type 0) (Refuses : ℕ → Place → ℕ → Type 0) (most c : ℕ) : Type 0 where
+  -- 13 to 16 are such numbers, and a search ends with no other
   pub known : (n : ℕ) → 13 ≤ n → n ≤ 16 → N n
-  pub ended : (n : ℕ) → N n → Refuses n c
-  pub limit : most ≤ c → Refuses 6 c
-  pub wild : c < most → Refuses 7 (suc c)
-  pub mode : (n : ℕ) → 16 ≤ n → n ≤ 18 → Refuses n c
+  pub ended : (n i : ℕ) → N n → Refuses n (At.Subject i) c
+  -- 6, 7, then 16 and 17 of a mode, and 18
+  pub limit : (i : ℕ) → most ≤ c → Refuses 6 (At.Subject i) c
+  pub wild : (i : ℕ) → c < most → Refuses 7 (At.Subject i) (suc c)
+  pub mode : (n i : ℕ) → 16 ≤ n → n ≤ 17 → Refuses n (At.Subject i) c
+  pub total : Refuses 18 At.Nowhere c
 
 -- ---- a call with L work words lent, and c evaluations in the tally
-module _ (N : ℕ → Type 0) (Refuses : ℕ → ℕ → Type 0) (setup : Setup) (counts : List ℕ) (L c : ℕ) (tells : Tells N Refuses (setup .«max_evaluations») c) where
+module _ (N : ℕ → Type 0) (Refuses : ℕ → Place → ℕ → Type 0) (setup : Setup) (counts : List ℕ) (L c : ℕ) (tells : Tells N Refuses (setup .«max_evaluations») c) where
   abbrev most : ℕ
   most = setup .«max_evaluations»
 
@@ -95,7 +99,7 @@ module _ (N : ℕ → Type 0) (Refuses : ℕ → ℕ → Type 0) (setup : Setup)
   unfoldable pub Says : Step → Bool → ℕ → Type 0
   Says (Answers.Asked eta individual) awaits calls = (awaits ≡ true) × (calls ≡ suc c) × (c < most)
   Says (Answers.Finished ofv) awaits calls = (awaits ≡ false) × (calls ≡ c)
-  Says (Answers.Refused n place) awaits calls = (awaits ≡ false) × Refuses n calls
+  Says (Answers.Refused n place) awaits calls = (awaits ≡ false) × Refuses n place calls
 
   pub record Answered (a : Step) (t : Held words) : Type 0 where
     pub says : Says a (t .whole .progress .awaits) (t .whole .tally .calls .0)
@@ -156,11 +160,11 @@ module _ (N : ℕ → Type 0) (Refuses : ℕ → ℕ → Type 0) (setup : Setup)
     closes (Halt x) work warm results t l = record { says = t; zeroed = λ e. pick-yes _ _ _ e ∙ ap zeros l }
 
     -- a refusal that leaves the tally
-    refuses : (number : ℕ) (place : Place) → Refuses number c → TurnsTo (Halt (B.refusedBy p (w .tally) number place))
+    refuses : (number : ℕ) (place : Place) → Refuses number place c → TurnsTo (Halt (B.refusedBy p (w .tally) number place))
     unfolding TurnsTo Says B.refusedBy B.idle B.withSearch
-    refuses number place r = (refl, subst (Refuses number) (sym (g .calls)) r)
+    refuses number place r = (refl, subst (Refuses number place) (sym (g .calls)) r)
 
-    refused-ends : (number : ℕ) (place : Place) (warm results : List ℕ) → Refuses number c → Ends (ended (Halt (B.refusedBy p (w .tally) number place)) (w .work) warm results)
+    refused-ends : (number : ℕ) (place : Place) (warm results : List ℕ) → Refuses number place c → Ends (ended (Halt (B.refusedBy p (w .tally) number place)) (w .work) warm results)
     refused-ends number place warm results r = record { turned = refuses number place r; work = g .work }
 
     -- ---- a point
@@ -179,7 +183,7 @@ module _ (N : ℕ → Type 0) (Refuses : ℕ → ℕ → Type 0) (setup : Setup)
     asks-for : c < most → (eta : Pair) (v : Answer Pair) → Seven v → TurnsTo (Halt (B.askFor p (B.counted (w .tally)) eta v))
     unfolding TurnsTo Says Seven B.askFor B.awaiting B.refusedBy B.idle B.withSearch
     asks-for l eta (given v) s = (refl, counts-up, l)
-    asks-for l eta (refused k) s = (refl, subst (Refuses k) (sym counts-up) (subst (λ (i : ℕ). Refuses i (suc c)) (sym s) (tells .wild l)))
+    asks-for l eta (refused k) s = let at = At.Subject (p .subject) in (refl, subst (Refuses k at) (sym counts-up) (subst (λ (i : ℕ). Refuses i at (suc c)) (sym s) (tells .wild (p .subject) l)))
 
     asks : (eta : Pair) → TurnsTo (Halt (B.ask fit p (w .tally) eta))
     unfolding B.ask
@@ -188,7 +192,7 @@ module _ (N : ℕ → Type 0) (Refuses : ℕ → ℕ → Type 0) (setup : Setup)
         let m = fit-most setup (h .parameters) in
         cases (λ (x : Halted). TurnsTo (Halt x)) (ltb (w .tally .calls .0) (fit .«max_evaluations»))
         (λ t. let l : w .tally .calls .0 < fit .«max_evaluations» = ltb-true _ _ t in asks-for (omega (arith, e, m, l)) eta _ (values _ eta _))
-        (λ f. let l : fit .«max_evaluations» ≤ w .tally .calls .0 = ltb-false _ _ f in refuses 6 _ (tells .limit (omega (arith, e, m, l))))
+        (λ f. let l : fit .«max_evaluations» ≤ w .tally .calls .0 = ltb-false _ _ f in refuses 6 _ (tells .limit _ (omega (arith, e, m, l))))
 
     -- with any evaluation of a point that is wanted, one less is left
     abbrev Fewer : Type 0
@@ -242,13 +246,13 @@ module _ (N : ℕ → Type 0) (Refuses : ℕ → ℕ → Type 0) (setup : Setup)
 
         finishes : (ofv squares : Float) → TurnsTo (Halt (B.objectiveOf p (w .tally) ofv squares))
         finishes ofv squares =
-            unfold B.objectiveOf in both (λ (x : Halted). TurnsTo (Halt x)) (nonfinite ofv) (refuses 18 _ (tells .mode 18 (omega arith) (omega arith)))
+            unfold B.objectiveOf in both (λ (x : Halted). TurnsTo (Halt x)) (nonfinite ofv) (refuses 18 _ (tells .total))
             (unfold TurnsTo Says B.finished in (refl, g .calls))
 
     closed : (k : Closed) → Ends (closing fit counts p (w .tally) rows (w .work) (w .warm) (w .results) k)
     unfolding closing
-    closed NotPositive = refused-ends 16 _ _ _ (tells .mode 16 (omega arith) (omega arith))
-    closed (Positive m) = both Ends (isSameGrid (w .work) rows) (next m _ _) (refused-ends 17 _ _ _ (tells .mode 17 (omega arith) (omega arith)))
+    closed NotPositive = refused-ends 16 _ _ _ (tells .mode 16 _ (omega arith) (omega arith))
+    closed (Positive m) = both Ends (isSameGrid (w .work) rows) (next m _ _) (refused-ends 17 _ _ _ (tells .mode 17 _ (omega arith) (omega arith)))
 
     -- ---- every request
     serves : (v : Wanted) → Goes (a .left) Fewer v → Numbered N v
@@ -256,7 +260,7 @@ module _ (N : ℕ → Type 0) (Refuses : ℕ → ℕ → Type 0) (setup : Setup)
     unfolding servedBy atPoint atMode Numbered
     serves (Wants.Point eta) s i = by-recall eta (advances eta s) _ (λ r q. recalled-length _ _ rows (w .work) (block rows 3) _ r q)
     serves Wants.Mode s i = closed (B.closedBy fit p rows)
-    serves (Wants.Refused k) s i = refused-ends k _ _ _ (tells .ended k i)
+    serves (Wants.Refused k) s i = refused-ends k _ _ _ (tells .ended k _ i)
 
     turns : Moves (turnHeld words setup counts) Going Answered n (turnHeld words setup counts h)
     unfolding turnHeld turn turned served

@@ -56,21 +56,23 @@ use Rattle.claims.proofs.Standing.{advanced-alike, fit-effects}
 -- ---- 1 to 5: accepted only with 4,096 subjects at most
 unfoldable pub Judged : ℕ → Admission → Type 0
 Judged subjects A.Accepted = subjects ≤ 4096
-Judged subjects (A.Refused n) = (AltersNothing n) × (n ≡ 4 → ⊥)
+Judged subjects (A.Refused n) = (AltersNothing n) × (Carries n At.Nowhere)
 Judged subjects (A.Unsound place) = Unit
 
--- n from 1 to 5, and not 4
-pub plain : (subjects n : ℕ) → 1 ≤ n → n ≤ 5 → (n ≡ 4 → ⊥) → Judged subjects (A.Refused n)
+pub plain : (subjects n : ℕ) → 1 ≤ n → n ≤ 5 → Carries n At.Nowhere → Judged subjects (A.Refused n)
 unfolding Judged
-plain subjects n low high other = (inl (low, omega (arith, high)), other)
+plain subjects n low high carries = (inl (low, omega (arith, high)), carries)
+
+pub one : (subjects : ℕ) → Judged subjects (A.Refused 1)
+one subjects = plain subjects 1 (omega arith) (omega arith) (inl (omega arith, omega arith))
 
 pub unheard : (subjects : ℕ) → Judged subjects (A.Refused 19)
 unfolding Judged
-unheard subjects = (inr refl, λ e. omega (arith, e))
+unheard subjects = (inr refl, inr (inr (inr refl)))
 
 room-judged : (setup : Setup) (subjects total largest : ℕ) (lent : Lent) → subjects ≤ 4096 → (check : Check) → Judged subjects (roomy setup subjects total largest lent check)
 unfolding Judged roomy
-room-judged setup subjects total largest lent few (Sound place) = both (Judged subjects) _ (plain subjects 5 (omega arith) (omega arith) (λ e. omega (arith, e))) few
+room-judged setup subjects total largest lent few (Sound place) = both (Judged subjects) _ (plain subjects 5 (omega arith) (omega arith) (inr (inl refl))) few
 room-judged setup subjects total largest lent few (Unsound place) = tt
 
 pub counts-judged : (setup : Setup) (subjects : ℕ) (lent : Lent) (check : Check) (c : Counts) → Judged subjects (checksOf setup subjects lent check c)
@@ -78,25 +80,28 @@ unfolding checksOf admitted
 counts-judged setup subjects lent check (Within total largest) =
     let P = Judged subjects in
     cases P (isCohort (setup .effects) subjects total (lent .observations))
-    (λ t. both P _ (plain subjects 2 (omega arith) (omega arith) (λ e. omega (arith, e))) (both P _ (plain subjects 3 (omega arith) (omega arith) (λ e. omega (arith, e)))
+    (λ t. both P _ (plain subjects 2 (omega arith) (omega arith) (inl (omega arith, omega arith))) (both P _ (plain subjects 3 (omega arith) (omega arith) (inl (omega arith, omega arith)))
     (room-judged setup subjects total largest lent (cohort-low {b = true} (setup .effects) subjects total (lent .observations) (sym t) refl .1) check)))
-    (λ f. plain subjects 1 (omega arith) (omega arith) (λ e. omega (arith, e)))
-counts-judged setup subjects lent check Outside = plain subjects 1 (omega arith) (omega arith) (λ e. omega (arith, e))
+    (λ f. one subjects)
+counts-judged setup subjects lent check Outside = one subjects
 
 rows-few : (counts : List ℕ) (i : ℕ) → rowsOf counts i ≤ 100000
 unfolding rowsOf
 rows-few counts i = cases (λ (n : ℕ). n ≤ 100000) (ltb (getD counts i 0) 100000) (λ t. let l : getD counts i 0 < 100000 = ltb-true _ _ t in omega (arith, l)) (λ f. omega arith)
 
--- ---- what an evaluation is refused with: 8 to 12
+-- ---- what an evaluation is refused with: 8, 9 or 12, or at an observation 10, 11 or 12
+abbrev Refusal : ℕ → Place → Type 0
+Refusal n place = (8 ≤ n) × (n ≤ 12) × Carries n place
+
 unfoldable pub Late : Evaluation → Type 0
 Late (E.Running sums) = Unit
-Late (E.Refused n) = (8 ≤ n) × (n ≤ 12)
-Late (E.RefusedAt n i) = (8 ≤ n) × (n ≤ 12)
+Late (E.Refused n) = (subject : ℕ) → Refusal n (At.Subject subject)
+Late (E.RefusedAt n i) = (subject : ℕ) → Refusal n (At.Observation subject i)
 
-one-of : (n a b c : ℕ) → (n ≡ a) ⊎ ((n ≡ b) ⊎ (n ≡ c)) → (8 ≤ a) × (a ≤ 12) → (8 ≤ b) × (b ≤ 12) → (8 ≤ c) × (c ≤ 12) → (8 ≤ n) × (n ≤ 12)
-one-of n a b c (inl e) i j k = (omega (arith, e, i .0), omega (arith, e, i .1))
-one-of n a b c (inr (inl e)) i j k = (omega (arith, e, j .0), omega (arith, e, j .1))
-one-of n a b c (inr (inr e)) i j k = (omega (arith, e, k .0), omega (arith, e, k .1))
+one-of : (P : ℕ → Type 0) (n a b c : ℕ) → (n ≡ a) ⊎ ((n ≡ b) ⊎ (n ≡ c)) → P a → P b → P c → P n
+one-of P n a b c (inl e) i j k = subst P (sym e) i
+one-of P n a b c (inr (inl e)) i j k = subst P (sym e) j
+one-of P n a b c (inr (inr e)) i j k = subst P (sym e) k
 
 pub late : (trial : Trial) (budget : ℕ) (said : List ℕ) (os : List Observation) (work : List ℕ) → length os < 2 ^ 64
     → Late (finish (addObservations trial said os (evaluating (begin said (trial .width) (trial .effects) budget) work) .evaluation))
@@ -108,25 +113,32 @@ late trial budget said os work few = by _ refl
 
     by : (x : Evaluation) → finish (addObservations trial said os (evaluating (begin said (trial .width) (trial .effects) budget) work) .evaluation) ≡ x → Late x
     by (E.Running sums) d = tt
-    by (E.Refused n) d = one-of n 8 9 12 (numbers .numbers n d) (omega arith, omega arith) (omega arith, omega arith) (omega arith, omega arith)
-    by (E.RefusedAt n i) d = one-of n 10 11 12 (numbers .places n i d .0) (omega arith, omega arith) (omega arith, omega arith) (omega arith, omega arith)
+    by (E.Refused n) d = λ subject. one-of (λ (k : ℕ). Refusal k (At.Subject subject)) n 8 9 12 (numbers .numbers n d)
+        (omega arith, omega arith, inl (omega arith, omega arith)) (omega arith, omega arith, inl (omega arith, omega arith)) (omega arith, omega arith, inr (omega arith, omega arith))
+    by (E.RefusedAt n i) d = λ subject. one-of (λ (k : ℕ). Refusal k (At.Observation subject i)) n 10 11 12 (numbers .places n i d .0)
+        (omega arith, omega arith, inr (omega arith, omega arith)) (omega arith, omega arith, inr (omega arith, omega arith)) (omega arith, omega arith, inr (omega arith, omega arith))
 
 -- ---- the numbers of a call's end, with c evaluations in the tally before
 abbrev pub OfSearch : ℕ → Type 0
 OfSearch n = (13 ≤ n) × (n ≤ 16)
 
-pub record Ending (most c : ℕ) (n calls : ℕ) : Type 0 where
+pub record Ending (most c : ℕ) (n : ℕ) (place : Place) (calls : ℕ) : Type 0 where
   pub number : EndsObjective n
+  pub carries : Carries n place
   pub rise : (calls ≡ c) ⊎ ((calls ≡ suc c) × (c < most))
   pub six : n ≡ 6 → (calls ≡ c) × (most ≤ c)
 
 pub endings : (most c : ℕ) → Tells OfSearch (Ending most c) most c
 endings most c = record {
   known = λ n a b. (a, b);
-  ended = λ n a. record { number = (omega (arith, a .0), omega (arith, a .1)); rise = inl refl; six = λ e. absurd (omega (arith, a .0, e)) };
-  limit = λ l. record { number = (omega arith, omega arith); rise = inl refl; six = λ e. (refl, l) };
-  wild = λ l. record { number = (omega arith, omega arith); rise = inr (refl, l); six = λ e. absurd (omega (arith, e)) };
-  mode = λ n a b. record { number = (omega (arith, a), omega (arith, b)); rise = inl refl; six = λ e. absurd (omega (arith, a, e)) };
+  ended = λ n i a.
+      let low = a .0 in
+      let high = a .1 in
+      record { number = (omega (arith, low), omega (arith, high)); carries = inr (omega (arith, low), omega (arith, high)); rise = inl refl; six = λ e. absurd (omega (arith, low, e)) };
+  limit = λ i l. record { number = (omega arith, omega arith); carries = inl (omega arith, omega arith); rise = inl refl; six = λ e. (refl, l) };
+  wild = λ i l. record { number = (omega arith, omega arith); carries = inl (omega arith, omega arith); rise = inr (refl, l); six = λ e. absurd (omega (arith, e)) };
+  mode = λ n i a b. record { number = (omega (arith, a), omega (arith, b)); carries = inr (omega (arith, a), omega (arith, b)); rise = inl refl; six = λ e. absurd (omega (arith, a, e)) };
+  total = record { number = (omega arith, omega arith); carries = inr (inr (inl refl)); rise = inl refl; six = λ e. absurd (omega (arith, e)) };
 }
 
 -- ---- a search that 19 lets pass, among the subjects; and what it wants
@@ -179,19 +191,19 @@ module _ (setup : Setup) (counts : List ℕ) (h : Held words) where
   unspent t e = never-spent _ _ setup counts L c (endings most c) (e .0) t (e .1)
 
   -- ---- 1 to 5 and 19
-  stays : (n : ℕ) → AltersNothing n → (n ≡ 4 → ⊥) → Enters (S.unaltered words setup counts n At.Nowhere h)
+  stays : (n : ℕ) → AltersNothing n → Carries n At.Nowhere → Enters (S.unaltered words setup counts n At.Nowhere h)
   unfolding Enters
-  stays n u other = inl (record { number = n; place = At.Nowhere; answer = refl; same = refl; unaltering = u; carries = inr (other, refl) })
+  stays n u carries = inl (record { number = n; place = At.Nowhere; answer = refl; same = refl; unaltering = u; carries = carries })
 
   pub nineteen : Enters (S.unaltered words setup counts 19 At.Nowhere h)
-  nineteen = stays 19 (inr refl) (λ e. omega (arith, e))
+  nineteen = stays 19 (inr refl) (inr (inr (inr refl)))
 
   pub admits : (go : Moved (Held words) Step) (a : Admission) → Judged (length counts) a → (a ≡ A.Accepted → length counts ≤ 4096 → Enters go) → Enters (whenAdmitted words setup counts h go a)
   unfolding whenAdmitted Judged Enters
   admits go A.Accepted j f = f refl j
   admits go (A.Refused n) j f = stays n (j .0) (j .1)
   admits go (A.Unsound at) j f =
-      inl (record { number = 4; place = _; answer = refl; same = refl; unaltering = inl (omega arith, omega arith); carries = inl (refl, (at .subject, at .observation, refl)) })
+      inl (record { number = 4; place = _; answer = refl; same = refl; unaltering = inl (omega arith, omega arith); carries = inl refl })
 
   -- ---- an evaluation's refusal, and the simulator's: u holds as much
   pub record Like (u : Held words) : Type 0 where
@@ -201,11 +213,13 @@ module _ (setup : Setup) (counts : List ℕ) (h : Held words) where
   pub like : Like h
   like = record { work = refl; calls = refl }
 
-  pub over : (u : Held words) → Like u → (n : ℕ) → 8 ≤ n → n ≤ 12 → (place : Place) → Enters (S.over words setup counts n place u)
+  pub over : (u : Held words) → Like u → (n : ℕ) (place : Place) → Refusal n place → Enters (S.over words setup counts n place u)
   unfolding Enters S.over Says B.idle B.withSearch
-  over u l n low high place =
+  over u l n place r =
+      let low = r .0 in
+      let high = r .1 in
       inr (record {
-        says = (refl, record { number = (omega (arith, low), omega (arith, high)); rise = inl (l .calls); six = λ e. absurd (omega (arith, low, e)) });
+        says = (refl, record { number = (omega (arith, low), omega (arith, high)); carries = r .2; rise = inl (l .calls); six = λ e. absurd (omega (arith, low, e)) });
         zeroed = λ e. ap zeros (l .work);
       })
 
@@ -244,8 +258,8 @@ module _ (setup : Setup) (counts : List ℕ) (h : Held words) where
     pub replies : (work : List ℕ) → length work ≡ L → (x : Evaluation) → Late x → Enters (S.replied words setup counts fit eta u work x)
     unfolding Enters S.replied Late receive takes
     replies work long (E.Running sums) z = (few, record { ahead = ahead sums; work = move-rows-length _ _ work ∙ long; calls = l .calls })
-    replies work long (E.Refused n) z = over u l n (z .0) (z .1) _
-    replies work long (E.RefusedAt n i) z = over u l n (z .0) (z .1) _
+    replies work long (E.Refused n) z = over u l n _ (z (p .subject))
+    replies work long (E.RefusedAt n i) z = over u l n _ (z (p .subject))
 
   -- ---- the calls of a session, with n observations lent, of which `check` was found
   module _ (n : ℕ) (check : Check) where
@@ -300,4 +314,4 @@ module _ (setup : Setup) (counts : List ℕ) (h : Held words) where
     unfolding enter S.enterReply S.enterFailure
     enters (objective parameters) = objectives (length observations) (S.allChecked setup counts observations) parameters
     enters (reply said) = awaited (length observations) (S.allChecked setup counts observations) _ (answered said)
-    enters failure = awaited (length observations) (S.allChecked setup counts observations) _ (λ eta s e few. over h like 8 (omega arith) (omega arith) _)
+    enters failure = awaited (length observations) (S.allChecked setup counts observations) _ (λ eta s e few. over h like 8 _ (omega arith, omega arith, inl (omega arith, omega arith)))

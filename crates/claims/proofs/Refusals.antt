@@ -10,7 +10,7 @@ use lib.Dec.{ltb, eqb}
 use lib.ListN.{getD, set, length, take, drop, length-take}
 use lib.Seq.{getD-set-same, getD-set-other}
 use Rattle.float64.specs.Answer.{Answer, given, refused}
-use Rattle.float64.specs.Pick.{pick, both, cases, pick-yes, pick-no}
+use Rattle.float64.specs.Pick.{pick, both, cases, pick-yes, pick-no, pick-same}
 use Rattle.matrix.specs.declared.Pair.{Pair}
 use Rattle.likelihood.specs.declared.population_focei.Observation.{Observation}
 use Rattle.evaluation.specs.Subject.{Evaluating, evaluating, begin, addObservations}
@@ -52,7 +52,7 @@ use Rattle.hosting.specs.declared.AnswerWords.{AnswerWords}
 use Rattle.word_replies.specs.SubjectReplies.{subjectChecked, admitSubjectWith, subjectReplyOver}
 use Rattle.claims.specs.Refusals.{Exported, opens, calls, replies, Lending, does, AltersNothing, EndsObjective, Carries, Awaits, OutOfTurn, EveryRefusal, SixOnlyAtTheLimit, ZerosAfterAnEnd, NeverSpent, ForAllWords}
 use Rattle.claims.proofs.Endings.{Tells, Says, Going, never-spent}
-use Rattle.claims.proofs.Entered.{Judged, counts-judged, plain, unheard, late, stood, Done, Enters, Stood, wantedAt, done, unspent, admits, replies as goes-on, enters, Ending, Answers-with}
+use Rattle.claims.proofs.Entered.{Judged, counts-judged, one, unheard, late, stood, Done, Enters, Stood, wantedAt, done, unspent, admits, replies as goes-on, enters, Ending, Answers-with}
 use Rattle.claims.proofs.Evaluated.{work-length}
 use Rattle.claims.proofs.Plain.{false-not-true}
 use Rattle.claims.proofs.Remaining.{lifts, placed}
@@ -91,17 +91,23 @@ unfolding W.flag
 idle-word s state l e a = let z : getD (savedState s state) 0 0 ≡ 0 = saved-word s state l ∙ pick-no _ _ _ e in omega (arith, a, z)
 
 -- ---- words that are a state
-both-loaded : (state : List ℕ) (s : State) (x : Search) (m : Answer Search2) → W.withBoth state x m ≡ given s → s .progress .awaits ≡ eqb (getD state 0 0) 1
+record Loaded (state : List ℕ) (s : State) : Type 0 where
+  awaits : s .progress .awaits ≡ eqb (getD state 0 0) 1
+  subject : s .progress .subject ≡ getD state 8 0
+
+both-loaded : (state : List ℕ) (s : State) (x : Search) (m : Answer Search2) → W.withBoth state x m ≡ given s → Loaded state s
 unfolding W.withBoth W.stateAt W.progressAt
-both-loaded state s x (given y) e = let q : W.stateAt state x y ≡ s = cc in ap (λ (t : State). t .progress .awaits) (sym q)
+both-loaded state s x (given y) e =
+    let q : W.stateAt state x y ≡ s = cc in
+    record { awaits = ap (λ (t : State). t .progress .awaits) (sym q); subject = ap (λ (t : State). t .progress .subject) (sym q) }
 both-loaded state s x (refused n) e = absurd (let z : _≡_ {A = ℕ} 0 1 = cc in omega arith)
 
-search-loaded : (state : List ℕ) (s : State) (l : Answer Search) → W.withSearches state l ≡ given s → s .progress .awaits ≡ eqb (getD state 0 0) 1
+search-loaded : (state : List ℕ) (s : State) (l : Answer Search) → W.withSearches state l ≡ given s → Loaded state s
 unfolding W.withSearches W.withSearch
 search-loaded state s (given x) e = both-loaded state s x _ e
 search-loaded state s (refused n) e = absurd (let z : _≡_ {A = ℕ} 0 1 = cc in omega arith)
 
-loaded : (state : List ℕ) (s : State) → loadedState state ≡ given s → (63 ≤ length state) × (s .progress .awaits ≡ eqb (getD state 0 0) 1)
+loaded : (state : List ℕ) (s : State) → loadedState state ≡ given s → (63 ≤ length state) × Loaded state s
 unfolding loadedState
 loaded state s e =
     let never : refused 19 ≡ given s → ⊥ = λ q. let z : _≡_ {A = ℕ} 0 1 = cc in omega arith in
@@ -156,7 +162,7 @@ module _ (setup : Setup) (counts : List ℕ) (observations : List Observation) (
     answer-is : o .told .answer ≡ answered (placeWords (o .told .done .number) place) answer
     idle : Awaits (o .told .state) → ⊥
     work-is : o .work ≡ zeros (length work)
-    ending : Ending most c (o .told .done .number) (o .told .done .tally .calls .0)
+    ending : Ending most c (o .told .done .number) place (o .told .done .tally .calls .0)
 
   data Way (o : Out) : Type 0 where
     stays : (n : ℕ) (place : Place) → AltersNothing n → Carries n place → o ≡ kept n place → Way o
@@ -165,7 +171,7 @@ module _ (setup : Setup) (counts : List ℕ) (observations : List Observation) (
     refuses : Refuses o → Way o
 
   nobody : Way (unknown tally state answer cache work warm results)
-  nobody = stays 19 At.Nowhere (inr refl) (inr (λ e. omega (arith, e), refl)) refl
+  nobody = stays 19 At.Nowhere (inr refl) (inr (inr (inr refl))) refl
 
   -- ---- from what the machine did
   module _ (s : State) (long : 63 ≤ length state) where
@@ -223,8 +229,8 @@ module _ (setup : Setup) (counts : List ℕ) (observations : List Observation) (
         work-is = refl;
         rise = omega arith;
       })
-  opens-way long (A.Refused n) j = stays n At.Nowhere (j .0) (inr (j .1, refl)) refl
-  opens-way long (A.Unsound at) j = stays 4 _ (inl (omega arith, omega arith)) (inl (refl, (at .subject, at .observation, refl))) refl
+  opens-way long (A.Refused n) j = stays n At.Nowhere (j .0) (j .1) refl
+  opens-way long (A.Unsound at) j = stays 4 _ (inl (omega arith, omega arith)) (inl refl) refl
 
   setup-way : Way (setupOver setup counts observations tally state answer cache work warm results)
   unfolding setupOver H.openWith openedBy checks
@@ -274,8 +280,7 @@ module _ (setup : Setup) (counts : List ℕ) (observations : List Observation) (
       judged : Judged (length counts) judgement
       unfolding subjectChecks
       judged =
-          let one = plain (length counts) 1 (omega arith) (omega arith) (λ e. omega (arith, e)) in
-          both (Judged (length counts)) _ one (both (Judged (length counts)) _ one (counts-judged _ (length counts) lent _ _))
+          both (Judged (length counts)) _ (one (length counts)) (both (Judged (length counts)) _ (one (length counts)) (counts-judged _ (length counts) lent _ _))
 
       abbrev count : ℕ
       count = getD counts (s .progress .subject) 0
@@ -352,10 +357,10 @@ module _ (setup : Setup) (counts : List ℕ) (observations : List Observation) (
   number-of m = did (entered setup counts m) state answer .told .done .number
 
   awaits-is : (s : State) → loadedState state ≡ given s → Awaits state → s .progress .awaits ≡ true
-  awaits-is s e a = loaded state s e .1 ∙ eq-eqb _ _ a
+  awaits-is s e a = loaded state s e .1 .awaits ∙ eq-eqb _ _ a
 
   idle-is : (s : State) → loadedState state ≡ given s → (Awaits state → ⊥) → s .progress .awaits ≡ false
-  idle-is s e a = loaded state s e .1 ∙ ne-eqb _ _ a
+  idle-is s e a = loaded state s e .1 .awaits ∙ ne-eqb _ _ a
 
   -- 19 for the words that are no state, and for those whose entry is refused so
   Refused : Call → State → Type 0
@@ -378,24 +383,57 @@ module _ (setup : Setup) (counts : List ℕ) (observations : List Observation) (
   unfolding Refused enter S.enterFailure S.whenAwaited
   failure-refused a s e = pick-no _ _ _ (idle-is s e a)
 
-  subject-refused : (said : List ℕ) (l : Answer State) → ((s : State) → l ≡ given s → s .progress .awaits ≡ false) → told-to said l .told .done .number ≡ 19
+  -- no reply is awaited, or the positions are not right
+  unwanted : (said : List ℕ) (s : State) → awaitedPoint setup counts mostRows s tally ≡ Wants.Refused 19 → told-to said (given s) .told .done .number ≡ 19
+  unfolding awaitedFor admittedOver finishReply whenAdmitted onward H.told H.numberOf
+  unwanted said s e = ap (λ (o : Out). o .told .done .number) (wanting-is said s) ∙ ap (λ (v : Wanted). wanting said s v .told .done .number) e
+
+  subject-refused : (said : List ℕ) → ((s : State) → loadedState state ≡ given s → awaitedPoint setup counts mostRows s tally ≡ Wants.Refused 19)
+      → (l : Answer State) → loadedState state ≡ l → told-to said l .told .done .number ≡ 19
   unfolding withState admitSubjectWith
-  subject-refused said (given s) f = ap (λ (o : Out). o .told .done .number) (wanting-is said s) ∙ unwanted said s (f s refl)
-    where
-      unwanted : (said : List ℕ) (s : State) → s .progress .awaits ≡ false → wanting said s (awaitedPoint setup counts mostRows s tally) .told .done .number ≡ 19
-      unwanted said s f = unfold awaitedPoint awaitedFor admittedOver finishReply whenAdmitted onward H.told H.numberOf in ap (λ (v : Wanted). wanting said s v .told .done .number) (pick-no _ _ _ f)
-  subject-refused said (refused n) f = refl
+  subject-refused said f (given s) e = unwanted said s (f s e)
+  subject-refused said f (refused n) e = refl
+
+  -- ---- any call but setup: the positions are not right
+  module _ (wrong : (n : ℕ) (s : State) → loadedState state ≡ given s → isStanding setup counts n tally (s .progress) ≡ false) where
+    barred : (x : Call) (s : State) → loadedState state ≡ given s → Refused x s
+    unfolding Refused enter S.enterObjective S.enterReply S.enterFailure S.whenAwaited
+    barred (objective parameters) s e = pick-same _ _ _ (pick-no _ _ _ (wrong _ s e))
+    barred (reply said) s e = both (λ m. m ≡ S.unaltered words setup counts 19 At.Nowhere (h s)) _ (pick-no _ _ _ (wrong _ s e)) refl
+    barred failure s e = both (λ m. m ≡ S.unaltered words setup counts 19 At.Nowhere (h s)) _ (pick-no _ _ _ (wrong _ s e)) refl
+
+    unpointed : (s : State) → loadedState state ≡ given s → awaitedPoint setup counts mostRows s tally ≡ Wants.Refused 19
+    unfolding awaitedPoint
+    unpointed s e = both (λ (v : Wanted). v ≡ Wants.Refused 19) _ (pick-no _ _ _ (wrong _ s e)) refl
+
+    nineteen : (x : Exported) → (x ≡ opens → ⊥) → does all x .told .done .number ≡ 19
+    unfolding callOver subjectReplyOver finishWith
+    nineteen opens inside = absurd (inside refl)
+    nineteen (calls x) inside = called x (barred x) (loadedState state) refl
+    nineteen (replies said) inside = subject-refused said unpointed (loadedState state) refl
+
+  misplaced : length counts ≤ getD state 8 0 → (n : ℕ) (s : State) → loadedState state ≡ given s → isStanding setup counts n tally (s .progress) ≡ false
+  unfolding isStanding isPlaced
+  misplaced far n s e =
+      let q = loaded state s e .1 .subject in
+      let beyond : length counts ≤ s .progress .subject = omega (arith, far, q) in
+      pick-same _ _ _ (pick-no _ _ _ (le-ltb _ _ beyond))
+
+  crowded : setup .k < tally .«cached_rows» .0 → (n : ℕ) (s : State) → loadedState state ≡ given s → isStanding setup counts n tally (s .progress) ≡ false
+  unfolding isStanding
+  crowded many n s e = pick-yes _ _ _ (lt-ltb _ _ many)
 
   out-of-turn : OutOfTurn all
-  unfolding callOver subjectReplyOver finishWith setupOver H.openWith
+  unfolding callOver subjectReplyOver finishWith setupOver H.openWith awaitedPoint
   out-of-turn = record {
     objectives = λ a parameters. called _ (objective-refused a parameters) (loadedState state) refl;
     answers = λ a said. called _ (reply-refused a said) (loadedState state) refl;
-    subjects = λ a said. subject-refused said (loadedState state) (λ s e. idle-is s e a);
+    subjects = λ a said. subject-refused said (λ s e. pick-no _ _ _ (idle-is s e a)) (loadedState state) refl;
     failures = λ a. called _ (failure-refused a) (loadedState state) refl;
-    stateless = λ n e x. called x (λ s q. absurd (never n s (sym e ∙ q))) (loadedState state) refl;
-    stateless-subjects = λ n e said. subject-refused said (loadedState state) (λ s q. absurd (never n s (sym e ∙ q)));
-    short = λ l. ap (λ (o : Out). o .told .done .number) (pick-yes _ _ _ (lt-ltb _ _ l));
+    stateless = λ n e. nineteen (λ m s q. absurd (never n s (sym e ∙ q)));
+    misplaced = λ far. nineteen (misplaced far);
+    crowded = λ many. nineteen (crowded many);
+    short = λ i. ap (λ (o : Out). o .told .done .number) (pick-yes _ _ _ (lt-ltb _ _ i));
   }
     where
       never : (n : ℕ) (s : State) → refused n ≡ given s → ⊥
@@ -431,7 +469,7 @@ module _ (l : Lending) (x : Exported) where
       }
   refusals-of (asks k) = record { numbers = inl (k .number); unaltered = λ v. absurd (apart _ (k .number) v); others = λ i. absurd (let a = k .number in let b = i .0 in omega (arith, a, b)) }
   refusals-of (finishes k) = record { numbers = inl (k .number); unaltered = λ v. absurd (apart _ (k .number) v); others = λ i. absurd (let a = k .number in let b = i .0 in omega (arith, a, b)) }
-  refusals-of (refuses k) = record { numbers = inr (inr (k .ending .number)); unaltered = λ v. absurd (other _ (k .ending .number) v); others = λ i. (k .place, k .answer-is) }
+  refusals-of (refuses k) = record { numbers = inr (inr (k .ending .number)); unaltered = λ v. absurd (other _ (k .ending .number) v); others = λ i. (k .place, k .ending .carries, k .answer-is) }
 
   limits-of : Taken → SixOnlyAtTheLimit l x
   limits-of (stays n place u k e) =
@@ -491,11 +529,11 @@ module _ (l : Lending) (x : Exported) where
 
 -- ---- the requests are never used up: of the numbers nothing is asked
 module _ (setup : Setup) (counts : List ℕ) where
-  anything : (most c : ℕ) → Tells (λ n. Unit) (λ n k. Unit) most c
-  anything most c = record { known = λ n a b. tt; ended = λ n a. tt; limit = λ l. tt; wild = λ l. tt; mode = λ n a b. tt }
+  anything : (most c : ℕ) → Tells (λ n. Unit) (λ n place k. Unit) most c
+  anything most c = record { known = λ n a b. tt; ended = λ n i a. tt; limit = λ i l. tt; wild = λ i l. tt; mode = λ n i a b. tt; total = tt }
 
   stands-so : length counts ≤ 4096 → (n : ℕ) (h : Held words) → isPlaced (setup .effects) counts n (h .whole .progress) ≡ true
-      → Going (λ n. Unit) (λ n k. Unit) setup counts (length (h .whole .work)) (h .whole .tally .calls .0) (anything _ _) fuel h
+      → Going (λ n. Unit) (λ n place k. Unit) setup counts (length (h .whole .work)) (h .whole .tally .calls .0) (anything _ _) fuel h
   stands-so few n h e =
       let p = placed (λ n. Unit) (λ n a b. tt) (setup .effects) counts n (h .whole .progress) e in
       record {

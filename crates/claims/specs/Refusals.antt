@@ -63,9 +63,11 @@ AltersNothing n = ((1 ≤ n) × (n ≤ 5)) ⊎ (n ≡ 19)
 abbrev pub EndsObjective : ℕ → Type 0
 EndsObjective n = (6 ≤ n) × (n ≤ 18)
 
--- 4 carries subject and observation; 1 to 3, 5 and 19 carry no place
+-- what each carries: 1 to 3, 5, 18 and 19 no place; 4, 10, 11 and a row's 12 subject and observation; the others the subject
 abbrev pub Carries : ℕ → Place → Type 0
-Carries n place = ((n ≡ 4) × ((i : ℕ) × (j : ℕ) × (place ≡ At.Observation i j))) ⊎ ((n ≡ 4 → ⊥) × (place ≡ At.Nowhere))
+Carries n At.Nowhere = ((1 ≤ n) × (n ≤ 3)) ⊎ ((n ≡ 5) ⊎ ((n ≡ 18) ⊎ (n ≡ 19)))
+Carries n (At.Observation i j) = (n ≡ 4) ⊎ ((10 ≤ n) × (n ≤ 12))
+Carries n (At.Subject i) = ((6 ≤ n) × (n ≤ 9)) ⊎ ((12 ≤ n) × (n ≤ 17))
 
 -- a state's first word is 1 where a reply is awaited
 abbrev pub Awaits : List ℕ → Type 0
@@ -82,7 +84,7 @@ module _ (l : Lending) where
   abbrev pub after : Exported → ℕ
   after x = does l x .told .done .tally .calls .0
 
-  -- ---- 19: a call out of turn, or with words that are no state
+  -- ---- 19: a call out of turn, words that are no state, or one that stands beyond what is lent
 
   pub record OutOfTurn : Type 0 where
     -- a new objective while a reply is awaited
@@ -91,10 +93,11 @@ module _ (l : Lending) where
     pub answers : (Awaits (l .state) → ⊥) → (said : List ℕ) → number (calls (reply said)) ≡ 19
     pub subjects : (Awaits (l .state) → ⊥) → (said : List ℕ) → number (replies said) ≡ 19
     pub failures : (Awaits (l .state) → ⊥) → number (calls failure) ≡ 19
-    -- words that are no state
-    pub stateless : (n : ℕ) → loadedState (l .state) ≡ refused n → (c : Call) → number (calls c) ≡ 19
-    pub stateless-subjects : (n : ℕ) → loadedState (l .state) ≡ refused n → (said : List ℕ) → number (replies said) ≡ 19
-    -- too few words for the state that setup is to give
+    -- any call but setup: words that are no state; a subject that has no count; kept rows above K
+    pub stateless : (n : ℕ) → loadedState (l .state) ≡ refused n → (x : Exported) → (x ≡ opens → ⊥) → number x ≡ 19
+    pub misplaced : length (l .counts) ≤ getD (l .state) 8 0 → (x : Exported) → (x ≡ opens → ⊥) → number x ≡ 19
+    pub crowded : l .setup .k < l .tally .«cached_rows» .0 → (x : Exported) → (x ≡ opens → ⊥) → number x ≡ 19
+    -- setup: too few words for the state that it is to give
     pub short : length (l .state) < 63 → number opens ≡ 19
 
   -- ---- every refusal: its number, and what it leaves
@@ -108,7 +111,8 @@ module _ (l : Lending) where
         × (does l x ≡ out (record { number = number x; tally = l .tally }) (l .state) (answered (placeWords (number x) place) (l .answer))
         (l .cache) (l .work) (l .warm) (l .results))
     -- the answer to the others is 2, the number and its place too
-    pub others : EndsObjective (number x) → (place : Place) × (does l x .told .answer ≡ answered (placeWords (number x) place) (l .answer))
+    pub others : EndsObjective (number x) → (place : Place) × Carries (number x) place
+        × (does l x .told .answer ≡ answered (placeWords (number x) place) (l .answer))
 
   -- ---- 6 only where no evaluation is left
 
