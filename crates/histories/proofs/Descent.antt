@@ -11,7 +11,7 @@ use lib.Ieee.{Float, binary64, ofBits, lt, le, isNan}
 use lib.Ieee.Positive.{positive}
 use borrow.Author.Tests.{ltb-true, ltb-false}
 use Rattle.float64.specs.Arithmetic.{word}
-use Rattle.float64.specs.Pick.{pick, cases}
+use Rattle.float64.specs.Pick.{pick, both, cases}
 use Rattle.float64.proofs.Order.{num?, le-trans, le-refl-num, lt→le, total, le-or-gt, of-true}
 use Rattle.float64.proofs.Monotone.{descent}
 use Rattle.matrix.specs.Matrix.{Inverse, some, none, inversePositive}
@@ -21,9 +21,12 @@ use Rattle.mode_2d.specs.declared.population_focei_2d.NewtonStep.{NewtonStep}
 use Rattle.mode_2d.specs.declared.population_focei_2d.Stage2.{Stage2}
 use Rattle.mode_2d.specs.declared.population_focei_2d.Stage2.the-variants.{Zero, Start, Trial, Found, Halted}
 use Rattle.mode_2d.specs.declared.population_focei_2d.Search2.{Search2}
-use Rattle.mode_2d.specs.Rules.{nought, between, trying, finish, tryFrom, descendBy, descend, beginRound, take, leave, nextReduction, trialPoint, decrease, isSame, isPassedOver, isUnresolved, isFar, better, norm, curvature, stepBy, isTaken, joint}
-use Rattle.histories.specs.History2.{etas, startPointsFrom, withCandidate}
-use Rattle.histories.specs.Claim2.{NoHigher, EachNoHigher, Pass}
+use Rattle.mode_2d.specs.Rules.{nought, between, trying, finish, tryFrom, descendBy, descend, beginRound, take, leave, nextReduction, trialPoint, decrease, isSame, isPassedOver, isUnresolved, isFar, better, norm, curvature, stepBy, isTaken}
+use Rattle.histories.specs.Terms2 as W
+use Rattle.histories.specs.Terms2.{etas, joint, NoHigher}
+use Rattle.histories.specs.History2.{withCandidate}
+use Rattle.histories.specs.Claim2.{EachNoHigher}
+use Rattle.histories.proofs.Words2.{startPointsFrom, taken-is, better-by}
 use Rattle.histories.proofs.Joint.{joint-fits}
 
 -- ---- a taken trial
@@ -43,8 +46,10 @@ unfolding ofBits
 rate-positive = tt
 
 pub taken-no-higher : (s : Settings2) (x : Search2) (c : Conditional2) → le (x .decrease) nought ≡ false → isTaken s x c ≡ true → NoHigher s c (x .current)
-unfolding isTaken ofBits
-taken-no-higher s x c p q = descent binary64 (word 0x3f1a_36e2_eb1c_432d) (joint s c) (joint s (x .current)) (x .decrease) rate-positive (joint-fits s (x .current)) (above-or-nan (x .decrease) p) (of-true _ q)
+unfolding ofBits
+taken-no-higher s x c p q =
+    descent binary64 (word 0x3f1a_36e2_eb1c_432d) (joint s c) (joint s (x .current)) (x .decrease) rate-positive (joint-fits s (x .current))
+    (above-or-nan (x .decrease) p) (of-true _ (sym (taken-is s x c) ∙ q))
 
 -- ---- the trial that is asked for is not passed over
 not-passed : (l : Float) (step : NewtonStep) (j : ℕ) → isPassedOver l step j ≡ false → le (decrease step (trialPoint l step j)) nought ≡ false
@@ -70,8 +75,8 @@ reduction-stops l step (suc n) j h = go (isPassedOver l step j) refl (λ i. redu
 
 -- ---- the better of two
 better-than-new : (s : Settings2) (k : ℕ) (c b : Conditional2) → T (num? (joint s c)) → T (num? (joint s b)) → NoHigher s (better s k c b) c
-unfolding better pick
-better-than-new s k c b p q = go (eqb k 0) (lt (joint s c) (joint s b)) (total (joint s c) (joint s b) p q)
+unfolding W.better pick
+better-than-new s k c b p q = subst (λ (z : Conditional2). NoHigher s z c) (sym (better-by s k c b)) (go (eqb k 0) (lt (joint s c) (joint s b)) (total (joint s c) (joint s b) p q))
   where
     go : (t u : Bool) → (T (not u) → T (le (joint s b) (joint s c))) → T (le (joint s (pick t c (pick u c b))) (joint s c))
     go true u h = le-refl-num (joint s c) p
@@ -79,8 +84,10 @@ better-than-new s k c b p q = go (eqb k 0) (lt (joint s c) (joint s b)) (total (
     go false false h = h tt
 
 better-than-old : (s : Settings2) (k : ℕ) (c b : Conditional2) → 0 < k → T (num? (joint s b)) → NoHigher s (better s k c b) b
-unfolding better pick
-better-than-old s k c b z q = go (eqb k 0) (lt (joint s c) (joint s b)) (λ (h : T (eqb k 0)). none (eqb→eq k 0 h)) (lt→le (joint s c) (joint s b))
+unfolding W.better pick
+better-than-old s k c b z q =
+    subst (λ (z : Conditional2). NoHigher s z b) (sym (better-by s k c b))
+    (go (eqb k 0) (lt (joint s c) (joint s b)) (λ (h : T (eqb k 0)). none (eqb→eq k 0 h)) (lt→le (joint s c) (joint s b)))
   where
     none : k ≡ 0 → ⊥
     none e = omega (arith, z, e)
@@ -93,7 +100,7 @@ better-than-old s k c b z q = go (eqb k 0) (lt (joint s c) (joint s b)) (λ (h :
 -- what holds of both holds of the better
 better-has : (P : Conditional2 → Type 0) (s : Settings2) (k : ℕ) (c b : Conditional2) → P c → P b → P (better s k c b)
 unfolding better
-better-has P s k c b p q = cases P (eqb k 0) {x = c} {y = pick (lt (joint s c) (joint s b)) c b} (λ _. p) (λ _. cases P (lt (joint s c) (joint s b)) {x = c} {y = b} (λ _. p) (λ _. q))
+better-has P s k c b p q = both P (eqb k 0) p (both P _ p q)
 
 -- ---- what holds of a search on its way
 pub record OnTrial (s : Settings2) (x : Search2) : Type 0 where
@@ -165,11 +172,16 @@ module _ (s : Settings2) (x : Search2) (i : OnTrial s x) where
       cases (OnWay s) (ltb (x .reduction) 21) {x = descend s (x .seed) (x .round) (x .reduction + 1) (x .current) (x .best)} {y = finish s (x .seed) (x .current) (x .best)}
       (λ _. descend-way s (x .seed) (x .current) (x .best) (i .seed) (i .current) (i .best) (x .round) (x .reduction + 1)) (λ _. finish-way s (x .seed) (x .current) (x .best) (i .seed) (i .current) (i .best))
 
+-- ---- each candidate, the k-th first, passes 13, and 14 against the best so far, b; and the best of all is m
+unfoldable pub Passes : Settings2 → ℕ → Conditional2 → List Conditional2 → Conditional2 → Type 0
+Passes s k b [] m = m ≡ b
+Passes s k b (c ∷ q) m = (isUnresolved s c ≡ false) × ((isFar k c b ≡ false) × Passes s (k + 1) (better s k c b) q m)
+
 -- ---- what is to come from a search on: m the mode, l the starts, q the candidates. n starts are left, from the i-th on.
 pub record Rest (s : Settings2) (k : ℕ) (b m : Conditional2) (l q : List Conditional2) (n i : ℕ) : Type 0 where
   pub points : etas l ≡ startPointsFrom s n i
   pub best : 0 < k → NoHigher s m b
-  pub pass : Pass s k b q m
+  pub pass : Passes s k b q m
   pub total : length q ≡ 6 - k
 
 pub record Begin (s : Settings2) (m : Conditional2) (l q : List Conditional2) : Type 0 where
@@ -237,7 +249,7 @@ module _ (s : Settings2) (k : ℕ) (c b m : Conditional2) (l q : List Conditiona
   halts n g = absurd g
 
   to-start : k < 5 → isUnresolved s c ≡ false → isFar k c b ≡ false → Back (between Start (k + 1) c (better s k c b))
-  unfolding between Pass EachNoHigher
+  unfolding between Passes EachNoHigher
   to-start h e f g =
       subst (λ (z : List Conditional2). InRound s k c b m l z) (sym (pick-first k (k + 1) (c ∷ q) q (up k)))
       (record {
@@ -264,7 +276,7 @@ module _ (s : Settings2) (k : ℕ) (c b m : Conditional2) (l q : List Conditiona
       count k n a e = omega arith
 
   to-mode : 5 ≤ k → isUnresolved s c ≡ false → isFar k c b ≡ false → Back (between Found 6 c (better s k c b))
-  unfolding between Pass EachNoHigher startPointsFrom etas
+  unfolding between Passes EachNoHigher startPointsFrom etas
   to-mode h e f g =
       subst (λ (z : List Conditional2). InRound s k c b m l z) (sym (pick-first k 6 (c ∷ q) q K ∙ ap (λ (z : List Conditional2). c ∷ z) (g .candidates)))
       (subst (λ (z : Conditional2). InRound s k c b z l (c ∷ [])) (sym (g .mode))

@@ -3,10 +3,11 @@ use mathlib.Core.Path.{_≡_, refl, sym, ap, _∙_, subst}
 use mathlib.Core.Logic.{_⊎_, inl, inr}
 use mathlib.Core.Bool.{Bool, true, false, true≢false}
 use mathlib.Core.List.{List, [], _∷_, List·Memᴰ, List·Memᴰ·head, List·Memᴰ·tail, List·Memᴰ·cases-cons, List·Memᴰ·not-nil}
-use Prim.Native.Nat.{ℕ, suc, _-_, _<_}
+use Prim.Native.Nat.{ℕ, suc, _+_, _-_, _<_}
 use native.Mathlib.Omega.{arith}
 use lib.ListN.{length}
-use lib.Dec.{T, ltb, eqb, lit<}
+use lib.Dec.{T, ltb, lit<}
+use lib.Ieee.{lt}
 use Rattle.float64.specs.Pick.{pick, cases}
 use Rattle.float64.proofs.Order.{num?}
 use Rattle.matrix.specs.declared.Pair.{Pair}
@@ -17,14 +18,17 @@ use Rattle.mode_2d.specs.declared.population_focei_2d.Stage2.the-variants.{Zero
 use Rattle.mode_2d.specs.declared.population_focei_2d.Search2.{Search2}
 use Rattle.mode_2d.specs.declared.population_focei_2d.Request2.{Request2}
 use Rattle.mode_2d.specs.declared.population_focei_2d.Request2.the-variants.{Point, Mode, Refused}
-use Rattle.mode_2d.specs.Rules.{requestAt, request, advanceAt, advance, between, beginRound, take, leave, startPoint, isFar, better, isTaken, joint, start, nowhere}
+use Rattle.mode_2d.specs.Rules.{requestAt, request, advanceAt, advance, between, beginRound, take, leave, startPoint, better, isTaken, start}
 use Rattle.histories.specs.Histories.{ledFrom, Answered}
-use Rattle.histories.specs.History2.{FollowsFrom, Follows, afterFrom, after, etas, isStart, startPointsFrom, startsFrom, withCandidate, candidatesFrom}
-use Rattle.histories.specs.Claim2.{NoHigher, Pass, Found2, Unresolved, Several, NoInverse, TwoSearch, Bounded}
+use Rattle.histories.specs.Terms2 as W
+use Rattle.histories.specs.Terms2.{etas, joint, NoHigher}
+use Rattle.histories.specs.History2.{FollowsFrom, Follows, afterFrom, after, isStart, startsFrom, starts, withCandidate, candidatesFrom, candidates}
+use Rattle.histories.specs.Claim2.{PassAfter, Pass, Found2, Unresolved, Several, NoInverse, TwoSearch, Bounded}
+use Rattle.histories.proofs.Words2.{startPointsFrom, starts-are, resolved-is, unresolved-is, far-is, near-is, better-is, flat-is}
 use Rattle.histories.proofs.Count2.{isMode, mode-true, isPoint, point-true, pointOf, at-most-6343}
 use Rattle.histories.proofs.Joint.{joint-num}
 use Rattle.histories.proofs.Precision.{precision-bound}
-use Rattle.histories.proofs.Descent.{taken-no-higher, Why, Way, OnWay, round-way, take-way, leave-way, Begin, AtStart, InRound, Ahead, AheadOf, round-back, take-back, leave-back, Of, round-of, take-of, leave-of}
+use Rattle.histories.proofs.Descent.{taken-no-higher, Passes, Why, Way, OnWay, round-way, take-way, leave-way, Begin, AtStart, InRound, Ahead, AheadOf, round-back, take-back, leave-back, Of, round-of, take-of, leave-of}
 
 -- ---- forward: what holds on the way is kept
 way-step : (st : Stage2) (s : Settings2) (x : Search2) (c : Conditional2) → Way st s x → T (num? (joint s c)) → T (isPoint (requestAt st s x)) → OnWay s (advanceAt st s x c)
@@ -172,20 +176,80 @@ ends s d (c ∷ h) x i f w =
     record { ahead = g .0; lowest = lowest-step (x .stage) s c m (startsFrom s y h) (g .1) (e .lowest) }
 
 -- ---- the theorem
--- the first candidate is compared with nothing
-any-held : (s : Settings2) (b d m : Conditional2) (q : List Conditional2) → length q ≡ 6 → Pass s 0 b q m → Pass s 0 d q m
-unfolding Pass isFar better pick
-any-held s b d m [] e p = absurd (omega (arith, e))
-any-held s b d m (c ∷ q) e p = p
+-- in the claim's words: the first candidate is compared with nothing
+pass-after : (s : Settings2) (k : ℕ) (b m : Conditional2) (q : List Conditional2) → 0 < k → Passes s k b q m → PassAfter s b q m
+unfolding Passes PassAfter
+pass-after s k b m [] h p = p
+pass-after s k b m (c ∷ q) h p =
+    let r : Passes s (k + 1) (W.better s c b) q m = subst (λ (z : Conditional2). Passes s (k + 1) z q m) (better-is s k c b h) (p .1 .1) in
+    (resolved-is s c (p .0), (near-is k c b h (p .1 .0), pass-after s (k + 1) (W.better s c b) m q (omega arith) r))
 
--- a far candidate is not the first
-not-first : (k : ℕ) (c b : Conditional2) → isFar k c b ≡ true → isFar 1 c b ≡ true
-unfolding isFar pick
-not-first k c b e = go (eqb k 0) _ e
+pass-all : (s : Settings2) (b m : Conditional2) (q : List Conditional2) → length q ≡ 6 → Passes s 0 b q m → Pass s q m
+unfolding Passes Pass better pick
+pass-all s b m [] e p = absurd (omega (arith, e))
+pass-all s b m (c ∷ q) e p = (resolved-is s c (p .0), pass-after s 1 c m q (lit< tt) (p .1 .1))
+
+-- the best is one of the candidates
+best-after : (s : Settings2) (b m : Conditional2) (q : List Conditional2) → PassAfter s b q m → (m ≡ b) ⊎ List·Memᴰ m q
+unfolding PassAfter W.better pick
+best-after s b m [] p = inl p
+best-after s b m (c ∷ q) p = go (lt (joint s c) (joint s b)) (best-after s (W.better s c b) m q (p .1 .1))
   where
-    go : (t u : Bool) → pick t false u ≡ true → u ≡ true
-    go true u e = absurd (true≢false (sym e))
-    go false u e = e
+    go : (t : Bool) → (m ≡ pick t c b) ⊎ List·Memᴰ m q → (m ≡ b) ⊎ List·Memᴰ m (c ∷ q)
+    go true (inl e) = inr (List·Memᴰ·head e)
+    go false (inl e) = inl e
+    go t (inr h) = inr (List·Memᴰ·tail h)
+
+best-in : (s : Settings2) (m : Conditional2) (q : List Conditional2) → Pass s q m → List·Memᴰ m q
+unfolding Pass
+best-in s m [] p = absurd p
+best-in s m (c ∷ q) p = elim (best-after s c m q (p .1)) [ inl e ↦ List·Memᴰ·head e | inr h ↦ List·Memᴰ·tail h ]
+
+-- ---- starts and candidates are points of the history
+starts-in : (s : Settings2) (h : List Conditional2) (x : Search2) (t : Conditional2) → List·Memᴰ t (startsFrom s x h) → List·Memᴰ t h
+unfolding startsFrom pick
+starts-in s [] x t p = p
+starts-in s (c ∷ h) x t p = go (isStart (x .stage)) (starts-in s h (advance s x c) t) p
+  where
+    go : (b : Bool) → (List·Memᴰ t (startsFrom s (advance s x c) h) → List·Memᴰ t h) → List·Memᴰ t (pick b (c ∷ startsFrom s (advance s x c) h) (startsFrom s (advance s x c) h)) → List·Memᴰ t (c ∷ h)
+    go true f p = elim (List·Memᴰ·cases-cons p) [ inl e ↦ List·Memᴰ·head e | inr q ↦ List·Memᴰ·tail (f q) ]
+    go false f p = List·Memᴰ·tail (f p)
+
+-- the current point is the one tried, or stays
+current-step : (st : Stage2) (s : Settings2) (x : Search2) (c : Conditional2) → (advanceAt st s x c .current ≡ c) ⊎ (advanceAt st s x c .current ≡ x .current)
+unfolding advanceAt between
+current-step Zero s x c = inl refl
+current-step Start s x c = inl (round-of s (x .seed) c (x .best) 0 .current)
+current-step Trial s x c =
+    cases (λ (y : Search2). (y .current ≡ c) ⊎ (y .current ≡ x .current)) (isTaken s x c) {x = take s x c} {y = leave s x}
+    (λ _. inl (take-of s x c .current)) (λ _. inr (leave-of s x .current))
+current-step Found s x c = inr refl
+current-step (Halted k) s x c = inr refl
+
+candidates-from : (s : Settings2) (h : List Conditional2) (x : Search2) (t : Conditional2) → List·Memᴰ t (candidatesFrom s x h) → (t ≡ x .current) ⊎ List·Memᴰ t h
+unfolding candidatesFrom pick
+candidates-from s [] x t p = inr p
+candidates-from s (c ∷ h) x t p = go (ltb (x .seed) (y .seed)) (candidates-from s h y t) p
+  where
+    y : Search2
+    y = advance s x c
+
+    now : (t ≡ y .current) → (t ≡ x .current) ⊎ List·Memᴰ t (c ∷ h)
+    now e = elim (current-step (x .stage) s x c) [ inl f ↦ inr (List·Memᴰ·head (e ∙ f)) | inr f ↦ inl (e ∙ f) ]
+
+    on : (t ≡ y .current) ⊎ List·Memᴰ t h → (t ≡ x .current) ⊎ List·Memᴰ t (c ∷ h)
+    on (inl e) = now e
+    on (inr q) = inr (List·Memᴰ·tail q)
+
+    go : (b : Bool) → (List·Memᴰ t (candidatesFrom s y h) → (t ≡ y .current) ⊎ List·Memᴰ t h)
+        → List·Memᴰ t (pick b (y .current ∷ candidatesFrom s y h) (candidatesFrom s y h)) → (t ≡ x .current) ⊎ List·Memᴰ t (c ∷ h)
+    go true f p = elim (List·Memᴰ·cases-cons p) [ inl e ↦ now e | inr q ↦ on (f q) ]
+    go false f p = on (f p)
+
+candidates-in : (s : Settings2) (h : List Conditional2) (t : Conditional2) → List·Memᴰ t (candidates s h) → List·Memᴰ t h
+unfolding candidatesFrom start advanceAt between pick
+candidates-in s [] t p = p
+candidates-in s (c ∷ h) t p = elim (candidates-from s h (between Start 0 c c) t p) [ inl e ↦ List·Memᴰ·head e | inr q ↦ List·Memᴰ·tail q ]
 
 number : Request2 → ℕ
 number (Point p) = 0
@@ -218,11 +282,14 @@ module _ (s : Settings2) (d : Bounded s) (h : List Conditional2) (f : Follows s 
   found2 w =
       let e = ends s d h start refl f (mode-true (request s (after s h)) w) in
       let g = e .ahead .rest in
+      let p : Pass s (candidates s h) (after s h .best) = pass-all s (e .ahead .held) (after s h .best) (candidates s h) (g .total) (g .pass) in
       record {
-        isStarts = g .points;
+        isStarts = g .points ∙ starts-are s;
+        startsIn = starts-in s h start;
         six = g .total;
-        pass = any-held s (e .ahead .held) nowhere _ _ (g .total) (g .pass);
-        member = best-member (ap isPoint w);
+        candidatesIn = candidates-in s h;
+        pass = p;
+        member = best-in s (after s h .best) (candidates s h) p;
         lowest = e .lowest;
         each = e .ahead .each;
       }
@@ -234,7 +301,7 @@ module _ (s : Settings2) (d : Bounded s) (h : List Conditional2) (f : Follows s 
   found-unresolved : (e : request s (after s h) ≡ Refused 13) → Unresolved s h
   found-unresolved e =
       elim (why 13 e) [
-        | inl w ↦ record { candidate = after s h .current; member = current-member (ap isPoint e); isSo = w .1 }
+        | inl w ↦ record { candidate = after s h .current; member = current-member (ap isPoint e); isSo = unresolved-is s (after s h .current) (w .1) }
         | inr (inl w) ↦ absurd (omega (arith, w .0))
         | inr (inr w) ↦ absurd (omega (arith, w .0))
       ]
@@ -247,7 +314,7 @@ module _ (s : Settings2) (d : Bounded s) (h : List Conditional2) (f : Follows s 
           candidate = after s h .current;
           best = after s h .best;
           members = (current-member (ap isPoint e), best-member (ap isPoint e));
-          isSo = not-first (after s h .seed) (after s h .current) (after s h .best) (w .1);
+          isSo = far-is (after s h .seed) (after s h .current) (after s h .best) (w .1);
         }
         | inr (inr w) ↦ absurd (omega (arith, w .0))
       ]
@@ -257,7 +324,7 @@ module _ (s : Settings2) (d : Bounded s) (h : List Conditional2) (f : Follows s 
       elim (why 16 e) [
         | inl w ↦ absurd (omega (arith, w .0))
         | inr (inl w) ↦ absurd (omega (arith, w .0))
-        | inr (inr w) ↦ record { point = after s h .current; member = current-member (ap isPoint e); isSo = w .1 }
+        | inr (inr w) ↦ record { point = after s h .current; member = current-member (ap isPoint e); isSo = flat-is s (after s h .current) (w .1) }
       ]
 
   found-number : (n : ℕ) → request s (after s h) ≡ Refused n → (n ≡ 13) ⊎ ((n ≡ 14) ⊎ (n ≡ 16))
