@@ -23,12 +23,12 @@ use Rattle.histories.specs.Histories.{ledFrom, Answered}
 use Rattle.histories.specs.Terms2 as W
 use Rattle.histories.specs.Terms2.{etas, joint, NoHigher}
 use Rattle.histories.specs.History2.{FollowsFrom, Follows, afterFrom, after, isStart, startsFrom, starts, withCandidate, candidatesFrom, candidates}
-use Rattle.histories.specs.Claim2.{PassAfter, Pass, Found2, Unresolved, Several, NoInverse, TwoSearch, Bounded}
+use Rattle.histories.specs.Claim2.{Divided, PassAfter, Pass, Found2, Unresolved, Several, NoInverse, TwoSearch, Bounded}
 use Rattle.histories.proofs.Words2.{startPointsFrom, starts-are, resolved-is, unresolved-is, far-is, near-is, better-is, flat-is}
 use Rattle.histories.proofs.Count2.{isMode, mode-true, isPoint, point-true, pointOf, at-most-6343}
 use Rattle.histories.proofs.Joint.{joint-num}
 use Rattle.histories.proofs.Precision.{precision-bound}
-use Rattle.histories.proofs.Descent.{taken-no-higher, Passes, Why, Way, OnWay, round-way, take-way, leave-way, Begin, AtStart, InRound, Ahead, AheadOf, round-back, take-back, leave-back, Of, round-of, take-of, leave-of}
+use Rattle.histories.proofs.Descent.{taken-no-higher, Passes, run-whole, Why, Way, OnWay, round-way, take-way, leave-way, Begin, AtStart, InRound, Ahead, AheadOf, round-back, take-back, leave-back, Of, round-of, take-of, leave-of}
 
 -- ---- forward: what holds on the way is kept
 way-step : (st : Stage2) (s : Settings2) (x : Search2) (c : Conditional2) → Way st s x → T (num? (joint s c)) → T (isPoint (requestAt st s x)) → OnWay s (advanceAt st s x c)
@@ -45,9 +45,9 @@ ways s d [] x i f = i
 ways s d (c ∷ h) x i f = ways s d h (advance s x c) (way-step (x .stage) s x c i (joint-num s d (request s x) c (f .0)) (point-true (request s x) (c .eta) (f .0 .asked))) (f .1)
 
 -- ---- backward: what is to come from the next search on is to come from this one on
-add-start : (s : Settings2) (k : ℕ) (c b m : Conditional2) (l q : List Conditional2) → k < 6 → startPoint s k ≡ c .eta → InRound s k c b m l q → AtStart s k b m (c ∷ l) q
+add-start : (s : Settings2) (k : ℕ) (c b m : Conditional2) (l q h : List Conditional2) → k < 6 → startPoint s k ≡ c .eta → InRound s k c b m l q h → AtStart s k b m (c ∷ l) q (c ∷ h)
 unfolding etas startPointsFrom
-add-start s k c b m l q K e g = record {
+add-start s k c b m l q h K e g = record {
   rest = record {
     points = ap (λ (z : Pair). z ∷ etas l) (sym e) ∙ ap (λ (z : List Pair). startPoint s k ∷ z) (g .rest .points) ∙ ap (λ (n : ℕ). startPointsFrom s n k) (more k K);
     best = g .rest .best;
@@ -55,6 +55,7 @@ add-start s k c b m l q K e g = record {
     total = g .rest .total;
   };
   each = g .each;
+  runs = run-whole c l q h (g .run);
 }
   where
     more : (k : ℕ) → k < 6 → suc (5 - k) ≡ 6 - k
@@ -68,20 +69,22 @@ Came Trial s c m = Unit
 Came Found s c m = Unit
 Came (Halted n) s c m = Unit
 
-abbrev Step : Stage2 → Settings2 → Search2 → Conditional2 → Conditional2 → List Conditional2 → List Conditional2 → Search2 → Type 0
-Step st s x c m l q y = AheadOf s y m l q → Ahead st s x m (pick (isStart st) (c ∷ l) l) (withCandidate (x .seed) y q) × Came st s c m
+abbrev Step : Stage2 → Settings2 → Search2 → Conditional2 → Conditional2 → List Conditional2 → List Conditional2 → List Conditional2 → Search2 → Type 0
+Step st s x c m l q h y = AheadOf s y m l q h → Ahead st s x m (pick (isStart st) (c ∷ l) l) (withCandidate (x .seed) y q) (c ∷ h) × Came st s c m
 
-ahead-step : (st : Stage2) (s : Settings2) (x : Search2) (c m : Conditional2) (l q : List Conditional2) → Way st s x → T (num? (joint s c)) → requestAt st s x ≡ Point (c .eta) → Step st s x c m l q (advanceAt st s x c)
-unfolding requestAt advanceAt pick between
-ahead-step Zero s x c m l q i n h = λ g. (subst (λ (k : ℕ). Begin s m l (pick (ltb k 0) (c ∷ q) q)) (sym i) (record { held = c; rest = g .rest; each = g .each }), tt)
-ahead-step Start s x c m l q i n h = λ g.
-    let w = round-back s (x .seed) c (x .best) m l q (i .1) n (i .0) 0 g in
-    (add-start s (x .seed) c (x .best) m l (withCandidate (x .seed) (beginRound s (x .seed) 0 c (x .best)) q) (i .1) (ap (pointOf (c .eta)) h) w, w .current)
-ahead-step Trial s x c m l q i n h =
-    cases (Step Trial s x c m l q) (isTaken s x c) {x = take s x c} {y = leave s x}
-    (λ e. λ g. (take-back s x m l q i c n (taken-no-higher s x c (i .falls) e) g, tt)) (λ _. λ g. (leave-back s x m l q i g, tt))
-ahead-step Found s x c m l q i n h = absurd (point-true Mode (c .eta) h)
-ahead-step (Halted k) s x c m l q i n h = absurd (point-true (Refused k) (c .eta) h)
+ahead-step : (st : Stage2) (s : Settings2) (x : Search2) (c m : Conditional2) (l q h : List Conditional2) → Way st s x → T (num? (joint s c)) → requestAt st s x ≡ Point (c .eta) → Step st s x c m l q h (advanceAt st s x c)
+unfolding requestAt advanceAt pick between Divided
+ahead-step Zero s x c m l q h i n e = λ g.
+    let w : Begin s m l q (c ∷ h) = record { held = c; rest = g .rest; each = g .each; divided = (sym (ap (pointOf (c .eta)) e), g .runs) } in
+    (subst (λ (k : ℕ). Begin s m l (pick (ltb k 0) (c ∷ q) q) (c ∷ h)) (sym i) w, tt)
+ahead-step Start s x c m l q h i n e = λ g.
+    let w = round-back s (x .seed) c (x .best) m l q h (i .1) n (i .0) 0 g in
+    (add-start s (x .seed) c (x .best) m l (withCandidate (x .seed) (beginRound s (x .seed) 0 c (x .best)) q) h (i .1) (ap (pointOf (c .eta)) e) w, w .current)
+ahead-step Trial s x c m l q h i n e =
+    cases (Step Trial s x c m l q h) (isTaken s x c) {x = take s x c} {y = leave s x}
+    (λ t. λ g. (take-back s x m l q h i c n (taken-no-higher s x c (i .falls) t) g, tt)) (λ _. λ g. (leave-back s x m l q h i c g, tt))
+ahead-step Found s x c m l q h i n e = absurd (point-true Mode (c .eta) e)
+ahead-step (Halted k) s x c m l q h i n e = absurd (point-true (Refused k) (c .eta) e)
 
 -- ---- where a point of the last search comes from
 Source : Conditional2 → Conditional2 → Conditional2 → List Conditional2 → Type 0
@@ -141,15 +144,15 @@ member s (c ∷ h) m z f w = first-point c m h (sources s h (between Start 0 c c
 
 -- ---- to the end
 record Ends (s : Settings2) (x : Search2) (h : List Conditional2) (m : Conditional2) : Type 0 where
-  pub ahead : AheadOf s x m (startsFrom s x h) (candidatesFrom s x h)
+  pub ahead : AheadOf s x m (startsFrom s x h) (candidatesFrom s x h) h
   pub lowest : (t : Conditional2) → List·Memᴰ t (startsFrom s x h) → NoHigher s m t
 
-at-end : (st : Stage2) (s : Settings2) (x : Search2) → T (isMode (requestAt st s x)) → Ahead st s x (x .best) [] []
+at-end : (st : Stage2) (s : Settings2) (x : Search2) → T (isMode (requestAt st s x)) → Ahead st s x (x .best) [] [] []
 unfolding requestAt
 at-end Zero s x h = absurd h
 at-end Start s x h = absurd h
 at-end Trial s x h = absurd h
-at-end Found s x h = record { starts = refl; candidates = refl; mode = refl }
+at-end Found s x h = record { starts = refl; candidates = refl; mode = refl; over = refl }
 at-end (Halted n) s x h = absurd h
 
 lowest-step : (st : Stage2) (s : Settings2) (c m : Conditional2) (l : List Conditional2) → Came st s c m → ((t : Conditional2) → List·Memᴰ t l → NoHigher s m t) → (t : Conditional2) → List·Memᴰ t (pick (isStart st) (c ∷ l) l) → NoHigher s m t
@@ -172,7 +175,7 @@ ends s d (c ∷ h) x i f w =
     let m = afterFrom s y h .best in
     let n = joint-num s d (request s x) c (f .0) in
     let e = ends s d h y (way-step (x .stage) s x c i n (point-true (request s x) (c .eta) (f .0 .asked))) (f .1) w in
-    let g = ahead-step (x .stage) s x c m (startsFrom s y h) (candidatesFrom s y h) i n (f .0 .asked) (e .ahead) in
+    let g = ahead-step (x .stage) s x c m (startsFrom s y h) (candidatesFrom s y h) h i n (f .0 .asked) (e .ahead) in
     record { ahead = g .0; lowest = lowest-step (x .stage) s c m (startsFrom s y h) (g .1) (e .lowest) }
 
 -- ---- the theorem
@@ -204,52 +207,6 @@ best-in : (s : Settings2) (m : Conditional2) (q : List Conditional2) → Pass s 
 unfolding Pass
 best-in s m [] p = absurd p
 best-in s m (c ∷ q) p = elim (best-after s c m q (p .1)) [ inl e ↦ List·Memᴰ·head e | inr h ↦ List·Memᴰ·tail h ]
-
--- ---- starts and candidates are points of the history
-starts-in : (s : Settings2) (h : List Conditional2) (x : Search2) (t : Conditional2) → List·Memᴰ t (startsFrom s x h) → List·Memᴰ t h
-unfolding startsFrom pick
-starts-in s [] x t p = p
-starts-in s (c ∷ h) x t p = go (isStart (x .stage)) (starts-in s h (advance s x c) t) p
-  where
-    go : (b : Bool) → (List·Memᴰ t (startsFrom s (advance s x c) h) → List·Memᴰ t h) → List·Memᴰ t (pick b (c ∷ startsFrom s (advance s x c) h) (startsFrom s (advance s x c) h)) → List·Memᴰ t (c ∷ h)
-    go true f p = elim (List·Memᴰ·cases-cons p) [ inl e ↦ List·Memᴰ·head e | inr q ↦ List·Memᴰ·tail (f q) ]
-    go false f p = List·Memᴰ·tail (f p)
-
--- the current point is the one tried, or stays
-current-step : (st : Stage2) (s : Settings2) (x : Search2) (c : Conditional2) → (advanceAt st s x c .current ≡ c) ⊎ (advanceAt st s x c .current ≡ x .current)
-unfolding advanceAt between
-current-step Zero s x c = inl refl
-current-step Start s x c = inl (round-of s (x .seed) c (x .best) 0 .current)
-current-step Trial s x c =
-    cases (λ (y : Search2). (y .current ≡ c) ⊎ (y .current ≡ x .current)) (isTaken s x c) {x = take s x c} {y = leave s x}
-    (λ _. inl (take-of s x c .current)) (λ _. inr (leave-of s x .current))
-current-step Found s x c = inr refl
-current-step (Halted k) s x c = inr refl
-
-candidates-from : (s : Settings2) (h : List Conditional2) (x : Search2) (t : Conditional2) → List·Memᴰ t (candidatesFrom s x h) → (t ≡ x .current) ⊎ List·Memᴰ t h
-unfolding candidatesFrom pick
-candidates-from s [] x t p = inr p
-candidates-from s (c ∷ h) x t p = go (ltb (x .seed) (y .seed)) (candidates-from s h y t) p
-  where
-    y : Search2
-    y = advance s x c
-
-    now : (t ≡ y .current) → (t ≡ x .current) ⊎ List·Memᴰ t (c ∷ h)
-    now e = elim (current-step (x .stage) s x c) [ inl f ↦ inr (List·Memᴰ·head (e ∙ f)) | inr f ↦ inl (e ∙ f) ]
-
-    on : (t ≡ y .current) ⊎ List·Memᴰ t h → (t ≡ x .current) ⊎ List·Memᴰ t (c ∷ h)
-    on (inl e) = now e
-    on (inr q) = inr (List·Memᴰ·tail q)
-
-    go : (b : Bool) → (List·Memᴰ t (candidatesFrom s y h) → (t ≡ y .current) ⊎ List·Memᴰ t h)
-        → List·Memᴰ t (pick b (y .current ∷ candidatesFrom s y h) (candidatesFrom s y h)) → (t ≡ x .current) ⊎ List·Memᴰ t (c ∷ h)
-    go true f p = elim (List·Memᴰ·cases-cons p) [ inl e ↦ now e | inr q ↦ on (f q) ]
-    go false f p = on (f p)
-
-candidates-in : (s : Settings2) (h : List Conditional2) (t : Conditional2) → List·Memᴰ t (candidates s h) → List·Memᴰ t h
-unfolding candidatesFrom start advanceAt between pick
-candidates-in s [] t p = p
-candidates-in s (c ∷ h) t p = elim (candidates-from s h (between Start 0 c c) t p) [ inl e ↦ List·Memᴰ·head e | inr q ↦ List·Memᴰ·tail q ]
 
 number : Request2 → ℕ
 number (Point p) = 0
@@ -285,9 +242,8 @@ module _ (s : Settings2) (d : Bounded s) (h : List Conditional2) (f : Follows s 
       let p : Pass s (candidates s h) (after s h .best) = pass-all s (e .ahead .held) (after s h .best) (candidates s h) (g .total) (g .pass) in
       record {
         isStarts = g .points ∙ starts-are s;
-        startsIn = starts-in s h start;
         six = g .total;
-        candidatesIn = candidates-in s h;
+        divided = e .ahead .divided;
         pass = p;
         member = best-in s (after s h .best) (candidates s h) p;
         lowest = e .lowest;

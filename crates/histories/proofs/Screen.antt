@@ -67,7 +67,7 @@ warm-trials s d a z (c ∷ h) x e p q g f m =
     } in
     let g' : Good a z (y .left) (y .right) (y .best) = subst (λ (v : Search). Good a z (v .left) (v .right) (v .best)) (sym same) (keep a z (x .left) (x .right) (x .best) c g i) in
     let r : Ends s a z (cellIn y) (y .best) h (afterFrom s y h) = trials s d a z h y (subst (λ (v : Search). T (later (v .stage))) (sym same) tt) g' (f .1) m in
-    ends-step s a z Secant 0 x c h (afterFrom s y h) i (subst (λ (v : Search). Ends s a z (cellIn v) (v .best) h (afterFrom s y h)) same r)
+    ends-step s a z Secant 0 x c h (afterFrom s y h) g i (subst (λ (v : Search). Ends s a z (cellIn v) (v .best) h (afterFrom s y h)) same r)
 
 -- the end of smaller absolute score, the right one at a tie
 abbrev pub nearer : Cell → Conditional

@@ -2,7 +2,7 @@
 use mathlib.Core.Path.{_≡_, refl, sym, ap, subst}
 use mathlib.Core.Logic.{_⊎_, inl, inr}
 use mathlib.Core.Bool.{Bool, true, false, not, true≢false}
-use mathlib.Core.List.{List, [], _∷_, List·Memᴰ, List·Memᴰ·head, List·Memᴰ·tail}
+use mathlib.Core.List.{List, [], _∷_, List·Memᴰ, List·Memᴰ·head, List·Memᴰ·tail, List·Memᴰ·cases-cons, List·Memᴰ·not-nil}
 use Prim.Native.Nat.{ℕ, _+_, _*_, _≤_}
 use native.Mathlib.Omega.{arith}
 use lib.Dec.{T, T-not, ltb, eqb, lit<}
@@ -311,6 +311,10 @@ tried-at Halving p s x c w =
 pub record Ends (s : Settings) (a z : Float) (k : Cell) (b : Conditional) (h : List Conditional) (e : Search) : Type 0 where
   pub inLeft : T (le a (e .best .eta))
   pub inRight : T (le (e .best .eta) z)
+  pub below : T (le (abs (e .best .score)) (abs (b .score)))
+  pub leastLeft : T (le (abs (e .best .score)) (abs (k .left .score)))
+  pub leastRight : T (le (abs (e .best .score)) (abs (k .right .score)))
+  pub least : (c : Conditional) → List·Memᴰ c h → T (le (abs (e .best .score)) (abs (c .score)))
   pub isSettled : settled s (e .best) (bracketFrom k h .left) (bracketFrom k h .right) ≡ isMode (request s e)
   pub bestLeft : T (le (abs (e .best .score)) (abs (bracketFrom k h .left .score)))
   pub bestRight : T (le (abs (e .best .score)) (abs (bracketFrom k h .right .score)))
@@ -329,13 +333,22 @@ source-step true c b m h (inl e) = inr (List·Memᴰ·head e)
 source-step false c b m h (inl e) = inl e
 
 -- one point earlier: c was tried
-pub ends-step : (s : Settings) (a z : Float) (stage : Stage) (count : ℕ) (x : Search) (c : Conditional) (h : List Conditional) (e : Search) → Inside (x .left) (x .right) c
+pub ends-step : (s : Settings) (a z : Float) (stage : Stage) (count : ℕ) (x : Search) (c : Conditional) (h : List Conditional) (e : Search) → Good a z (x .left) (x .right) (x .best) → Inside (x .left) (x .right) c
     → Ends s a z (cellIn (tried stage count x c)) (tried stage count x c .best) h e → Ends s a z (cellIn x) (x .best) (c ∷ h) e
 unfolding bracketFrom InBracket
-ends-step s a z stage count x c h e i w =
+ends-step s a z stage count x c h e g i w =
     let b = pick (isCloser c (x .best)) c (x .best) in
     let v : Ends s a z (narrowed (cellIn x) c) b h e = subst (λ (k : Cell). Ends s a z k b h e) (narrowed-is stage count x c) (unfold tried in w) in
+    let m = abs (e .best .score) in
+    let below : T (le m (abs (x .best .score))) = le-trans m (abs (b .score)) (abs (x .best .score)) (v .below) (better-l (x .best) c (g .numB)) in
     record {
+      below = below;
+      leastLeft = le-trans m (abs (x .best .score)) (abs (x .left .score)) below (g .bestL);
+      leastRight = le-trans m (abs (x .best .score)) (abs (x .right .score)) below (g .bestR);
+      least = λ d p. elim (List·Memᴰ·cases-cons p) [
+        | inl q ↦ subst (λ (y : Conditional). T (le m (abs (y .score)))) (sym q) (le-trans m (abs (b .score)) (abs (c .score)) (v .below) (better-r (x .best) c (g .numB) (i .numC)))
+        | inr q ↦ v .least d q
+      ];
       inBracket = (i .aboveL, i .belowR, v .inBracket);
       inLeft = v .inLeft;
       inRight = v .inRight;
@@ -353,11 +366,28 @@ ends-step s a z stage count x c h e i w =
 pub trials : (s : Settings) (d : Domain s) (a z : Float) (h : List Conditional) (x : Search) → T (later (x .stage)) → Good a z (x .left) (x .right) (x .best) → FollowsFrom s x h → T (isEnd (request s (afterFrom s x h)))
     → Ends s a z (cellIn x) (x .best) h (afterFrom s x h)
 unfolding Answered ledFrom bracketFrom tried InBracket
-trials s d a z [] x p g f m = record { inBracket = tt; inLeft = g .inL; inRight = g .inR; isSettled = end-settled (x .stage) p s x m; bestLeft = g .bestL; bestRight = g .bestR; bracketLow = g .cellL; bracketOrder = g .order; bracketHigh = g .cellR; leftUnder = g .signL; rightAbove = g .signR; source = inl refl }
+trials s d a z [] x p g f m = record {
+  below = le-refl-num (abs (x .best .score)) (abs-num (x .best .score) (g .numB));
+  leastLeft = g .bestL;
+  leastRight = g .bestR;
+  least = λ d p. absurd (List·Memᴰ·not-nil p);
+  inBracket = tt;
+  inLeft = g .inL;
+  inRight = g .inR;
+  isSettled = end-settled (x .stage) p s x m;
+  bestLeft = g .bestL;
+  bestRight = g .bestR;
+  bracketLow = g .cellL;
+  bracketOrder = g .order;
+  bracketHigh = g .cellR;
+  leftUnder = g .signL;
+  rightAbove = g .signR;
+  source = inl refl;
+}
 trials s d a z (c ∷ h) x p g f m =
     let y = advance s x c in
     let t = tried-at (x .stage) p s x c (f .0) in
     let i = asked-inside (x .stage) p s d a z x c g (f .0) in
     let g' : Good a z (y .left) (y .right) (y .best) = subst (λ (v : Search). Good a z (v .left) (v .right) (v .best)) (sym (t .same)) (keep a z (x .left) (x .right) (x .best) c g i) in
     let e : Ends s a z (cellIn y) (y .best) h (afterFrom s y h) = trials s d a z h y (subst (λ (v : Search). T (later (v .stage))) (sym (t .same)) (t .isLater)) g' (f .1) m in
-    ends-step s a z (t .stage) (t .count) x c h (afterFrom s y h) i (subst (λ (v : Search). Ends s a z (cellIn v) (v .best) h (afterFrom s y h)) (t .same) e)
+    ends-step s a z (t .stage) (t .count) x c h (afterFrom s y h) g i (subst (λ (v : Search). Ends s a z (cellIn v) (v .best) h (afterFrom s y h)) (t .same) e)

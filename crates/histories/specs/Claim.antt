@@ -38,7 +38,11 @@ pub record Best (cell : Cell) (h : List Conditional) (m : Conditional) : Type 0 
   pub member : List·Memᴰ m h
   pub inLeft : T (le (cell .left .eta) (m .eta))
   pub inRight : T (le (m .eta) (cell .right .eta))
-  -- its absolute score is at most that at either end of the final bracket
+  -- its absolute score is at most that at each end of the cell, and at every point tried after the grid
+  pub leastLeft : T (le (abs (m .score)) (abs (cell .left .score)))
+  pub leastRight : T (le (abs (m .score)) (abs (cell .right .score)))
+  pub least : (c : Conditional) → List·Memᴰ c (trials h) → T (le (abs (m .score)) (abs (c .score)))
+  -- and so at either end of the final bracket
   pub bestLeft : T (le (abs (m .score)) (abs (finalBracket cell h .left .score)))
   pub bestRight : T (le (abs (m .score)) (abs (finalBracket cell h .right .score)))
   -- the final bracket lies in the cell, and the score rises through 0 in it

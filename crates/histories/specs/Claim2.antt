@@ -1,7 +1,7 @@
 -- What is claimed of one search with two effects, over every history of its rules.
 use mathlib.Core.Path.{_≡_}
 use mathlib.Core.Logic.{_⊎_}
-use mathlib.Core.List.{List, [], _∷_, List·Memᴰ}
+use mathlib.Core.List.{List, [], _∷_, _++_, List·Memᴰ}
 use Prim.Native.Nat.{ℕ, _+_, _≤_}
 use lib.ListN.{length}
 use lib.Ieee.{Float}
@@ -10,7 +10,7 @@ use Rattle.mode_2d.specs.declared.population_focei_2d.Settings2.{Settings2}
 use Rattle.mode_2d.specs.declared.population_focei_2d.Conditional2.{Conditional2}
 use Rattle.mode_2d.specs.declared.population_focei_2d.Request2.the-variants.{Mode, Refused}
 use Rattle.mode_2d.specs.Rules.{request}
-use Rattle.histories.specs.Terms2.{etas, startPoints, NoHigher, IsUnresolved, Resolved, IsFar, better, IsFlat}
+use Rattle.histories.specs.Terms2.{etas, point, startPoints, NoHigher, IsUnresolved, Resolved, IsFar, better, IsFlat}
 use Rattle.histories.specs.History2.{Within, Accepted, Follows, after, asks, starts, candidates}
 
 -- each candidate's joint is at most that at its own start
@@ -19,6 +19,19 @@ EachNoHigher s [] [] = Unit
 EachNoHigher s [] (t ∷ l) = ⊥
 EachNoHigher s (c ∷ q) [] = ⊥
 EachNoHigher s (c ∷ q) (t ∷ l) = NoHigher s c t × EachNoHigher s q l
+
+-- a history divides into runs, one for each start: a run begins with its start, and its candidate is one of its points
+unfoldable pub Runs : List Conditional2 → List Conditional2 → List Conditional2 → Type 0
+Runs [] [] h = h ≡ []
+Runs [] (c ∷ q) h = ⊥
+Runs (t ∷ l) [] h = ⊥
+Runs (t ∷ l) (c ∷ q) h =
+    (trials : List Conditional2) × ((rest : List Conditional2) × ((h ≡ t ∷ trials ++ rest) × (List·Memᴰ c (t ∷ trials) × Runs l q rest)))
+
+-- before them zero is evaluated
+unfoldable pub Divided : List Conditional2 → List Conditional2 → List Conditional2 → Type 0
+Divided l q [] = ⊥
+Divided l q (z ∷ h) = (z .eta ≡ point (word 0) (word 0)) × Runs l q h
 
 -- the candidates after the first, each against the best so far, b: it passes 13, and 14, and the best of all is m, the earlier at ties
 unfoldable pub PassAfter : Settings2 → Conditional2 → List Conditional2 → Conditional2 → Type 0
@@ -32,12 +45,12 @@ Pass s (c ∷ q) m = Resolved s c × PassAfter s c q m
 
 -- the mode m of a history h
 pub record Found2 (s : Settings2) (h : List Conditional2) (m : Conditional2) : Type 0 where
-  -- all six starts were tried
+  -- all six starts were tried, and came to six candidates
   pub isStarts : etas (starts s h) ≡ startPoints s
-  pub startsIn : (t : Conditional2) → List·Memᴰ t (starts s h) → List·Memᴰ t h
-  -- and came to six candidates, which passed 13 and 14 in their order; the mode is the best of them
   pub six : length (candidates s h) ≡ 6
-  pub candidatesIn : (c : Conditional2) → List·Memᴰ c (candidates s h) → List·Memᴰ c h
+  -- the history is zero and six runs, with these starts and candidates
+  pub divided : Divided (starts s h) (candidates s h) h
+  -- the candidates passed 13 and 14 in their order, and the mode is the best of them
   pub pass : Pass s (candidates s h) m
   pub member : List·Memᴰ m (candidates s h)
   -- its joint is at most that at each of the six starts
