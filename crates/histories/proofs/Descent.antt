@@ -388,7 +388,8 @@ module _ (s : Settings2) (x : Search2) (m : Conditional2) (l q hs : List Conditi
   unfolding take
   take-back n h =
       cases Tried (ltb (x .round) 47) {x = beginRound s (x .seed) (x .round + 1) c (x .best)} {y = finish s (x .seed) c (x .best)}
-      (λ _. λ g. lower _ h (round-back s (x .seed) c (x .best) m l q hs (i .seed) n (i .best) (x .round + 1) g)) (λ _. λ g. lower _ h (finish-back s (x .seed) c (x .best) m l q hs (i .seed) n (i .best) g))
+      (λ _. λ g. lower _ h (round-back s (x .seed) c (x .best) m l q hs (i .seed) n (i .best) (x .round + 1) g))
+      (λ _. λ g. lower _ h (finish-back s (x .seed) c (x .best) m l q hs (i .seed) n (i .best) g))
 
   -- or the current point stays
   stay : (r : List Conditional2) → InRound s (x .seed) (x .current) (x .best) m l r hs → InRound s (x .seed) (x .current) (x .best) m l r (c ∷ hs)

@@ -72,7 +72,8 @@ Came (Halted n) s c m = Unit
 abbrev Step : Stage2 → Settings2 → Search2 → Conditional2 → Conditional2 → List Conditional2 → List Conditional2 → List Conditional2 → Search2 → Type 0
 Step st s x c m l q h y = AheadOf s y m l q h → Ahead st s x m (pick (isStart st) (c ∷ l) l) (withCandidate (x .seed) y q) (c ∷ h) × Came st s c m
 
-ahead-step : (st : Stage2) (s : Settings2) (x : Search2) (c m : Conditional2) (l q h : List Conditional2) → Way st s x → T (num? (joint s c)) → requestAt st s x ≡ Point (c .eta) → Step st s x c m l q h (advanceAt st s x c)
+ahead-step : (st : Stage2) (s : Settings2) (x : Search2) (c m : Conditional2) (l q h : List Conditional2) → Way st s x → T (num? (joint s c)) → requestAt st s x ≡ Point (c .eta)
+    → Step st s x c m l q h (advanceAt st s x c)
 unfolding requestAt advanceAt pick between Divided
 ahead-step Zero s x c m l q h i n e = λ g.
     let w : Begin s m l q (c ∷ h) = record { held = c; rest = g .rest; each = g .each; divided = (sym (ap (pointOf (c .eta)) e), g .runs) } in

@@ -128,7 +128,8 @@ fall-from a (b ∷ t) h = go (isAbove a) (isUnder b) refl refl (fall-from b t) h
     later : Fall (neighboursFrom b t) → Fall (cell a b ∷ neighboursFrom b t)
     later w = (w .0, both (λ (l : List Cell). List·Memᴰ (w .0) l) (isFall (cell a b)) (List·Memᴰ·tail (w .1)) (w .1))
 
-    go : (p q : Bool) → isAbove a ≡ p → isUnder b ≡ q → (T (fallsFrom b t) → Fall (neighboursFrom b t)) → T (pick p (pick q true (fallsFrom b t)) (fallsFrom b t)) → Fall (cell a b ∷ neighboursFrom b t)
+    go : (p q : Bool) → isAbove a ≡ p → isUnder b ≡ q → (T (fallsFrom b t) → Fall (neighboursFrom b t))
+        → T (pick p (pick q true (fallsFrom b t)) (fallsFrom b t)) → Fall (cell a b ∷ neighboursFrom b t)
     go true true u v f h =
         let e = filter-yes isFall (cell a b) (neighboursFrom b t) (fall-is a b ∙ and-yes _ _ u v) in
         (cell a b, subst (λ (l : List Cell). List·Memᴰ (cell a b) l) (sym e) (List·Memᴰ·head refl))
@@ -181,7 +182,8 @@ unfolding requestAt
 grid-not-screen s x e k q =
     subst (λ (r : Request). T (isScreen r)) (ap (λ (t : Stage). requestAt t s x) e ∙ pick-yes (ltb (x .count) 17) _ _ (lt-ltb (x .count) 17 k)) q
 
-run : (s : Settings) (n : ℕ) (h : List Conditional) (x : Search) → x .stage ≡ Grid → 1 ≤ x .count → x .count + n ≡ 17 → (17 ≤ x .count → Why x) → Rose x → T (num? (x .latest .score)) → FollowsFrom s x h → T (isScreen (request s (afterFrom s x h))) → Run s n x h (afterFrom s x h)
+run : (s : Settings) (n : ℕ) (h : List Conditional) (x : Search) → x .stage ≡ Grid → 1 ≤ x .count → x .count + n ≡ 17 → (17 ≤ x .count → Why x) → Rose x
+    → T (num? (x .latest .score)) → FollowsFrom s x h → T (isScreen (request s (afterFrom s x h))) → Run s n x h (afterFrom s x h)
 unfolding Answered ledFrom etas gridFrom lastFrom fallsFrom pick
 run s zero [] x e k i w o l f q = record { rose = o; latestNumber = l; grid = refl; stage = e; full = omega arith; first = refl; latest = refl; fall = refl; why = w (omega arith) }
 run s zero (c ∷ h) x e k i w o l f q = let j = grid-asked s x c e (f .0) .0 in absurd (omega arith)
@@ -192,7 +194,9 @@ run s (suc n) (c ∷ h) x e k i w o l f q =
     elim (chosen-cases s y) [
       | inl p ↦
           let g : advance s x c ≡ y = next s x c e (a .0) ∙ p .0 in
-          let r : Run s n y h (afterFrom s y h) = run s n h y (on x c) (more x c) (count x c n i) (p .1) (rose-step x c k (f .0 .scoreNumber) o) (latest x c (f .0 .scoreNumber)) (subst (λ (v : Search). FollowsFrom s v h) g (f .1)) (subst (λ (v : Search). T (isScreen (request s (afterFrom s v h)))) g q) in
+          let f' : FollowsFrom s y h = subst (λ (v : Search). FollowsFrom s v h) g (f .1) in
+          let q' : T (isScreen (request s (afterFrom s y h))) = subst (λ (v : Search). T (isScreen (request s (afterFrom s v h)))) g q in
+          let r = run s n h y (on x c) (more x c) (count x c n i) (p .1) (rose-step x c k (f .0 .scoreNumber) o) (latest x c (f .0 .scoreNumber)) f' q' in
           run-step s n x c h (afterFrom s (advance s x c) h) k (a .1) (subst (λ (v : Search). Run s n y h (afterFrom s v h)) (sym g) r)
       | inr p ↦
           let g : advance s x c ≡ entered s y = next s x c e (a .0) ∙ p in
@@ -266,7 +270,10 @@ whole s (c ∷ h) f q =
     elim (chosen-cases s y) [
       | inl p ↦
           let g : advance s start c ≡ y = next s start c e (a .0) ∙ p .0 in
-          let r : Run s 16 y h (afterFrom s y h) = run s 16 h y (unfold screened in refl) (unfold screened start in lit≤ tt) (unfold screened start in refl) (p .1) (rose-first c (f .0 .scoreNumber)) (unfold screened in f .0 .scoreNumber) (subst (λ (v : Search). FollowsFrom s v h) g (f .1)) (subst (λ (v : Search). T (isScreen (request s (afterFrom s v h)))) g q) in
+          let f' : FollowsFrom s y h = subst (λ (v : Search). FollowsFrom s v h) g (f .1) in
+          let q' : T (isScreen (request s (afterFrom s y h))) = subst (λ (v : Search). T (isScreen (request s (afterFrom s v h)))) g q in
+          let number : T (num? (y .latest .score)) = unfold screened in f .0 .scoreNumber in
+          let r = run s 16 h y (unfold screened in refl) (unfold screened start in lit≤ tt) (unfold screened start in refl) (p .1) (rose-first c (f .0 .scoreNumber)) number f' q' in
           whole-of s c h (afterFrom s (advance s start c) h) (a .1 ∙ (unfold start in refl)) (f .0 .scoreNumber) (subst (λ (v : Search). Run s 16 y h (afterFrom s v h)) (sym g) r)
       | inr p ↦
           let g : advance s start c ≡ entered s y = next s start c e (a .0) ∙ p in

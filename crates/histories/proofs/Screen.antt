@@ -411,7 +411,8 @@ onward s d (suc n) (c ∷ h) y z a e f m =
           let r : Rest s n (z .count + 1) c [] (cellIn (screened z c)) h (afterFrom s (advance s z c) h) =
           onward s d n h (screened z c) (advance s z c) (above-next n z c b (p .0) (p .1)) (next s z c (b .onGrid) (w .0)) (f .1) m in
           let r' = subst (λ (v : Cell). Rest s n (z .count + 1) c [] v h (afterFrom s (advance s z c) h)) (above-cell z c (b .notUnder)) r in
-          subst (λ (v : Search). Rest s (suc n) (v .count) (v .latest) [] (cellIn v) (c ∷ h) (afterFrom s (advance s z c) h)) q (rest-on s n (z .count) (z .latest) c (cellIn z) h (afterFrom s (advance s z c) h) (w .1) (inr (p .1)) [] (inl (b .notUnder)) r')
+          subst (λ (v : Search). Rest s (suc n) (v .count) (v .latest) [] (cellIn v) (c ∷ h) (afterFrom s (advance s z c) h)) q
+          (rest-on s n (z .count) (z .latest) c (cellIn z) h (afterFrom s (advance s z c) h) (w .1) (inr (p .1)) [] (inl (b .notUnder)) r')
       | inr p ↦
           let bad : Bad (screened z c) = bad-falls z c (b .isAbove) (p .1) in
           let g : advance s z c ≡ screened z c = next s z c (b .onGrid) (w .0) ∙ stays-bad s (screened z c) bad in

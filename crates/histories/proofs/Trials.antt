@@ -333,8 +333,8 @@ source-step true c b m h (inl e) = inr (List·Memᴰ·head e)
 source-step false c b m h (inl e) = inl e
 
 -- one point earlier: c was tried
-pub ends-step : (s : Settings) (a z : Float) (stage : Stage) (count : ℕ) (x : Search) (c : Conditional) (h : List Conditional) (e : Search) → Good a z (x .left) (x .right) (x .best) → Inside (x .left) (x .right) c
-    → Ends s a z (cellIn (tried stage count x c)) (tried stage count x c .best) h e → Ends s a z (cellIn x) (x .best) (c ∷ h) e
+pub ends-step : (s : Settings) (a z : Float) (stage : Stage) (count : ℕ) (x : Search) (c : Conditional) (h : List Conditional) (e : Search)
+    → Good a z (x .left) (x .right) (x .best) → Inside (x .left) (x .right) c → Ends s a z (cellIn (tried stage count x c)) (tried stage count x c .best) h e → Ends s a z (cellIn x) (x .best) (c ∷ h) e
 unfolding bracketFrom InBracket
 ends-step s a z stage count x c h e g i w =
     let b = pick (isCloser c (x .best)) c (x .best) in

@@ -16,7 +16,7 @@ use Rattle.mode.specs.declared.population_focei.Conditional.{Conditional}
 use Rattle.mode.specs.declared.population_focei.Stage.{Stage}
 use Rattle.mode.specs.declared.population_focei.Stage.the-variants.{Warm, Secant}
 use Rattle.mode.specs.declared.population_focei.Search.{Search}
-use Rattle.mode.specs.Rules.{nought, gridPoint, isAbove, isUnder, settled, firstStage, tried}
+use Rattle.mode.specs.Rules.{gridPoint, isAbove, isUnder, settled, firstStage, tried}
 use Rattle.histories.specs.Terms.{etas, gridFrom, scoreAt, Cell, filter, isUpward, isFall, narrowed, Settled, warmTrials}
 
 abbrev pub cell : Conditional → Conditional → Cell
@@ -31,9 +31,6 @@ unfolding gridFrom gridPoint
 grid-next limit n i = refl
 
 -- scores
-pub zero-is : nought ≡ word 0
-zero-is = refl
-
 pub under-is : (c : Conditional) → isUnder c ≡ le (c .score) (word 0)
 unfolding isUnder
 under-is c = refl

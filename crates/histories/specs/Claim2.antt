@@ -20,7 +20,8 @@ EachNoHigher s [] (t ∷ l) = ⊥
 EachNoHigher s (c ∷ q) [] = ⊥
 EachNoHigher s (c ∷ q) (t ∷ l) = NoHigher s c t × EachNoHigher s q l
 
--- a history divides into runs, one for each start: a run begins with its start, and its candidate is one of its points
+-- a history h divides into runs, one for each start of l and candidate of q: a run begins with its start, and its candidate is one of
+-- its points
 unfoldable pub Runs : List Conditional2 → List Conditional2 → List Conditional2 → Type 0
 Runs [] [] h = h ≡ []
 Runs [] (c ∷ q) h = ⊥
@@ -28,7 +29,7 @@ Runs (t ∷ l) [] h = ⊥
 Runs (t ∷ l) (c ∷ q) h =
     (trials : List Conditional2) × ((rest : List Conditional2) × ((h ≡ t ∷ trials ++ rest) × (List·Memᴰ c (t ∷ trials) × Runs l q rest)))
 
--- before them zero is evaluated
+-- and before them zero is evaluated
 unfoldable pub Divided : List Conditional2 → List Conditional2 → List Conditional2 → Type 0
 Divided l q [] = ⊥
 Divided l q (z ∷ h) = (z .eta ≡ point (word 0) (word 0)) × Runs l q h
@@ -45,7 +46,7 @@ Pass s (c ∷ q) m = Resolved s c × PassAfter s c q m
 
 -- the mode m of a history h
 pub record Found2 (s : Settings2) (h : List Conditional2) (m : Conditional2) : Type 0 where
-  -- all six starts were tried, and came to six candidates
+  -- document 01's six starts were tried, and came to six candidates
   pub isStarts : etas (starts s h) ≡ startPoints s
   pub six : length (candidates s h) ≡ 6
   -- the history is zero and six runs, with these starts and candidates
