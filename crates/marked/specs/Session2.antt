@@ -1,7 +1,7 @@
--- A host's session with two effects, worked: setup, an objective, and a simulator's reply to each question.
+-- A host's sessions with two effects, worked: setup, one objective or the same again, and a simulator's reply to each question.
 --
 -- One subject has one observation: value 3, additive 1/2, proportional 0. Theta is (1, 1), omega (1, 1/2; 1/2, 1), and K and
--- max_evaluations are 25. The simulator predicts the first individual value itself, so that the second eta moves by omega alone.
+-- max_evaluations are 25.
 use mathlib.Core.List.{List, [], _∷_}
 use Prim.Native.Nat.{ℕ, zero, suc}
 use lib.Dec.{eqb}
@@ -43,9 +43,13 @@ observations = record { output = 0; row = 0; value = word 0x4008_0000_0000_0000;
 
 -- ---- simulators: from the words of both individual values to a row at time 0, pre
 
--- the first individual value, with derivatives 1 and 0
+-- the first individual value, with derivatives 1 and 0, so that the second eta moves by omega alone
 unfoldable pub firstValue : ℕ → ℕ → List ℕ
 firstValue individual second = 0 ∷ 0 ∷ individual ∷ 0x3ff0_0000_0000_0000 ∷ 0 ∷ []
+
+-- always 1, with derivatives 0 and 0
+unfoldable pub level : ℕ → ℕ → List ℕ
+level individual second = 0 ∷ 0 ∷ 0x3ff0_0000_0000_0000 ∷ 0 ∷ 0 ∷ []
 
 -- always 0, with derivatives 2^24 and 2^24
 unfoldable pub steep : ℕ → ℕ → List ℕ
@@ -125,7 +129,7 @@ finished value = 1 ∷ value ∷ 0 ∷ 0 ∷ 0 ∷ []
 abbrev pub refusedWith : ℕ → List ℕ
 refusedWith number = 2 ∷ number ∷ 1 ∷ 0 ∷ 0 ∷ []
 
--- ---- with eta_bound 2 it finds its mode, (1.0675448747341263, 0.5337724373670631), from the start (1, 0)
+-- ---- with `firstValue` and eta_bound 2 the mode is (1.0675448747341263, 0.5337724373670631), had from the start (1, 0)
 
 unfoldable pub toMode : List (List ℕ)
 toMode =
@@ -175,6 +179,28 @@ found = record {
   results = 0x3ff1_14a9_ef3f_ed86 ∷ 0x3fe1_14a9_ef3f_ed86 ∷ 0x3fcf_0ea6_5adc_0878 ∷ 0x3ff0_0000_0000_0000 ∷ 0x4007_440e_6f54_5759 ∷ [];
 }
 
+-- ---- with `level` and eta_bound 2 the mode is zero, to which each start comes in one step
+
+unfoldable pub startPoints : List (List ℕ)
+startPoints =
+    asked 0 0 0x3ff0_0000_0000_0000 0x3ff0_0000_0000_0000
+    ∷ asked 0x3ff0_0000_0000_0000 0 0x4005_bf0a_8b14_576a 0x3ff0_0000_0000_0000
+    ∷ asked 0xbff0_0000_0000_0000 0 0x3fd7_8b56_362c_ef38 0x3ff0_0000_0000_0000
+    ∷ asked 0 0x3ff0_0000_0000_0000 0x3ff0_0000_0000_0000 0x4005_bf0a_8b14_576a
+    ∷ asked 0 0xbff0_0000_0000_0000 0x3ff0_0000_0000_0000 0x3fd7_8b56_362c_ef38
+    ∷ []
+
+unfoldable pub foundZero : List (List ℕ) → Seen
+foundZero questions = record {
+  questions = questions;
+  end = finished 0x402d_3a37_a020_b8c2;
+  evaluations = 5;
+  «cached_rows» = 5;
+  work = zeros 12;
+  warm = zeros 2;
+  results = 0 ∷ 0 ∷ 0x4020_739a_ec96_a84c ∷ 0x3ff0_0000_0000_0000 ∷ 0x3ff0_0000_0000_0000 ∷ [];
+}
+
 -- ---- refusals, which leave the warm and result words as they were
 
 unfoldable pub refusedAfter : ℕ → ℕ → List (List ℕ) → Seen
@@ -188,7 +214,7 @@ refusedAfter number evaluations questions = record {
   results = zeros 5;
 }
 
--- with eta_bound 1 each trial is cut to the bound
+-- with `firstValue` and eta_bound 1 each trial is cut to the bound
 unfoldable pub toBound : List (List ℕ)
 toBound =
     asked 0 0 0x3ff0_0000_0000_0000 0x3ff0_0000_0000_0000
