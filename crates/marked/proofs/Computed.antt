@@ -85,7 +85,7 @@ hits = computed
 
 -- a host's own words
 unfoldable pub hosts : Computed
-unfolding Entries.wordsFrom SearchWords.wordsOf SearchWords.stageWord SearchWords.fallWord SearchWords.saved SearchWords.stageOf SearchWords.conditionalAt SearchWords.searchOf SearchWords.loaded SearchWords2.wordsOf SearchWords2.stageWord SearchWords2.saved SearchWords2.stageOf SearchWords2.pairAt SearchWords2.conditionalAt SearchWords2.searchOf SearchWords2.loaded SessionWords.pairAt SessionWords.additiveAt SessionWords.parametersAt SessionWords.progressAt SessionWords.orderAt SessionWords.stateAt SessionWords.withBoth SessionWords.withSearch SessionWords.withSearches SessionWords.loadedState SessionWords.flag SessionWords.objectiveWords SessionWords.progressWords SessionWords.orderWords SessionWords.stateWords SessionWords.putFrom SessionWords.savedState Hosting.placeWords Hosting.answerOf Hosting.answered Hosting.numberOf Hosting.isUnaltered Hosting.told Hosting.openedTo Hosting.opened Hosting.withState Hosting.openWith Hosting.setupOver Hosting.callOver Session2.setupWith Session2.parameters Session2.observations Session2.firstValue Session2.level Session2.steep Session2.seen Session2.opened Session2.after Session2.replies Session2.objectives Session2.session Session2.toMode Session2.found Session2.startPoints Session2.foundZero Session2.refusedAfter Session2.toBound
+unfolding Entries.wordsFrom SearchWords.wordsOf SearchWords.stageWord SearchWords.fallWord SearchWords.saved SearchWords.stageOf SearchWords.conditionalAt SearchWords.searchOf SearchWords.loaded SearchWords2.wordsOf SearchWords2.stageWord SearchWords2.saved SearchWords2.stageOf SearchWords2.pairAt SearchWords2.conditionalAt SearchWords2.searchOf SearchWords2.loaded SessionWords.pairAt SessionWords.additiveAt SessionWords.parametersAt SessionWords.progressAt SessionWords.orderAt SessionWords.stateAt SessionWords.withBoth SessionWords.withSearch SessionWords.withSearches SessionWords.loadedState SessionWords.flag SessionWords.objectiveWords SessionWords.progressWords SessionWords.orderWords SessionWords.stateWords SessionWords.putFrom SessionWords.savedState Hosting.placeWords Hosting.answerOf Hosting.answered Hosting.numberOf Hosting.isUnaltered Hosting.told Hosting.openedTo Hosting.opened Hosting.withState Hosting.openWith Hosting.setupOver Hosting.callOver Session2.setupWith Session2.parameters Session2.observations Session2.firstValue Session2.steep Session2.seen Session2.opened Session2.after Session2.replies Session2.objectives Session2.session Session2.toMode Session2.found Session2.refusedAfter Session2.toBound
 hosts = computed
 
 unfoldable pub worked : Computed

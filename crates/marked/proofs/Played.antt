@@ -2,16 +2,12 @@
 use mathlib.Core.Path.{_≡_, refl}
 use mathlib.Core.List.{[], _∷_}
 use Rattle.float64.specs.Arithmetic.{one, two}
-use Rattle.marked.specs.Session2.{session, firstValue, level, steep, asked, found, startPoints, foundZero, refusedAfter, toBound}
+use Rattle.marked.specs.Session2.{session, firstValue, steep, asked, toMode, found, toBound, refusedAfter}
 use Rattle.marked.proofs.Computed.{worked}
 
-pub session-found : session two firstValue 1 ≡ found ∷ []
+pub session-found : session two firstValue 2 ≡ found toMode ∷ found [] ∷ []
 unfolding worked
 session-found = refl
-
-pub session-again : session two level 2 ≡ foundZero startPoints ∷ foundZero [] ∷ []
-unfolding worked
-session-again = refl
 
 pub session-13 : session one firstValue 1 ≡ refusedAfter 13 4 toBound ∷ []
 unfolding worked

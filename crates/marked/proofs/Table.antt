@@ -11,7 +11,7 @@ use Rattle.likelihood_2d.specs.Row2.{rowVariance}
 use Rattle.curlewstand.specs.Leaves.{observationOf}
 use Rattle.marked.specs.Marked.{Marked, zero}
 use Rattle.marked.proofs.Computed.{everything}
-use Rattle.marked.proofs.Played.{session-found, session-again, session-13, session-16}
+use Rattle.marked.proofs.Played.{session-found, session-13, session-16}
 use Rattle.marked.proofs.Printed.{printed, printed-far, printed-empty, printed-bound-16, printed-bound-next, printed-16, printed-17, with-its-own}
 
 -- a NaN swallows what is added to it
@@ -64,7 +64,6 @@ marked =
       printed-16 = printed-16;
       printed-17 = printed-17;
       session-found = session-found;
-      session-again = session-again;
       session-13 = session-13;
       session-16 = session-16;
     }

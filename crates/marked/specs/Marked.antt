@@ -20,7 +20,7 @@ use Rattle.admission.specs.declared.Admission.the-variants.{Accepted, Refused}
 use Rattle.session.specs.Session.{firstCheck}
 use Rattle.fitting.specs.Output.{settings, output}
 use Rattle.marked.specs.Examples.{bytes, settingsWith, outputWith, example, exampleText, far, room}
-use Rattle.marked.specs.Session2.{session, firstValue, level, steep, asked, found, startPoints, foundZero, refusedAfter, toBound}
+use Rattle.marked.specs.Session2.{session, firstValue, steep, asked, toMode, found, toBound, refusedAfter}
 
 abbrev pub zero : Float
 zero = word 0
@@ -82,11 +82,10 @@ pub record Marked : Type 0 where
   -- max_evaluations 16 in the example gets 6, 17 passes
   pub printed-16 : outputWith (settingsWith four 16) example ≡ bytes "R 6 0 -\n"
   pub printed-17 : outputWith (settingsWith four 17) example ≡ exampleText
-  -- a session with two effects and eta_bound 2 finds its mode: its questions, objective, tally, and work, warm and result words
-  pub session-found : session two firstValue 1 ≡ found ∷ []
-  -- where the prediction is always 1 it is zero after 5 evaluations, and the same objective again has it from kept ones alone
-  pub session-again : session two level 2 ≡ foundZero startPoints ∷ foundZero [] ∷ []
-  -- with eta_bound 1 the first gets 13 after 4 evaluations
+  -- a session with two effects and eta_bound 2 finds its mode after 25 evaluations: its questions, objective, tally, and work, warm and
+  -- result words; the same objective again, with that mode for its warm start, has it from kept evaluations alone
+  pub session-found : session two firstValue 2 ≡ found toMode ∷ found [] ∷ []
+  -- with eta_bound 1 it gets 13 after 4 evaluations
   pub session-13 : session one firstValue 1 ≡ refusedAfter 13 4 toBound ∷ []
   -- with sensitivities of 2^24 for both effects the curvature at zero has no inverse: 16
   pub session-16 : session two steep 1 ≡ refusedAfter 16 1 (asked 0 0 0x3ff0_0000_0000_0000 0x3ff0_0000_0000_0000 ∷ []) ∷ []

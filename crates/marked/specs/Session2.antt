@@ -47,10 +47,6 @@ observations = record { output = 0; row = 0; value = word 0x4008_0000_0000_0000;
 unfoldable pub firstValue : ℕ → ℕ → List ℕ
 firstValue individual second = 0 ∷ 0 ∷ individual ∷ 0x3ff0_0000_0000_0000 ∷ 0 ∷ []
 
--- always 1, with derivatives 0 and 0
-unfoldable pub level : ℕ → ℕ → List ℕ
-level individual second = 0 ∷ 0 ∷ 0x3ff0_0000_0000_0000 ∷ 0 ∷ 0 ∷ []
-
 -- always 0, with derivatives 2^24 and 2^24
 unfoldable pub steep : ℕ → ℕ → List ℕ
 steep individual second = 0 ∷ 0 ∷ 0 ∷ 0x4170_0000_0000_0000 ∷ 0x4170_0000_0000_0000 ∷ []
@@ -168,37 +164,15 @@ toMode =
     ∷ []
 
 -- the objective is 3.337558322383676; then the mode, its negative log likelihood, and the predictions at eta zero and at the mode
-unfoldable pub found : Seen
-found = record {
-  questions = toMode;
+unfoldable pub found : List (List ℕ) → Seen
+found questions = record {
+  questions = questions;
   end = finished 0x400a_b351_c719_0b4a;
   evaluations = 25;
   «cached_rows» = 25;
   work = zeros 12;
   warm = 0x3ff1_14a9_ef3f_ed86 ∷ 0x3fe1_14a9_ef3f_ed86 ∷ [];
   results = 0x3ff1_14a9_ef3f_ed86 ∷ 0x3fe1_14a9_ef3f_ed86 ∷ 0x3fcf_0ea6_5adc_0878 ∷ 0x3ff0_0000_0000_0000 ∷ 0x4007_440e_6f54_5759 ∷ [];
-}
-
--- ---- with `level` and eta_bound 2 the mode is zero, to which each start comes in one step
-
-unfoldable pub startPoints : List (List ℕ)
-startPoints =
-    asked 0 0 0x3ff0_0000_0000_0000 0x3ff0_0000_0000_0000
-    ∷ asked 0x3ff0_0000_0000_0000 0 0x4005_bf0a_8b14_576a 0x3ff0_0000_0000_0000
-    ∷ asked 0xbff0_0000_0000_0000 0 0x3fd7_8b56_362c_ef38 0x3ff0_0000_0000_0000
-    ∷ asked 0 0x3ff0_0000_0000_0000 0x3ff0_0000_0000_0000 0x4005_bf0a_8b14_576a
-    ∷ asked 0 0xbff0_0000_0000_0000 0x3ff0_0000_0000_0000 0x3fd7_8b56_362c_ef38
-    ∷ []
-
-unfoldable pub foundZero : List (List ℕ) → Seen
-foundZero questions = record {
-  questions = questions;
-  end = finished 0x402d_3a37_a020_b8c2;
-  evaluations = 5;
-  «cached_rows» = 5;
-  work = zeros 12;
-  warm = zeros 2;
-  results = 0 ∷ 0 ∷ 0x4020_739a_ec96_a84c ∷ 0x3ff0_0000_0000_0000 ∷ 0x3ff0_0000_0000_0000 ∷ [];
 }
 
 -- ---- refusals, which leave the warm and result words as they were
