@@ -25,12 +25,12 @@ use Rattle.admission.proofs.Bounds.{not-first, counts-low, cohort-low}
 use Rattle.population.specs.Population.{rowsOf}
 use Rattle.claims.proofs.Plain.{true-not-false, false-not-true, positive, split}
 
-record Cohort (effects subjects total observations : ℕ) : Type 0 where
-  one-or-two : (effects ≡ 1) ⊎ (effects ≡ 2)
-  some : 1 ≤ subjects
-  adds : total ≡ observations
+pub record Cohort (effects subjects total observations : ℕ) : Type 0 where
+  pub one-or-two : (effects ≡ 1) ⊎ (effects ≡ 2)
+  pub some : 1 ≤ subjects
+  pub adds : total ≡ observations
 
-is-cohort : (effects subjects total observations : ℕ) → isCohort effects subjects total observations ≡ true → Cohort effects subjects total observations
+pub is-cohort : (effects subjects total observations : ℕ) → isCohort effects subjects total observations ≡ true → Cohort effects subjects total observations
 unfolding isCohort
 is-cohort effects subjects total observations q =
     let a = not-first _ _ false-not-true q in

@@ -56,7 +56,6 @@ use Rattle.session.specs.Session.{Held, held, Call, objective, reply, failure, 
 use Rattle.session.specs.Calls.{stateOf}
 use Rattle.search_words_2d.specs.SearchWords2 as words2
 use Rattle.session_words.proofs.Back.{FitsPair, FitsAdditive, FitsState}
-use Rattle.hosting.specs.Hosting.{FitsSd, FitsParameters}
 use Rattle.claims.specs.Inner.{Inner}
 use Rattle.claims.proofs.Accepted.{Accepts}
 use Rattle.claims.proofs.Always.{After}
@@ -120,6 +119,17 @@ Valued (refused n) = Unit
 valued : (theta eta : Pair) (effects : ℕ) → Valued (individualValues theta eta effects)
 unfolding Valued individualValues individual
 valued theta eta effects = both Valued _ tt (both Valued _ (both Valued _ tt (record { first = mul-fits binary64 _ _; second = mul-fits binary64 _ _ })) (record { first = mul-fits binary64 _ _; second = zero-fits }))
+
+-- ---- an objective's parameters
+abbrev pub FitsSd : AdditiveSd → Type 0
+FitsSd Own = Unit
+FitsSd (Override additive) = Fits additive
+
+pub record FitsParameters (p : Parameters) : Type 0 where
+  pub theta : Fits (p .theta .first)
+  pub theta-2 : Fits (p .theta .second)
+  pub variance : Fits (p .omega)
+  pub additive : FitsSd (p .«additive_sd»)
 
 -- a session's state: the objective's parameters, and where it stands
 pub record Formatted (h : Held words) : Type 0 where
@@ -214,7 +224,7 @@ module _ (setup : Setup) (counts : List ℕ) (observations : List Observation) (
   when-admitted go (A.Refused n) f = unaltered n _
   when-admitted go (A.Unsound place) f = unaltered 4 _
 
-  begun-fits : (parameters : Parameters) → FitsParameters parameters → After Formatted (on (N.begun words setup counts parameters w))
+  begun-fits : (parameters : Parameters) → FitsParameters parameters → After {Answer = Step} Formatted (on (N.begun words setup counts parameters w))
   unfolding N.begun After
   begun-fits parameters f = record { parameters = f; progress = begins _ _ _ _ _ zero-fits zero-fits }
 

@@ -3,7 +3,8 @@ use mathlib.Core.Path.{_≡_, refl, sym, ap, subst, _∙_}
 use mathlib.Core.Bool.{Bool, true, false}
 use mathlib.Core.List.{List, [], _∷_, _++_, append-assoc, append-nil}
 use mathlib.Core.Logic.{_⊎_, inl, inr}
-use Prim.Native.Nat.{ℕ, _≤_}
+use Prim.Native.Nat.{ℕ, _≤_, _<_, _%_}
+use native.Mathlib.Nat.{mod-lt}
 use native.Mathlib.Omega.{arith}
 use borrow.Author.Tests.{ltb-false}
 use lib.Dec.{T, ltb, eqb}
@@ -11,9 +12,11 @@ use lib.ListN.{length, getD, take, drop}
 use lib.Ieee.{binary64}
 use lib.Ieee.Bits.{ofBits-fits}
 use Rattle.float64.specs.Answer.{Answer, given}
+use Rattle.float64.specs.Arithmetic.{word}
 use Rattle.float64.specs.Pick.{pick, both, cases, pick-yes, pick-no}
 use Rattle.likelihood.specs.declared.population_focei.Observation.{Observation}
 use Rattle.admission.specs.Admission.{checks, countObservations}
+use Rattle.admission.specs.declared.Setup.{Setup}
 use Rattle.admission.specs.declared.Admission.{Admission}
 use Rattle.admission.specs.declared.Admission.the-variants as A
 use Rattle.admission.proofs.Bounds.{shape-low}
@@ -33,7 +36,7 @@ use Rattle.session.specs.declared.Opening.the-variants as Opens
 use Rattle.session.specs.declared.State.{State}
 use Rattle.session_words.specs.SessionWords.{loadedState, savedState}
 use Rattle.session_words.proofs.Back.{FitsState, back}
-use Rattle.hosting.specs.Hosting.{FitsSetup, Out, did, told, answered, answerOf, numberOf, isUnaltered, openedTo, callOver, setupOver, openWith, withState, unknown}
+use Rattle.hosting.specs.Hosting.{additiveSd, SetupBits, setupFrom, ParameterBits, parametersFrom, Out, did, told, answered, answerOf, numberOf, isUnaltered, openedTo, callOver, setupOver, openWith, withState, unknown}
 use Rattle.hosting.specs.Hosting as H
 use Rattle.word_replies.specs.SubjectReplies.{subjectReplyOver}
 use Rattle.claims.specs.Inner.{Inner, inner1, inner2, view}
@@ -41,13 +44,14 @@ use Rattle.claims.specs.Claim.{Holds3}
 use Rattle.claims.specs.Refusals.{AltersNothing, opens, calls, replies, Lending, does, number}
 use Rattle.claims.specs.Shown.{before, Reads, reads1, reads2, Shows}
 use Rattle.claims.specs.SubjectReply.{ownOf}
-use Rattle.claims.specs.Host.{Lends, left, all, own, rewarmed, Deed, asks, answers, answers-own, fails, warms, after, hosted, M, actOf, actsOf, lent, first, reached, Is, Told, now, Hosted, EveryHost}
+use Rattle.claims.specs.Host.{Lends, left, lending, all, own, rewarmed, Deed, asks, answers, answers-own, fails, warms, after, hosted, M, actOf, actsOf, lent, first, reached, Is, Told, now, Hosted, EveryHost}
 use Rattle.claims.proofs.Accepted.{Accepts, rows-within, accepts}
 use Rattle.claims.proofs.Always.{After, after-turn, after-entry, onward-keeps, loop-keeps}
 use Rattle.claims.proofs.Endings.{Says}
 use Rattle.claims.proofs.Entered.{Judged, counts-judged, Stays, Answers-with, Done, done, enters as enters-done}
 use Rattle.claims.proofs.Entries.{enters}
-use Rattle.claims.proofs.Formatted.{Formatted, FitsCall, begins, turns-fit, enters-fit, sets-fit, state-fits}
+use Rattle.claims.proofs.Fitting.{Fits}
+use Rattle.claims.proofs.Formatted.{FitsSd, FitsParameters, Formatted, FitsCall, begins, turns-fit, enters-fit, sets-fit, state-fits}
 use Rattle.claims.proofs.Opening.{every-setup}
 use Rattle.claims.proofs.Placed.{rows-exact, Going, turns-going, enters-going, sets-going, opens-going}
 use Rattle.claims.proofs.Refusals.{unaltered-no, loaded}
@@ -65,6 +69,25 @@ unfolding pick
 alike P true p q = p
 alike P false p q = q
 
+-- ---- what bits stand for is of the format
+additive-fits : (has : Bool) (n : ℕ) → FitsSd (additiveSd has (word n))
+unfolding additiveSd
+additive-fits has n = both FitsSd has (ofBits-fits binary64 n) tt
+
+record FitsSetup (s : Setup) : Type 0 where
+  bound : Fits (s .«eta_bound»)
+  variance : Fits (s .omega00)
+  additive : FitsSd (s .«additive_sd»)
+  most : s .«max_evaluations» < 4294967296
+
+setup-fits : (b : SetupBits) → FitsSetup (setupFrom b)
+unfolding setupFrom
+setup-fits b = record { bound = ofBits-fits binary64 _; variance = ofBits-fits binary64 _; additive = additive-fits (b .«has_additive») (b .additive); most = mod-lt (b .«max_evaluations») (omega arith) }
+
+parameters-fit : (b : ParameterBits) → FitsParameters (parametersFrom b)
+unfolding parametersFrom
+parameters-fit b = record { theta = ofBits-fits binary64 _; theta-2 = ofBits-fits binary64 _; variance = ofBits-fits binary64 _; additive = additive-fits (b .«has_additive») (b .additive) }
+
 -- ---- a call whose number is 1 to 5 or 19 leaves the state as it was
 module _ (l : Lending) where
   went-on : (h : Held words) (a : Step) (t : Held words) → Answers-with (l .setup) (l .counts) h a t → isUnaltered (numberOf a) ≡ false
@@ -75,11 +98,11 @@ module _ (l : Lending) where
 
   same-state : (c : Call) (h : Held words) → isUnaltered (numberOf (call (M l) c h .answer)) ≡ true → call (M l) c h .state ≡ h
   unfolding call
-  same-state c h u = by (done (l .setup) (l .counts) h _ (enters-done (l .setup) (l .counts) h (l .observations) c))
+  same-state c h u = by (call (M l) c h .answer) (call (M l) c h .state) (done (l .setup) (l .counts) h _ (enters-done (l .setup) (l .counts) h (l .observations) c)) u
     where
-      by : Done (l .setup) (l .counts) h _ _ → _
-      by (inl k) = k .same
-      by (inr g) = absurd (subst T (sym u ∙ went-on h _ _ g) tt)
+      by : (b : Step) (t : Held words) → Done (l .setup) (l .counts) h b t → isUnaltered (numberOf b) ≡ true → t ≡ h
+      by b t (inl k) e = k .same
+      by b t (inr g) e = absurd (subst T (sym e ∙ went-on h b t g) tt)
 
   -- ---- what a call gives back and writes is what the machine did
   over-is : (c : Call) (m : Lends) (h : Held words) → Is m h → does (all l m) (calls c) ≡ did (call (M l) c h) (m .state) (m .answer)
@@ -243,7 +266,7 @@ module _ (l : Lending) (I : Inner) (Q : Suits I (l .setup .effects)) (f : FitsSe
 
     deed-on : (x : Deed) → Stood (after l m x) (xs ++ (actOf l x ∷ []))
     unfolding after actOf FitsCall
-    deed-on (asks p k) = calls-on (objective p) k
+    deed-on (asks p) = calls-on (objective (parametersFrom p)) (parameters-fit p)
     deed-on (answers said) = calls-on (reply said) tt
     deed-on (answers-own said) = subst (λ (o : Out). Stood (left o) (xs ++ (acts (reply said) ∷ []))) (sym (own-is said)) (calls-on (reply said) tt)
     deed-on fails = calls-on failure tt
@@ -325,7 +348,9 @@ module _ (l : Lending) (f : FitsSetup (l .setup)) (e : number l opens ≡ 0) whe
         }
 
 pub every-host : EveryHost
-every-host l f e ds = (
-  λ one. is-hosted l f e inner1 (subst (Suits inner1) (sym one) suits1) reads1 (every-session (l .setup) (l .counts) (l .observations) .0 one) (every-word (l .setup) (l .counts) (l .observations) .0 one) ds,
-  λ two. is-hosted l f e inner2 (subst (Suits inner2) (sym two) suits2) reads2 (every-session (l .setup) (l .counts) (l .observations) .1 two) (every-word (l .setup) (l .counts) (l .observations) .1 two) ds,
-)
+every-host setup counts observations memory e ds =
+    let l = lending (setupFrom setup) counts observations memory in
+    let f = setup-fits setup in (
+      λ one. is-hosted l f e inner1 (subst (Suits inner1) (sym one) suits1) reads1 (every-session (l .setup) counts observations .0 one) (every-word (l .setup) counts observations .0 one) ds,
+      λ two. is-hosted l f e inner2 (subst (Suits inner2) (sym two) suits2) reads2 (every-session (l .setup) counts observations .1 two) (every-word (l .setup) counts observations .1 two) ds,
+    )

@@ -18,7 +18,7 @@ use Rattle.libm.specs.Log.{log}
 use Rattle.matrix.specs.Matrix.{pair, entry, determinant, product, dot, Inverse, some as inverted, none as singular, inversePositive}
 use Rattle.matrix.specs.declared.Pair.{Pair}
 use Rattle.likelihood.specs.Terms.{log2pi}
-use Rattle.mode.specs.Rules.{request, advance}
+use Rattle.mode.specs.Rules.{etaTolerance, request, advance}
 use Rattle.mode.specs.declared.population_focei.Settings.{Settings}
 use Rattle.mode.specs.declared.population_focei.Conditional.{Conditional}
 use Rattle.mode.specs.declared.population_focei.Request.{Request}
@@ -96,7 +96,7 @@ one-mode fit best rows m =
     (λ z q. subst (λ (x : Mode). OfMode inner1 reads1 x best) (same-mode q) (record { first = refl; second = zero-bits; nll = refl })))
 
 starts1 : (setup : Setup) (parameters : Parameters) (q : Progress) (warm : List ℕ) (i : ℕ) → setup .effects ≡ 1 → q .warm ≡ warmOf warm 1 i → B.settings (B.fitOf setup parameters) q ≡ reads1 .settings setup parameters warm i
-unfolding B.fitOf B.fitWith B.settings withParameters warmOf pick
+unfolding etaTolerance B.fitOf B.fitWith B.settings withParameters warmOf pick
 starts1 setup parameters q warm i e v =
     let fit = pick-no _ (B.fit2 (withParameters setup parameters) (parameters .theta)) (B.fitWith (withParameters setup parameters) (parameters .theta) B.noMatrix (word 0)) (ap (λ (n : ℕ). eqb n 2) e) in
     let own = pick-yes _ (parameters .omega) (setup .omega00) (ap (λ (n : ℕ). eqb n 1) e) in

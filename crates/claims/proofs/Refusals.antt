@@ -51,6 +51,7 @@ use Rattle.hosting.specs.Hosting.{Out, out, did, unknown, withState, answered, 
 use Rattle.hosting.specs.declared.AnswerWords.{AnswerWords}
 use Rattle.word_replies.specs.SubjectReplies.{subjectChecked, admitSubjectWith, subjectReplyOver}
 use Rattle.claims.specs.Refusals.{Exported, opens, calls, replies, Lending, does, AltersNothing, EndsObjective, Carries, Awaits, OutOfTurn, EveryRefusal, SixOnlyAtTheLimit, ZerosAfterAnEnd, NeverSpent, ForAllWords}
+use Rattle.claims.proofs.Accepted.{is-cohort}
 use Rattle.claims.proofs.Endings.{Tells, Says, Going, never-spent}
 use Rattle.claims.proofs.Entered.{Judged, counts-judged, one, unheard, late, stood, Done, Enters, Stood, wantedAt, done, unspent, admits, replies as goes-on, enters, Ending, Answers-with}
 use Rattle.claims.proofs.Evaluated.{work-length}
@@ -63,7 +64,7 @@ unfolding isUnaltered
 unaltered-yes n (inl l) = let a = l .0 in let b = l .1 in pick-no _ _ _ (ne-eqb n 0 (λ e. omega (arith, a, e))) ∙ pick-yes _ _ _ (lt-ltb n 6 (omega (arith, b)))
 unaltered-yes n (inr e) = pick-no _ _ _ (ne-eqb n 0 (λ z. omega (arith, e, z))) ∙ pick-no _ _ _ (le-ltb n 6 (omega (arith, e))) ∙ eq-eqb n 19 e
 
-unaltered-no : (n : ℕ) → EndsObjective n → isUnaltered n ≡ false
+pub unaltered-no : (n : ℕ) → EndsObjective n → isUnaltered n ≡ false
 unfolding isUnaltered
 unaltered-no n l = let a = l .0 in let b = l .1 in pick-no _ _ _ (ne-eqb n 0 (λ e. omega (arith, a, e))) ∙ pick-no _ _ _ (le-ltb n 6 a) ∙ ne-eqb n 19 (λ e. omega (arith, b, e))
 
@@ -90,39 +91,33 @@ idle-word : (s : State) (state : List ℕ) → 63 ≤ length state → s .progre
 unfolding W.flag
 idle-word s state l e a = let z : getD (savedState s state) 0 0 ≡ 0 = saved-word s state l ∙ pick-no _ _ _ e in omega (arith, a, z)
 
--- ---- words that are a state
-record Loaded (state : List ℕ) (s : State) : Type 0 where
-  awaits : s .progress .awaits ≡ eqb (getD state 0 0) 1
-  subject : s .progress .subject ≡ getD state 8 0
+-- ---- words that are a state: word 0 is 1 where a reply is awaited, and word 8 the subject
+pub record Loaded (state : List ℕ) (s : State) : Type 0 where
+  pub long : 63 ≤ length state
+  pub awaits : s .progress .awaits ≡ eqb (getD state 0 0) 1
+  pub subject : s .progress .subject ≡ getD state 8 0
 
-both-loaded : (state : List ℕ) (s : State) (x : Search) (m : Answer Search2) → W.withBoth state x m ≡ given s → Loaded state s
+abbrev Reads : List ℕ → State → Type 0
+Reads state s = (s .progress .awaits ≡ eqb (getD state 0 0) 1) × (s .progress .subject ≡ getD state 8 0)
+
+both-loaded : (state : List ℕ) (s : State) (x : Search) (m : Answer Search2) → W.withBoth state x m ≡ given s → Reads state s
 unfolding W.withBoth W.stateAt W.progressAt
-both-loaded state s x (given y) e =
-    let q : W.stateAt state x y ≡ s = cc in
-    record { awaits = ap (λ (t : State). t .progress .awaits) (sym q); subject = ap (λ (t : State). t .progress .subject) (sym q) }
+both-loaded state s x (given y) e = let q : W.stateAt state x y ≡ s = cc in (ap (λ (t : State). t .progress .awaits) (sym q), ap (λ (t : State). t .progress .subject) (sym q))
 both-loaded state s x (refused n) e = absurd (let z : _≡_ {A = ℕ} 0 1 = cc in omega arith)
 
-search-loaded : (state : List ℕ) (s : State) (l : Answer Search) → W.withSearches state l ≡ given s → Loaded state s
+search-loaded : (state : List ℕ) (s : State) (l : Answer Search) → W.withSearches state l ≡ given s → Reads state s
 unfolding W.withSearches W.withSearch
 search-loaded state s (given x) e = both-loaded state s x _ e
 search-loaded state s (refused n) e = absurd (let z : _≡_ {A = ℕ} 0 1 = cc in omega arith)
 
-loaded : (state : List ℕ) (s : State) → loadedState state ≡ given s → (63 ≤ length state) × Loaded state s
+pub loaded : (state : List ℕ) (s : State) → loadedState state ≡ given s → Loaded state s
 unfolding loadedState
 loaded state s e =
     let never : refused 19 ≡ given s → ⊥ = λ q. let z : _≡_ {A = ℕ} 0 1 = cc in omega arith in
     let long = not-first (ltb (length state) 63) _ never e in
     let flags = not-first _ _ never (not-first _ _ never (long .1) .1) in
-    (ltb-false _ _ (long .0), search-loaded state s _ (flags .1))
-
--- ---- all records are counted
-adds-up : (effects subjects total n : ℕ) → isCohort effects subjects total n ≡ true → total ≡ n
-unfolding isCohort
-adds-up effects subjects total n e =
-    let one = not-first _ _ false-not-true e in
-    let two = not-first _ _ false-not-true (one .1) in
-    let three = not-first _ _ false-not-true (two .1) in
-    eqb-true _ _ (not-first _ _ false-not-true (three .1) .1)
+    let r = search-loaded state s _ (flags .1) in
+    record { long = ltb-false _ _ (long .0); awaits = r .0; subject = r .1 }
 
 -- ---- what a call gives back and writes, with all that it was lent
 module _ (setup : Setup) (counts : List ℕ) (observations : List Observation) (tally : Tally) (state answer cache work warm results : List ℕ) where
@@ -245,7 +240,7 @@ module _ (setup : Setup) (counts : List ℕ) (observations : List Observation) (
   call-way x = at (loadedState state) refl
     where
       at : (l : Answer State) → loadedState state ≡ l → Way (called-with x l)
-      at (given s) e = unfold withState call in way s (loaded state s e .0) _ (done setup counts (h s) _ (enters setup counts (h s) observations x))
+      at (given s) e = unfold withState call in way s (loaded state s e .long) _ (done setup counts (h s) _ (enters setup counts (h s) observations x))
       at (refused n) e = unfold withState in nobody
 
   -- ---- a reply that lends one subject's observations
@@ -292,7 +287,7 @@ module _ (setup : Setup) (counts : List ℕ) (observations : List Observation) (
           let low = not-first _ _ never (not-first _ _ never e .1) in
           let n : count ≤ 100000 = ltb-false _ _ (low .0) in
           cases (λ (a : Admission). a ≡ A.Accepted → length observations ≤ 100000) (isCohort (withParameters setup (s .parameters) .effects) (length counts) count (length observations))
-          (λ t q. let m = adds-up _ (length counts) count (length observations) t in omega (arith, n, m)) (λ f q. absurd (never q)) (low .1)
+          (λ t q. let m = is-cohort _ (length counts) count (length observations) t .adds in omega (arith, n, m)) (λ f q. absurd (never q)) (low .1)
 
       -- not let in
       barred-way : 63 ≤ length state → (eta : Pair) (a : Admission) → (a ≡ A.Accepted → ⊥) → Judged (length counts) a → (n : ℕ)
@@ -341,7 +336,7 @@ module _ (setup : Setup) (counts : List ℕ) (observations : List Observation) (
     subject-way = at (loadedState state) refl
       where
         at : (l : Answer State) → loadedState state ≡ l → Way (told-to l)
-        at (given s) e = subst Way (sym (wanting-is s)) (wanted-way s (loaded state s e .0) _ refl)
+        at (given s) e = subst Way (sym (wanting-is s)) (wanted-way s (loaded state s e .long) _ refl)
         at (refused n) e = unfold withState admitSubjectWith in nobody
 
   abbrev all : Lending
@@ -357,10 +352,10 @@ module _ (setup : Setup) (counts : List ℕ) (observations : List Observation) (
   number-of m = did (entered setup counts m) state answer .told .done .number
 
   awaits-is : (s : State) → loadedState state ≡ given s → Awaits state → s .progress .awaits ≡ true
-  awaits-is s e a = loaded state s e .1 .awaits ∙ eq-eqb _ _ a
+  awaits-is s e a = loaded state s e .awaits ∙ eq-eqb _ _ a
 
   idle-is : (s : State) → loadedState state ≡ given s → (Awaits state → ⊥) → s .progress .awaits ≡ false
-  idle-is s e a = loaded state s e .1 .awaits ∙ ne-eqb _ _ a
+  idle-is s e a = loaded state s e .awaits ∙ ne-eqb _ _ a
 
   -- 19 for the words that are no state, and for those whose entry is refused so
   Refused : Call → State → Type 0
@@ -415,7 +410,7 @@ module _ (setup : Setup) (counts : List ℕ) (observations : List Observation) (
   misplaced : length counts ≤ getD state 8 0 → (n : ℕ) (s : State) → loadedState state ≡ given s → isStanding setup counts n tally (s .progress) ≡ false
   unfolding isStanding isPlaced
   misplaced far n s e =
-      let q = loaded state s e .1 .subject in
+      let q = loaded state s e .subject in
       let beyond : length counts ≤ s .progress .subject = omega (arith, far, q) in
       pick-same _ _ _ (pick-no _ _ _ (le-ltb _ _ beyond))
 

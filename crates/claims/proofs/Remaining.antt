@@ -39,7 +39,7 @@ use Rattle.subjects.specs.declared.Wanted.the-variants as Wants
 use Rattle.population.specs.Population.{rowsOf}
 use Rattle.session.specs.Session.{countWithin, searchWithin, searchWithin2, isPlaced}
 use Rattle.admission.proofs.Bounds.{not-first}
-use Rattle.claims.proofs.Plain.{false-not-true}
+use Rattle.claims.proofs.Plain.{false-not-true, only-first}
 
 -- ---- what a search wants: for a point one of the m that are left goes, and A holds then; N is asked of a refusal's number
 unfoldable pub Goes : ℕ → Type 0 → Wanted → Type 0
@@ -273,9 +273,6 @@ module _ (N : ℕ → Type 0) (known : (n : ℕ) → 13 ≤ n → n ≤ 16 → N
       let search = not-first (ltb n (p .first + rowsOf counts (p .subject))) _ false-not-true (inside .1) .1 in
       (ltb-true _ _ (inside .0), by (eqb effects 2) search)
     where
-      only-first : (b y : Bool) → pick b y false ≡ true → (b ≡ true) × (y ≡ true)
-      only-first b y = cases (λ (v : Bool). v ≡ true → (b ≡ true) × (y ≡ true)) b (λ t e. (t, e)) (λ f e. absurd (false-not-true e))
-
       by : (b : Bool) → pick b (searchWithin2 (p .«search_2d»)) (searchWithin (p .search)) ≡ true → StandsBy b 6343 p
       by true e =
           let seed = only-first _ _ (sym (pick-yes true _ _ refl) ∙ e) in

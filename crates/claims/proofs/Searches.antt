@@ -109,9 +109,11 @@ unfolding H1.asks
 proved1 = record {
   few = λ st h p d f w. few-by (request st (H1.after st h)) p w (one-search st d h f .atMost);
   good = λ st h d f w. one-search st d h f .found (mode-by (request st (H1.after st h)) w);
-  means = λ st h n d f w. let e = refusal-by (request st (H1.after st h)) n w in record {
-    atBound = λ q. one-search st d h f .atBound (e ∙ ap One.Refused q);
-    several = λ q. one-search st d h f .several (e ∙ ap One.Refused q);
+  means = λ st h n d f w. let e = refusal-by (request st (H1.after st h)) n w in let t = one-search st d h f in record {
+    atBound = λ q. t .atBound (e ∙ ap One.Refused q);
+    several = λ q. t .several (e ∙ ap One.Refused q);
+    unsettled = λ q. (H1.after st h .best, t .unsettled (e ∙ ap One.Refused q));
+    numbers = t .numbers n e;
   };
 }
   where

@@ -8,7 +8,7 @@ use Rattle.float64.specs.Answer.{given}
 use Rattle.float64.specs.Pick.{pick}
 use Rattle.likelihood.specs.declared.population_focei.Observation.{Observation}
 use Rattle.admission.specs.declared.Lent.{Lent}
-use Rattle.admission.specs.declared.Parameters.{Parameters}
+use Rattle.admission.specs.declared.Setup.{Setup}
 use Rattle.subjects.specs.declared.Step.{Step}
 use Rattle.subjects.specs.declared.Tally.{Tally}
 use Rattle.sessions.specs.Claim.{Demand3}
@@ -19,7 +19,7 @@ use Rattle.session.specs.Calls.{heldOf, lentBy}
 use Rattle.session.specs.Session.{Held, Call, objective, reply, failure, session, opened}
 use Rattle.session.specs.declared.State.{State}
 use Rattle.session_words.specs.SessionWords.{loadedState}
-use Rattle.hosting.specs.Hosting.{FitsSetup, FitsParameters, Out, answered, answerOf, numberOf}
+use Rattle.hosting.specs.Hosting.{SetupBits, setupFrom, ParameterBits, parametersFrom, Out, answered, answerOf, numberOf}
 use Rattle.claims.specs.Inner.{Inner, inner1, inner2, view}
 use Rattle.claims.specs.Refusals.{opens, calls, replies, Lending, does, number}
 use Rattle.claims.specs.Shown.{Objective, before, Reads, reads1, reads2, showing, Shown}
@@ -47,11 +47,11 @@ left o = record {
   results = o .results;
 }
 
--- all that is lent to a call: the setup and the counts stay as they were given to setup
-abbrev pub lending : Lending → List Observation → Lends → Lending
-lending l observations m = record {
-  setup = l .setup;
-  counts = l .counts;
+-- all that is lent to a call
+abbrev pub lending : Setup → List ℕ → List Observation → Lends → Lending
+lending setup counts observations m = record {
+  setup = setup;
+  counts = counts;
   observations = observations;
   tally = m .tally;
   state = m .state;
@@ -62,23 +62,22 @@ lending l observations m = record {
   results = m .results;
 }
 
--- all the observations, or those of the awaited subject alone: word 8 of the state is its number
+-- after setup: with the same setup and counts, and all the observations or those of the awaited subject alone. Word 8 of the state is its number.
 abbrev pub all : Lending → Lends → Lending
-all l m = lending l (l .observations) m
+all l m = lending (l .setup) (l .counts) (l .observations) m
 
 abbrev pub own : Lending → Lends → Lending
 own l m =
     let i = getD (m .state) 8 0 in
-    lending l (take (getD (l .counts) i 0) (drop (before (l .counts) i) (l .observations))) m
+    lending (l .setup) (l .counts) (take (getD (l .counts) i 0) (drop (before (l .counts) i) (l .observations))) m
 
 abbrev pub rewarmed : Lends → List ℕ → Lends
 rewarmed m warm =
     record { tally = m .tally; state = m .state; answer = m .answer; cache = m .cache; work = m .work; warm = warm; results = m .results }
 
--- the exported calls after setup; and the warm starts are set between objectives, in as many words. Every value of a parameter is a float of the
--- format, which `parameters_of` promises of all that a host can hand over.
+-- the exported calls after setup; and the warm starts are set between objectives, in as many words
 pub data Deed : Type 0 where
-  asks : (p : Parameters) → FitsParameters p → Deed
+  asks : ParameterBits → Deed
   answers : List ℕ → Deed
   answers-own : List ℕ → Deed
   fails : Deed
@@ -87,7 +86,7 @@ pub data Deed : Type 0 where
 module _ (l : Lending) where
   -- word 0 of the state is 1 while a reply is awaited
   unfoldable pub after : Lends → Deed → Lends
-  after m (asks p f) = left (does (all l m) (calls (objective p)))
+  after m (asks p) = left (does (all l m) (calls (objective (parametersFrom p))))
   after m (answers said) = left (does (all l m) (calls (reply said)))
   after m (answers-own said) = left (does (own l m) (replies said))
   after m fails = left (does (all l m) (calls failure))
@@ -103,7 +102,7 @@ module _ (l : Lending) where
   M = session words (l .setup) (l .counts) (l .observations)
 
   unfoldable pub actOf : Deed → Act M
-  actOf (asks p f) = acts (objective p)
+  actOf (asks p) = acts (objective (parametersFrom p))
   actOf (answers said) = acts (reply said)
   actOf (answers-own said) = acts (reply said)
   actOf fails = acts failure
@@ -155,7 +154,9 @@ module _ (I : Inner) (L : Reads I) (l : Lending) (ds : List Deed) where
     pub tells : (c : Call) → Told (does (all l now) (calls c)) now (call (M l) c (reached l ds) .answer)
     pub tells-own : (said : List ℕ) → Told (does (own l now) (replies said)) now (call (M l) (reply said) (reached l ds) .answer)
 
--- from any lent memory, whatever the calls. Every value of the setup is of its type, which `setup_of` promises of all that a host can hand over.
+-- whatever bits the setup has, whatever memory is lent, whatever the calls
 abbrev pub EveryHost : Type 0
-EveryHost = (l : Lending) → FitsSetup (l .setup) → number l opens ≡ 0 → (ds : List Deed)
+EveryHost = (setup : SetupBits) (counts : List ℕ) (observations : List Observation) (memory : Lends)
+    → let l = lending (setupFrom setup) counts observations memory in
+    number l opens ≡ 0 → (ds : List Deed)
     → (l .setup .effects ≡ 1 → Hosted inner1 reads1 l ds) × (l .setup .effects ≡ 2 → Hosted inner2 reads2 l ds)

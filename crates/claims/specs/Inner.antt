@@ -21,7 +21,7 @@ use Rattle.mode_2d.specs.declared.population_focei_2d.Search2.{Search2}
 use Rattle.mode_2d.specs.declared.population_focei_2d.Request2.{Request2}
 use Rattle.mode_2d.specs.declared.population_focei_2d.Request2.the-variants as Two
 use Rattle.histories.specs.History as H1
-use Rattle.histories.specs.Claim.{Found, AtBound, Several}
+use Rattle.histories.specs.Claim.{Found, AtBound, Several, Unsettled}
 use Rattle.histories.specs.History2 as H2
 use Rattle.histories.specs.Claim2.{Found2, Unresolved, NoInverse}
 use Rattle.histories.specs.Claim2 as C2
@@ -74,6 +74,9 @@ rules1 = record {
 pub record Refusal1 (s : Settings) (h : List Conditional) (n : ℕ) : Type 0 where
   pub atBound : n ≡ 13 → AtBound s h
   pub several : n ≡ 14 → Several s h
+  pub unsettled : n ≡ 15 → (m : Conditional) × Unsettled s h m
+  -- there is no other number
+  pub numbers : (n ≡ 13) ⊎ ((n ≡ 14) ⊎ (n ≡ 15))
 
 -- document 01's domain; 82; and what a mode is
 abbrev pub claims1 : Claims rules1

@@ -11,10 +11,10 @@ use lib.IntN.{pos}
 use lib.ListN.{length, getD}
 use lib.Ieee.{Float, binary64, fits, toBits, ofInt, eq}
 use Rattle.float64.specs.Arithmetic.{_+ᶠ_, _-ᶠ_, _*ᶠ_, _/ᶠ_, word, one, two}
+use Rattle.float64.specs.Float64.{clamp}
 use Rattle.float64.specs.Pick.{pick}
 use Rattle.libm.specs.Log.{log as ln}
 use Rattle.matrix.specs.Matrix.{pair, entry, determinant, Inverse, some, none, inversePositive}
-use Rattle.mode.specs.Rules.{etaTolerance}
 use Rattle.likelihood.specs.Terms.{log2pi}
 use Rattle.likelihood.specs.declared.population_focei.Observation.{Observation}
 use Rattle.cache.specs.Cache.{rowWords}
@@ -145,7 +145,9 @@ reads1 = record {
   settings = λ setup parameters warm i. record {
     «eta_bound» = setup .«eta_bound»;
     omega = parameters .omega;
-    tolerance = etaTolerance (setup .«gradient_tolerance»);
+    -- gradient_tolerance · 1e-4, clamped to 1e-12..1e-8
+    tolerance =
+        clamp (setup .«gradient_tolerance» *ᶠ word 0x3f1a_36e2_eb1c_432d) (word 0x3d71_9799_812d_ea11) (word 0x3e45_798e_e230_8c3a);
     warm = word (getD warm i 0);
   };
   first = λ m. toBits binary64 (m .eta);
