@@ -5,12 +5,12 @@ use mathlib.Core.List.{List, [], _∷_, _++_}
 use Prim.Native.Nat.{ℕ, suc, _+_, _*_, _≤_}
 use native.Mathlib.Omega.{arith}
 use borrow.Author.Tests.{eq-eqb}
-use lib.Dec.{eqb}
+use lib.Dec.{T, eqb}
 use lib.IntN.{pos}
 use lib.ListN.{getD, set, length, length-set}
 use lib.Seq.{getD-set-same, getD-set-other}
 use lib.Ieee.Bits.{toBits-ofBits}
-use lib.Ieee.{Float, binary64, toBits, ofBits, ofInt, isNan, le}
+use lib.Ieee.{Float, binary64, toBits, ofBits, ofInt, isNan, le, eq}
 use Rattle.float64.specs.Arithmetic.{_+ᶠ_, _-ᶠ_, _*ᶠ_, _/ᶠ_, word, one, two}
 use Rattle.float64.specs.Float64.{nonfinite}
 use Rattle.float64.specs.Pick.{pick, cases, pick-yes, pick-no}
@@ -43,14 +43,15 @@ use Rattle.subjects.specs.declared.Progress.{Progress}
 use Rattle.subjects.specs.declared.Wanted.the-variants as Wants
 use Rattle.sessions.specs.Rules.{Trial}
 use Rattle.population.specs.Population.{warmOf, warmStored}
-use Rattle.claims.specs.Inner.{Inner, inner1, inner2}
+use Rattle.claims.specs.Inner.{Inner, rules1, rules2, inner1, inner2}
 use Rattle.claims.specs.Shown.{precision, Reads, reads1, reads2}
 use Rattle.claims.proofs.Domains.{two-omega}
+use Rattle.claims.proofs.Middle.{middle-zero}
 use Rattle.claims.proofs.Plain.{true-not-false}
 use Rattle.claims.proofs.Results.{past-two}
 use Rattle.claims.proofs.Searches.{one-not-two, wanted-one, point-one, is-two, wanted-two, point-two}
 use Rattle.claims.proofs.Standing.{fit-effects}
-use Rattle.claims.proofs.Trials.{Has, NthHas, SameBlocks, Moves, Movable, Trial1, Carried1, begun1, same1, movable1, step1, end1, Trial2, Carried2, begun2, same2, movable2, step2, end2}
+use Rattle.claims.proofs.Trials.{Has, NthHas, nth-so, SameBlocks, Moves, Movable, Trial1, Carried1, begun1, same1, movable1, step1, end1, Trial2, Carried2, begun2, same2, movable2, step2, end2}
 
 module _ (I : Inner) (L : Reads I) where
   pub record OfMode (m : Mode) (b : I .rules .Conditional) : Type 0 where
@@ -68,14 +69,15 @@ module _ (I : Inner) (L : Reads I) where
     pub adds : (setup : Setup) (parameters : Parameters) (p : Progress) (rows : ℕ) (m : Mode) → setup .effects ≡ effects → isNoOmega (withParameters setup parameters) ≡ false → B.closedBy (B.fitOf setup parameters) p rows ≡ Positive m
         → m .term ≡ L .term setup (I .settingsOf (B.fitOf setup parameters) p) rows (I .rules .best (I .searchOf p))
     -- the rows of the trials in the blocks
-    pub Carried : List (Trial (I .rules)) → I .rules .Search → (ℕ → List ℕ) → Type 0
-    pub begun : (rows : ℕ → List ℕ) → Carried [] (I .rules .start) rows
-    pub same : (ts : List (Trial (I .rules))) (x : I .rules .Search) (rows other : ℕ → List ℕ) → SameBlocks rows other → Carried ts x rows → Carried ts x other
+    pub Carried : I .rules .Settings → List (Trial (I .rules)) → I .rules .Search → (ℕ → List ℕ) → Type 0
+    pub begun : (st : I .rules .Settings) (rows : ℕ → List ℕ) → Carried st [] (I .rules .start) rows
+    pub same : (st : I .rules .Settings) (ts : List (Trial (I .rules))) (x : I .rules .Search) (rows other : ℕ → List ℕ) → SameBlocks rows other → Carried st ts x rows → Carried st ts x other
     pub movable : (fit : Fit) (p : Progress) (eta : Pair) (sums : Sums) → fit .effects ≡ effects → Movable (B.advanceBy fit p eta sums .sources)
     pub steps : (fit : Fit) (p : Progress) (eta : Pair) (sums : Sums) → fit .effects ≡ effects → B.wantedBy fit p ≡ Wants.Point eta → (ts : List (Trial (I .rules))) (rows after : ℕ → List ℕ) (t : Trial (I .rules))
-        → t .point ≡ I .conditionalOf fit eta sums → t .rows ≡ rows 3 → Moves (B.advanceBy fit p eta sums .sources) rows after → Carried ts (I .searchOf p) rows → Carried (ts ++ (t ∷ [])) (I .searchOf (B.advanceBy fit p eta sums .progress)) after
-    pub ends : (fit : Fit) (p : Progress) → fit .effects ≡ effects → B.wantedBy fit p ≡ Wants.Mode → (ts : List (Trial (I .rules))) (rows : ℕ → List ℕ) → Carried ts (I .searchOf p) rows
-        → NthHas (I .rules) (L .zero-at) ts (rows 0) × Has (I .rules) ts (I .rules .best (I .searchOf p)) (rows 1)
+        → t .point ≡ I .conditionalOf fit eta sums → t .rows ≡ rows 3 → Moves (B.advanceBy fit p eta sums .sources) rows after → Carried (I .settingsOf fit p) ts (I .searchOf p) rows
+        → Carried (I .settingsOf fit p) (ts ++ (t ∷ [])) (I .searchOf (B.advanceBy fit p eta sums .progress)) after
+    pub ends : (fit : Fit) (p : Progress) → fit .effects ≡ effects → I .claims .Domain (I .settingsOf fit p) → B.wantedBy fit p ≡ Wants.Mode → (ts : List (Trial (I .rules))) (rows : ℕ → List ℕ)
+        → Carried (I .settingsOf fit p) ts (I .searchOf p) rows → NthHas (I .rules) (L .Zero) (L .zero-at) ts (rows 0) × Has (I .rules) ts (I .rules .best (I .searchOf p)) (rows 1)
 
 -- one effect
 not-positive : {m : Mode} → NotPositive ≡ Positive m → ⊥
@@ -122,14 +124,15 @@ mode-one One.Mode e = refl
 mode-one (One.Refused n) e = let z : _≡_ {A = ℕ} 0 1 = cc in absurd (omega arith)
 
 steps-one : (fit : Fit) (p : Progress) (eta : Pair) (sums : Sums) → fit .effects ≡ 1 → B.wantedBy fit p ≡ Wants.Point eta → (ts : List Trial1) (rows after : ℕ → List ℕ) (t : Trial1) → t .point ≡ B.conditional1 fit eta sums → t .rows ≡ rows 3
-    → Moves (B.advanceBy fit p eta sums .sources) rows after → Carried1 ts (p .search) rows → Carried1 (ts ++ (t ∷ [])) (B.advanceBy fit p eta sums .progress .search) after
-unfolding B.advance1 B.withSearch
+    → Moves (B.advanceBy fit p eta sums .sources) rows after → Carried1 (B.settings fit p) ts (p .search) rows → Carried1 (B.settings fit p) (ts ++ (t ∷ [])) (B.advanceBy fit p eta sums .progress .search) after
+unfolding B.advance1 B.withSearch B.conditional1
 steps-one fit p eta sums e w ts rows after t is own m h =
     let a = advance-one fit e p eta sums in
     let q = point-one (request (B.settings fit p) (p .search)) eta (sym (wanted-one fit e p) ∙ w) .0 in
     let n : Moves (B.sources1 (p .search) (t .point)) rows after = subst (λ (c : Conditional). Moves (B.sources1 (p .search) c) rows after) (sym is) (subst (λ (x : Advanced). Moves (x .sources) rows after) a m) in
-    subst (λ (x : Advanced). Carried1 (ts ++ (t ∷ [])) (x .progress .search) after) (sym a)
-    (subst (λ (c : Conditional). Carried1 (ts ++ (t ∷ [])) (advance (B.settings fit p) (p .search) c) after) is (step1 (B.settings fit p) ts (p .search) rows after t own (eta .first) q n h))
+    subst (λ (x : Advanced). Carried1 (B.settings fit p) (ts ++ (t ∷ [])) (x .progress .search) after) (sym a)
+    (subst (λ (c : Conditional). Carried1 (B.settings fit p) (ts ++ (t ∷ [])) (advance (B.settings fit p) (p .search) c) after) is
+    (step1 (B.settings fit p) ts (p .search) rows after t own (eta .first) (ap (λ (c : Conditional). c .eta) is) q n h))
 
 moves-one : (s : Settings) (p : Progress) (c : Conditional) → Movable (B.advance1 s p c .sources)
 unfolding B.advance1
@@ -156,7 +159,9 @@ tells1 = record {
   same = same1;
   movable = λ fit p eta sums e. subst (λ (x : Advanced). Movable (x .sources)) (sym (advance-one fit e p eta sums)) (moves-one (B.settings fit p) p (B.conditional1 fit eta sums));
   steps = steps-one;
-  ends = λ fit p e w ts rows h. end1 (B.settings fit p) ts (p .search) rows (mode-one (request (B.settings fit p) (p .search)) (sym (wanted-one fit e p) ∙ w)) h;
+  ends = λ fit p e d w ts rows h.
+      let z = end1 (B.settings fit p) ts (p .search) rows (mode-one (request (B.settings fit p) (p .search)) (sym (wanted-one fit e p) ∙ w)) h in
+      (nth-so rules1 (z .0) (λ c m. subst (λ (x : Float). T (eq x (word 0))) (sym m) (middle-zero (B.settings fit p .«eta_bound») (d .fitsBound) (d .boundLow) (d .boundHigh))), z .1);
 }
 
 -- two effects
@@ -237,7 +242,7 @@ mode-two (Two.Refused n) e = let z : _≡_ {A = ℕ} 0 1 = cc in absurd (omega a
 
 steps-two : (fit : Fit) (p : Progress) (eta : Pair) (sums : Sums) → fit .effects ≡ 2 → B.wantedBy fit p ≡ Wants.Point eta → (ts : List Trial2) (rows after : ℕ → List ℕ) (t : Trial2) → t .point ≡ B.conditional2 eta sums → t .rows ≡ rows 3
     → Moves (B.advanceBy fit p eta sums .sources) rows after → Carried2 ts (p .«search_2d») rows → Carried2 (ts ++ (t ∷ [])) (B.advanceBy fit p eta sums .progress .«search_2d») after
-unfolding B.advance2 B.withSearch
+unfolding B.advance2 B.withSearch B.conditional2
 steps-two fit p eta sums e w ts rows after t is own m h =
     let a = advance-two fit e p eta sums in
     let s = B.settings2 fit p in
@@ -246,7 +251,7 @@ steps-two fit p eta sums e w ts rows after t is own m h =
     let n : Moves (B.sources2 s x (R2.advance s x (t .point)) (t .point)) rows after =
     subst (λ (c : Conditional2). Moves (B.sources2 s x (R2.advance s x c) c) rows after) (sym is) (subst (λ (v : Advanced). Moves (v .sources) rows after) a m) in
     subst (λ (v : Advanced). Carried2 (ts ++ (t ∷ [])) (v .progress .«search_2d») after) (sym a)
-    (subst (λ (c : Conditional2). Carried2 (ts ++ (t ∷ [])) (R2.advance s x c) after) is (step2 s ts x rows t own after eta q n h))
+    (subst (λ (c : Conditional2). Carried2 (ts ++ (t ∷ [])) (R2.advance s x c) after) is (step2 s ts x rows t own after eta (ap (λ (c : Conditional2). c .eta) is) q n h))
 
 adds-two : (setup : Setup) (parameters : Parameters) (p : Progress) (rows : ℕ) (m : Mode) → setup .effects ≡ 2 → isNoOmega (withParameters setup parameters) ≡ false → B.closedBy (B.fitOf setup parameters) p rows ≡ Positive m
     → m .term ≡ reads2 .term setup (B.settings2 (B.fitOf setup parameters) p) rows (p .«search_2d» .best)
@@ -258,6 +263,10 @@ adds-two setup parameters p rows m e o q =
     two-term fit best rows m (inversePositive (B.curvatureOf fit best)) refl (sym (pick-yes _ _ _ (is-two fit (fit-effects setup parameters ∙ e))) ∙ q)
     ∙ ap (λ (x : Float). two *ᶠ best .nll -ᶠ ofInt binary64 (pos rows) *ᶠ log2pi +ᶠ dot (pair (best .eta .first) (best .eta .second)) (product (B.precisionOf fit) (pair (best .eta .first) (best .eta .second)))
     +ᶠ log (x *ᶠ determinant (B.curvatureOf fit best))) d
+
+zero-pair : T (eq (word 0) (word 0)) × T (eq (word 0) (word 0))
+unfolding eq ofBits
+zero-pair = (tt, tt)
 
 moves-two : (s : Settings2) (p : Progress) (c : Conditional2) → Movable (B.advance2 s p c .sources)
 unfolding B.advance2
@@ -275,12 +284,14 @@ tells2 = record {
   others = λ setup parameters i j d eta warm. let a = two-others i j d eta warm in let x = a .0 in let y = a .1 in cc;
   stays = λ i j d eta warm b h. let a = two-others i j d eta warm in (a .0 ∙ h .0, a .1 ∙ h .1);
   adds = adds-two;
-  Carried = Carried2;
-  begun = begun2;
-  same = same2;
+  Carried = λ st. Carried2;
+  begun = λ st. begun2;
+  same = λ st. same2;
   movable = λ fit p eta sums e. subst (λ (x : Advanced). Movable (x .sources)) (sym (advance-two fit e p eta sums)) (moves-two (B.settings2 fit p) p (B.conditional2 eta sums));
   steps = steps-two;
-  ends = λ fit p e w ts rows h. end2 (B.settings2 fit p) ts (p .«search_2d») rows (mode-two (R2.request (B.settings2 fit p) (p .«search_2d»)) (sym (wanted-two fit e p) ∙ w)) h;
+  ends = λ fit p e d w ts rows h.
+      let z = end2 (B.settings2 fit p) ts (p .«search_2d») rows (mode-two (R2.request (B.settings2 fit p) (p .«search_2d»)) (sym (wanted-two fit e p) ∙ w)) h in
+      (nth-so rules2 (z .0) (λ c m. subst (λ (x : Pair). T (eq (x .first) (word 0)) × T (eq (x .second) (word 0))) (sym m) zero-pair), z .1);
 }
   where
     two-others : (i j : ℕ) → (i ≡ j → ⊥) → (eta : Pair) (warm : List ℕ) → let v = set (set warm (2 * j) (toBits binary64 (eta .first))) (2 * j + 1) (toBits binary64 (eta .second)) in

@@ -47,10 +47,11 @@ module _ (R : Rules) where
     pub point-is : trial .point ≡ c
     pub rows-are : trial .rows ≡ rows
 
-  -- the n-th has these rows
-  pub record NthHas (n : ℕ) (ts : List (Trial R)) (rows : List ℕ) : Type 0 where
+  -- the n-th is of a point of which Z holds, and has these rows
+  pub record NthHas (Z : R .Conditional → Type 0) (n : ℕ) (ts : List (Trial R)) (rows : List ℕ) : Type 0 where
     pub trial : Trial R
     pub nth : Nth n ts trial
+    pub holds : Z (trial .point)
     pub rows-are : trial .rows ≡ rows
 
   has-more : {ts : List (Trial R)} {c : R .Conditional} {rows : List ℕ} (t : Trial R) → Has ts c rows → Has (ts ++ (t ∷ [])) c rows
@@ -77,8 +78,11 @@ module _ (R : Rules) where
   nth-last zero (u ∷ ts) t e = absurd (omega (arith, e))
   nth-last (suc n) (u ∷ ts) t e = nth-last n ts t (omega (arith, e))
 
-  nth-has-more : {n : ℕ} {ts : List (Trial R)} {rows : List ℕ} (t : Trial R) → NthHas n ts rows → NthHas n (ts ++ (t ∷ [])) rows
-  nth-has-more {n} {ts} t h = record { trial = h .trial; nth = nth-more n ts t (h .trial) (h .nth); rows-are = h .rows-are }
+  nth-has-more : {Z : R .Conditional → Type 0} {n : ℕ} {ts : List (Trial R)} {rows : List ℕ} (t : Trial R) → NthHas Z n ts rows → NthHas Z n (ts ++ (t ∷ [])) rows
+  nth-has-more {Z} {n} {ts} t h = record { trial = h .trial; nth = nth-more n ts t (h .trial) (h .nth); holds = h .holds; rows-are = h .rows-are }
+
+  pub nth-so : {Z Y : R .Conditional → Type 0} {n : ℕ} {ts : List (Trial R)} {rows : List ℕ} → NthHas Z n ts rows → ((c : R .Conditional) → Z c → Y c) → NthHas Y n ts rows
+  nth-so h f = record { trial = h .trial; nth = h .nth; holds = f (h .trial .point) (h .holds); rows-are = h .rows-are }
 
 -- ---- one effect
 abbrev pub Trial1 : Type 0
@@ -87,36 +91,40 @@ Trial1 = Trial rules1
 abbrev pub closest : Conditional → Conditional → Conditional
 closest left right = pick (isCloser left right) left right
 
+-- the middle of the grid
+abbrev pub Middle : Settings → Conditional → Type 0
+Middle s c = c .eta ≡ R1.gridPoint (s .«eta_bound») 8
+
 -- the rows of the blocks are given by their numbers
-pub record OnGrid (ts : List Trial1) (x : Search) (rows : ℕ → List ℕ) : Type 0 where
+pub record OnGrid (s : Settings) (ts : List Trial1) (x : Search) (rows : ℕ → List ℕ) : Type 0 where
   pub count : length ts ≡ x .count
   pub begun : x .count ≡ 0 → x ≡ R1.start
-  pub zero : 8 < x .count → NthHas rules1 8 ts (rows 0)
+  pub zero : 8 < x .count → NthHas rules1 (Middle s) 8 ts (rows 0)
   pub latest : 0 < x .count → Has rules1 ts (x .latest) (rows 2)
   -- a first score above 0 gets 13
   pub best : isAbove (x .right) ≡ true → (lt nought (x .first) ≡ true) ⊎ Has rules1 ts (closest (x .left) (x .right)) (rows 1)
 
-pub record Past (ts : List Trial1) (x : Search) (rows : ℕ → List ℕ) : Type 0 where
-  pub zero : NthHas rules1 8 ts (rows 0)
+pub record Past (s : Settings) (ts : List Trial1) (x : Search) (rows : ℕ → List ℕ) : Type 0 where
+  pub zero : NthHas rules1 (Middle s) 8 ts (rows 0)
   pub best : Has rules1 ts (x .best) (rows 1)
 
-abbrev pub CarriedAt : Stage → List Trial1 → Search → (ℕ → List ℕ) → Type 0
-CarriedAt Grid ts x rows = OnGrid ts x rows
-CarriedAt Warm ts x rows = Past ts x rows
-CarriedAt Secant ts x rows = Past ts x rows
-CarriedAt Halving ts x rows = Past ts x rows
+abbrev pub CarriedAt : Stage → Settings → List Trial1 → Search → (ℕ → List ℕ) → Type 0
+CarriedAt Grid s ts x rows = OnGrid s ts x rows
+CarriedAt Warm s ts x rows = Past s ts x rows
+CarriedAt Secant s ts x rows = Past s ts x rows
+CarriedAt Halving s ts x rows = Past s ts x rows
 
-abbrev pub Carried1 : List Trial1 → Search → (ℕ → List ℕ) → Type 0
-Carried1 ts x rows = CarriedAt (x .stage) ts x rows
+abbrev pub Carried1 : Settings → List Trial1 → Search → (ℕ → List ℕ) → Type 0
+Carried1 s ts x rows = CarriedAt (x .stage) s ts x rows
 
 -- nothing rises before the first point
 no-cell : isAbove (R1.start .right) ≡ true → ⊥
 unfolding R1.start isAbove lt ofBits
 no-cell e = subst T (sym e) tt
 
-pub begun1 : (rows : ℕ → List ℕ) → Carried1 [] R1.start rows
+pub begun1 : (s : Settings) (rows : ℕ → List ℕ) → Carried1 s [] R1.start rows
 unfolding R1.start
-begun1 rows = record {
+begun1 s rows = record {
   count = refl;
   begun = λ e. refl;
   zero = λ l. absurd (omega (arith, l));
@@ -130,23 +138,23 @@ pub record SameBlocks (rows other : ℕ → List ℕ) : Type 0 where
   pub best : other 1 ≡ rows 1
   pub latest : other 2 ≡ rows 2
 
-past-same : (ts : List Trial1) (x : Search) (rows other : ℕ → List ℕ) → SameBlocks rows other → Past ts x rows → Past ts x other
-past-same ts x rows other s h = record { zero = subst (NthHas rules1 8 ts) (sym (s .zero)) (h .zero); best = subst (Has rules1 ts (x .best)) (sym (s .best)) (h .best) }
+past-same : (s : Settings) (ts : List Trial1) (x : Search) (rows other : ℕ → List ℕ) → SameBlocks rows other → Past s ts x rows → Past s ts x other
+past-same s ts x rows other b h = record { zero = subst (NthHas rules1 (Middle s) 8 ts) (sym (b .zero)) (h .zero); best = subst (Has rules1 ts (x .best)) (sym (b .best)) (h .best) }
 
-same-at : (st : Stage) (ts : List Trial1) (x : Search) (rows other : ℕ → List ℕ) → SameBlocks rows other → CarriedAt st ts x rows → CarriedAt st ts x other
-same-at Grid ts x rows other s h = record {
+same-at : (st : Stage) (s : Settings) (ts : List Trial1) (x : Search) (rows other : ℕ → List ℕ) → SameBlocks rows other → CarriedAt st s ts x rows → CarriedAt st s ts x other
+same-at Grid s ts x rows other b h = record {
   count = h .count;
   begun = h .begun;
-  zero = λ l. subst (NthHas rules1 8 ts) (sym (s .zero)) (h .zero l);
-  latest = λ l. subst (Has rules1 ts (x .latest)) (sym (s .latest)) (h .latest l);
-  best = λ e. subst (λ (r : List ℕ). (lt nought (x .first) ≡ true) ⊎ Has rules1 ts (closest (x .left) (x .right)) r) (sym (s .best)) (h .best e);
+  zero = λ l. subst (NthHas rules1 (Middle s) 8 ts) (sym (b .zero)) (h .zero l);
+  latest = λ l. subst (Has rules1 ts (x .latest)) (sym (b .latest)) (h .latest l);
+  best = λ e. subst (λ (r : List ℕ). (lt nought (x .first) ≡ true) ⊎ Has rules1 ts (closest (x .left) (x .right)) r) (sym (b .best)) (h .best e);
 }
-same-at Warm ts x rows other s h = past-same ts x rows other s h
-same-at Secant ts x rows other s h = past-same ts x rows other s h
-same-at Halving ts x rows other s h = past-same ts x rows other s h
+same-at Warm s ts x rows other b h = past-same s ts x rows other b h
+same-at Secant s ts x rows other b h = past-same s ts x rows other b h
+same-at Halving s ts x rows other b h = past-same s ts x rows other b h
 
-pub same1 : (ts : List Trial1) (x : Search) (rows other : ℕ → List ℕ) → SameBlocks rows other → Carried1 ts x rows → Carried1 ts x other
-same1 ts x rows other s h = same-at (x .stage) ts x rows other s h
+pub same1 : (s : Settings) (ts : List Trial1) (x : Search) (rows other : ℕ → List ℕ) → SameBlocks rows other → Carried1 s ts x rows → Carried1 s ts x other
+same1 s ts x rows other b h = same-at (x .stage) s ts x rows other b h
 
 -- where the rows go
 pub record Moves (s : Sources) (rows after : ℕ → List ℕ) : Type 0 where
@@ -190,11 +198,11 @@ module _ (s : Settings) (ts : List Trial1) (x : Search) (rows after : ℕ → Li
   newest c' e = has-last rules1 ts t c' (rows 3) e own
 
   -- on the grid
-  module _ (m : Moves (B.gridSources x c) rows after) (h : OnGrid ts x rows) where
-    grid-zero : 8 < x .count + 1 → NthHas rules1 8 us (after 0)
+  module _ (m : Moves (B.gridSources x c) rows after) (at-grid : c .eta ≡ R1.gridPoint (s .«eta_bound») (x .count)) (h : OnGrid s ts x rows) where
+    grid-zero : 8 < x .count + 1 → NthHas rules1 (Middle s) 8 us (after 0)
     unfolding B.gridSources
-    grid-zero l = subst (NthHas rules1 8 us) (sym (m .zero)) (cases (λ (k : ℕ). NthHas rules1 8 us (rows k)) (eqb (x .count) 8)
-        (λ e. record { trial = t; nth = nth-last rules1 8 ts t (h .count ∙ eqb-true _ _ e); rows-are = own })
+    grid-zero l = subst (NthHas rules1 (Middle s) 8 us) (sym (m .zero)) (cases (λ (k : ℕ). NthHas rules1 (Middle s) 8 us (rows k)) (eqb (x .count) 8)
+        (λ e. record { trial = t; nth = nth-last rules1 8 ts t (h .count ∙ eqb-true _ _ e); holds = at-grid ∙ ap (R1.gridPoint (s .«eta_bound»)) (eqb-true _ _ e); rows-are = own })
         (λ e. nth-has-more rules1 t (h .zero (let d = eqb-false (x .count) 8 e in omega (arith, l, d)))))
 
     abbrev u : Bool
@@ -239,7 +247,7 @@ module _ (s : Settings) (ts : List Trial1) (x : Search) (rows after : ℕ → Li
     by-tests true false f = rested
     by-tests false w f = rested
 
-    on-grid : OnGrid us (R1.screened x c) after
+    on-grid : OnGrid s us (R1.screened x c) after
     unfolding R1.screened B.gridSources
     on-grid = record {
       count = simp length-append (let l = h .count in omega (arith, l));
@@ -250,57 +258,61 @@ module _ (s : Settings) (ts : List Trial1) (x : Search) (rows after : ℕ → Li
     }
 
   -- the cell is entered
-  enters : (y : Search) → y .stage ≡ Grid → (17 ≤ y .count) → le nought (y .first) ≡ false → isAbove (y .right) ≡ true → OnGrid us y after → CarriedAt (R1.firstStage s (y .left) (y .right)) us (R1.entered s y) after
+  enters : (y : Search) → y .stage ≡ Grid → (17 ≤ y .count) → le nought (y .first) ≡ false → isAbove (y .right) ≡ true → OnGrid s us y after → CarriedAt (R1.firstStage s (y .left) (y .right)) s us (R1.entered s y) after
   unfolding R1.firstStage R1.entered
   enters y g l n r o =
-      let p : Past us (R1.entered s y) after = record {
+      let p : Past s us (R1.entered s y) after = record {
         zero = o .zero (omega (arith, l));
         best = ⊎-elim (λ (f : lt nought (y .first) ≡ true). absurd (subst T n (lt→le nought (y .first) (subst T (sym f) tt)))) (λ (f : Has rules1 us (closest (y .left) (y .right)) (after 1)). f) (o .best r);
       } in
-      both (λ (st : Stage). CarriedAt st us (R1.entered s y) after) _ (both (λ (st : Stage). CarriedAt st us (R1.entered s y) after) _ p p) p
+      both (λ (st : Stage). CarriedAt st s us (R1.entered s y) after) _ (both (λ (st : Stage). CarriedAt st s us (R1.entered s y) after) _ p p) p
 
-  chooses : (y : Search) → y .stage ≡ Grid → OnGrid us y after → Carried1 us (R1.chosen s y) after
+  chooses : (y : Search) → y .stage ≡ Grid → OnGrid s us y after → Carried1 s us (R1.chosen s y) after
   unfolding R1.chosen
   chooses y g o =
-      let here : Carried1 us y after = subst (λ (st : Stage). CarriedAt st us y after) (sym g) o in
-      cases (λ (z : Search). Carried1 us z after) (ltb (y .count) 17) (λ _. here)
-      (λ l. cases (λ (z : Search). Carried1 us z after) (le nought (y .first)) (λ _. here)
-      (λ n. both (λ (z : Search). Carried1 us z after) (isUnder (y .latest)) here
-      (both (λ (z : Search). Carried1 us z after) (y .fall) here
-      (cases (λ (z : Search). Carried1 us z after) (isAbove (y .right)) (λ r. unfold R1.entered in enters y g (ltb-no _ _ l) n r o) (λ _. here)))))
+      let here : Carried1 s us y after = subst (λ (st : Stage). CarriedAt st s us y after) (sym g) o in
+      cases (λ (z : Search). Carried1 s us z after) (ltb (y .count) 17) (λ _. here)
+      (λ l. cases (λ (z : Search). Carried1 s us z after) (le nought (y .first)) (λ _. here)
+      (λ n. both (λ (z : Search). Carried1 s us z after) (isUnder (y .latest)) here
+      (both (λ (z : Search). Carried1 s us z after) (y .fall) here
+      (cases (λ (z : Search). Carried1 s us z after) (isAbove (y .right)) (λ r. unfold R1.entered in enters y g (ltb-no _ _ l) n r o) (λ _. here)))))
     where
       ltb-no : (i j : ℕ) → ltb i j ≡ false → j ≤ i
       ltb-no i j e = ⊎-elim (λ (l : i < j). absurd (subst T (sym (lt-ltb i j l) ∙ e) tt)) (λ (l : j ≤ i). l) (split i j)
 
   -- within the bracket
-  tries : Moves (B.bracketSources x c) rows after → Past ts x rows → (st : Stage) (n : ℕ) → Past us (R1.tried st n x c) after
+  tries : Moves (B.bracketSources x c) rows after → Past s ts x rows → (st : Stage) (n : ℕ) → Past s us (R1.tried st n x c) after
   unfolding R1.tried B.bracketSources
   tries m h st n = record {
-    zero = subst (NthHas rules1 8 us) (sym (m .zero)) (nth-has-more rules1 t (h .zero));
+    zero = subst (NthHas rules1 (Middle s) 8 us) (sym (m .zero)) (nth-has-more rules1 t (h .zero));
     best = subst (Has rules1 us _) (sym (m .best)) (has-pick rules1 us (isCloser c (x .best)) rows 3 1 (λ _. newest c refl) (λ _. has-more rules1 t (h .best)));
   }
 
-  asked-on : (st : Stage) (p : Float) → R1.requestAt st s x ≡ One.Point p → Moves (B.sourcesAt st x c) rows after → CarriedAt st ts x rows → Carried1 us (R1.advanceAt st s x c) after
+  asked-on : (st : Stage) (p : Float) → c .eta ≡ p → R1.requestAt st s x ≡ One.Point p → Moves (B.sourcesAt st x c) rows after → CarriedAt st s ts x rows → Carried1 s us (R1.advanceAt st s x c) after
   unfolding R1.requestAt R1.advanceAt B.sourcesAt R1.tried
-  asked-on Grid p q m h = cases (λ (z : Search). Carried1 us z after) (ltb (x .count) 17) (λ _. chooses (R1.screened x c) (unfold R1.screened in refl) (on-grid m h))
+  asked-on Grid p e q m h = cases (λ (z : Search). Carried1 s us z after) (ltb (x .count) 17)
+      (λ l. chooses (R1.screened x c) (unfold R1.screened in refl) (on-grid m (e ∙ same-point (sym (pick-yes (ltb (x .count) 17) (One.Point (R1.gridPoint (s .«eta_bound») (x .count))) _ l) ∙ q)) h))
       (λ l. absurd (no-point (sym (pick-no (ltb (x .count) 17) (One.Point (R1.gridPoint (s .«eta_bound») (x .count))) _ l) ∙ q)))
     where
+      same-point : One.Point (R1.gridPoint (s .«eta_bound») (x .count)) ≡ One.Point p → p ≡ R1.gridPoint (s .«eta_bound») (x .count)
+      same-point e = cc
+
       no-point : pick (le nought (x .first)) (One.Refused 13) (pick (isUnder (x .latest)) (One.Refused 13) (One.Refused 14)) ≡ One.Point p → ⊥
       no-point = both (λ (r : _). r ≡ One.Point p → ⊥) _ (λ e. let z : _≡_ {A = ℕ} 0 1 = cc in omega arith) (both (λ (r : _). r ≡ One.Point p → ⊥) _ (λ e. let z : _≡_ {A = ℕ} 0 1 = cc in omega arith) (λ e. let z : _≡_ {A = ℕ} 0 1 = cc in omega arith))
-  asked-on Warm p q m h = tries m h Secant 0
-  asked-on Secant p q m h = both (λ (z : Search). Carried1 us z after) (ltb (x .count) 15) (tries m h Secant (x .count + 1)) (tries m h Halving 0)
-  asked-on Halving p q m h = cases (λ (z : Search). Carried1 us z after) (ltb (x .count) 48) (λ _. tries m h Halving (x .count + 1)) (λ l. absurd (no-point l))
+  asked-on Warm p e q m h = tries m h Secant 0
+  asked-on Secant p e q m h = both (λ (z : Search). Carried1 s us z after) (ltb (x .count) 15) (tries m h Secant (x .count + 1)) (tries m h Halving 0)
+  asked-on Halving p e q m h = cases (λ (z : Search). Carried1 s us z after) (ltb (x .count) 48) (λ _. tries m h Halving (x .count + 1)) (λ l. absurd (no-point l))
     where
       no-point : ltb (x .count) 48 ≡ false → ⊥
       no-point l = both (λ (r : _). r ≡ One.Point p → ⊥) _ (λ e. let z : _≡_ {A = ℕ} 0 1 = cc in omega arith) (λ e. let z : _≡_ {A = ℕ} 0 1 = cc in omega arith)
           (ap (λ (r : _). pick (R1.settled s (x .best) (x .left) (x .right)) One.Mode r) (sym (pick-no (ltb (x .count) 48) (One.Point (R1.midpoint (x .left) (x .right))) (One.Refused 15) l)) ∙ q)
 
-  pub step1 : (p : Float) → R1.request s x ≡ One.Point p → Moves (B.sources1 x c) rows after → Carried1 ts x rows → Carried1 us (R1.advance s x c) after
+  pub step1 : (p : Float) → c .eta ≡ p → R1.request s x ≡ One.Point p → Moves (B.sources1 x c) rows after → Carried1 s ts x rows → Carried1 s us (R1.advance s x c) after
   unfolding B.sources1
-  step1 p q m h = asked-on (x .stage) p q m h
+  step1 p e q m h = asked-on (x .stage) p e q m h
 
 -- ---- a mode
-ends-at : (st : Stage) (s : Settings) (ts : List Trial1) (x : Search) (rows : ℕ → List ℕ) → R1.requestAt st s x ≡ One.Mode → CarriedAt st ts x rows → Past ts x rows
+ends-at : (st : Stage) (s : Settings) (ts : List Trial1) (x : Search) (rows : ℕ → List ℕ) → R1.requestAt st s x ≡ One.Mode → CarriedAt st s ts x rows → Past s ts x rows
 unfolding R1.requestAt
 ends-at Grid s ts x rows q h = absurd (both (λ (r : _). r ≡ One.Mode → ⊥) _ (λ e. let z : _≡_ {A = ℕ} 0 1 = cc in omega arith)
     (both (λ (r : _). r ≡ One.Mode → ⊥) _ (λ e. let z : _≡_ {A = ℕ} 0 1 = cc in omega arith) (both (λ (r : _). r ≡ One.Mode → ⊥) _ (λ e. let z : _≡_ {A = ℕ} 0 1 = cc in omega arith) (λ e. let z : _≡_ {A = ℕ} 0 1 = cc in omega arith))) q)
@@ -308,21 +320,25 @@ ends-at Warm s ts x rows q h = h
 ends-at Secant s ts x rows q h = h
 ends-at Halving s ts x rows q h = h
 
-pub end1 : (s : Settings) (ts : List Trial1) (x : Search) (rows : ℕ → List ℕ) → R1.request s x ≡ One.Mode → Carried1 ts x rows → NthHas rules1 8 ts (rows 0) × Has rules1 ts (x .best) (rows 1)
+pub end1 : (s : Settings) (ts : List Trial1) (x : Search) (rows : ℕ → List ℕ) → R1.request s x ≡ One.Mode → Carried1 s ts x rows → NthHas rules1 (Middle s) 8 ts (rows 0) × Has rules1 ts (x .best) (rows 1)
 end1 s ts x rows q h = let p = ends-at (x .stage) s ts x rows q h in (p .zero, p .best)
 
 -- ---- two effects
 abbrev pub Trial2 : Type 0
 Trial2 = Trial rules2
 
+-- eta zero
+abbrev pub Nowhere : Conditional2 → Type 0
+Nowhere c = c .eta ≡ R2.of R2.nought R2.nought
+
 -- with the rows of the blocks 0, 1 and 2; a start's candidate is the best so far from the first on
 pub record Between2 (ts : List Trial2) (x : Search2) (zero-rows best-rows : List ℕ) : Type 0 where
   pub seed : x .seed < 6
-  pub zero : NthHas rules2 0 ts zero-rows
+  pub zero : NthHas rules2 Nowhere 0 ts zero-rows
   pub best : (x .seed ≡ 0) ⊎ Has rules2 ts (x .best) best-rows
 
 pub record Found2 (ts : List Trial2) (x : Search2) (zero-rows best-rows : List ℕ) : Type 0 where
-  pub zero : NthHas rules2 0 ts zero-rows
+  pub zero : NthHas rules2 Nowhere 0 ts zero-rows
   pub best : Has rules2 ts (x .best) best-rows
 
 abbrev pub CarriedAt2 : Stage2 → List Trial2 → Search2 → List ℕ → List ℕ → List ℕ → Type 0
@@ -368,7 +384,7 @@ movable2 s x y c =
     record { zero = zero-from (x .stage); best = both (From 1) _ (later (let l = g .0 in omega (arith, l)) (g .1)) stays; latest = f }
 
 -- ---- the rounds of a start, at the candidate c with its rows r
-module _ (s : Settings2) (x : Search2) (ts : List Trial2) (z r old : List ℕ) (c : Conditional2) (seed-in : x .seed < 6) (at-zero : NthHas rules2 0 ts z) (has : Has rules2 ts c r)
+module _ (s : Settings2) (x : Search2) (ts : List Trial2) (z r old : List ℕ) (c : Conditional2) (seed-in : x .seed < 6) (at-zero : NthHas rules2 Nowhere 0 ts z) (has : Has rules2 ts c r)
     (had : (x .seed ≡ 0) ⊎ Has rules2 ts (x .best) old) where
   -- what the search y carries, where its best block has the candidate's rows if that is the new best
   abbrev Next : Search2 → Type 0
@@ -472,28 +488,28 @@ module _ (s : Settings2) (ts : List Trial2) (x : Search2) (rows : ℕ → List �
     tried q false = is-left q
 
   -- by the stage: block 0 gets the rows of number z, block 2 those of number k
-  asked-on2 : (st : Stage2) (p : Pair) → R2.requestAt st s x ≡ Two.Point p → CarriedAt2 st ts x (rows 0) (rows 1) (rows 2)
+  asked-on2 : (st : Stage2) (p : Pair) → c2 .eta ≡ p → R2.requestAt st s x ≡ Two.Point p → CarriedAt2 st ts x (rows 0) (rows 1) (rows 2)
       → let y = R2.advanceAt st s x c2 in let k = B.currentAt st s x c2 in CarriedAt2 (y .stage) us2 y (rows (B.populationAt st)) (pick (B.isNewBest s x y) (rows k) (rows 1)) (rows k)
   unfolding R2.requestAt R2.advanceAt B.populationAt B.currentAt
-  asked-on2 S2.Zero p q h = unfold R2.between in record {
+  asked-on2 S2.Zero p e q h = unfold R2.between in record {
     seed = omega arith;
-    zero = record { trial = t; nth = subst (λ (l : List Trial2). Nth 0 (l ++ (t ∷ [])) t) (sym h) (unfold Nth in refl); rows-are = own };
+    zero = record { trial = t; nth = subst (λ (l : List Trial2). Nth 0 (l ++ (t ∷ [])) t) (sym h) (unfold Nth in refl); holds = e ∙ (let z : p ≡ R2.of R2.nought R2.nought = cc in z); rows-are = own };
     best = inl refl;
   }
-  asked-on2 S2.Start p q h = rounds s x us2 (rows 0) (rows 3) (rows 1) c2 (h .seed) (nth-has-more rules2 t (h .zero)) newest2 (had-more (h .best)) 0
-  asked-on2 S2.Trial p q h = tried (h .0) (h .1) (R2.isTaken s x c2)
-  asked-on2 S2.Found p q h = absurd (let z : _≡_ {A = ℕ} 0 1 = cc in omega arith)
-  asked-on2 (S2.Halted n) p q h = absurd (let z : _≡_ {A = ℕ} 0 1 = cc in omega arith)
+  asked-on2 S2.Start p e q h = rounds s x us2 (rows 0) (rows 3) (rows 1) c2 (h .seed) (nth-has-more rules2 t (h .zero)) newest2 (had-more (h .best)) 0
+  asked-on2 S2.Trial p e q h = tried (h .0) (h .1) (R2.isTaken s x c2)
+  asked-on2 S2.Found p e q h = absurd (let z : _≡_ {A = ℕ} 0 1 = cc in omega arith)
+  asked-on2 (S2.Halted n) p e q h = absurd (let z : _≡_ {A = ℕ} 0 1 = cc in omega arith)
 
-  pub step2 : (after : ℕ → List ℕ) (p : Pair) → R2.request s x ≡ Two.Point p → Moves (B.sources2 s x (R2.advance s x c2) c2) rows after → Carried2 ts x rows → Carried2 us2 (R2.advance s x c2) after
+  pub step2 : (after : ℕ → List ℕ) (p : Pair) → c2 .eta ≡ p → R2.request s x ≡ Two.Point p → Moves (B.sources2 s x (R2.advance s x c2) c2) rows after → Carried2 ts x rows → Carried2 us2 (R2.advance s x c2) after
   unfolding B.sources2 B.currentSource B.populationSource
-  step2 after p q m h =
+  step2 after p is q m h =
       let y = R2.advance s x c2 in
       let k = B.currentAt (x .stage) s x c2 in
       let e : after 1 ≡ pick (B.isNewBest s x y) (rows k) (rows 1) = m .best ∙ picked (B.isNewBest s x y) rows k 1 in
       subst (λ (v : List ℕ). CarriedAt2 (y .stage) us2 y (after 0) (after 1) v) (sym (m .latest))
       (subst (λ (v : List ℕ). CarriedAt2 (y .stage) us2 y (after 0) v (rows k)) (sym e)
-      (subst (λ (v : List ℕ). CarriedAt2 (y .stage) us2 y v (pick (B.isNewBest s x y) (rows k) (rows 1)) (rows k)) (sym (m .zero)) (asked-on2 (x .stage) p q h)))
+      (subst (λ (v : List ℕ). CarriedAt2 (y .stage) us2 y v (pick (B.isNewBest s x y) (rows k) (rows 1)) (rows k)) (sym (m .zero)) (asked-on2 (x .stage) p is q h)))
 
 -- ---- a mode
 ends-at2 : (st : Stage2) (s : Settings2) (ts : List Trial2) (x : Search2) (rows : ℕ → List ℕ) → R2.requestAt st s x ≡ Two.Mode → CarriedAt2 st ts x (rows 0) (rows 1) (rows 2) → Found2 ts x (rows 0) (rows 1)
@@ -504,5 +520,5 @@ ends-at2 S2.Trial s ts x rows q h = absurd (let z : _≡_ {A = ℕ} 0 1 = cc in 
 ends-at2 S2.Found s ts x rows q h = h
 ends-at2 (S2.Halted n) s ts x rows q h = absurd (let z : _≡_ {A = ℕ} 0 1 = cc in omega arith)
 
-pub end2 : (s : Settings2) (ts : List Trial2) (x : Search2) (rows : ℕ → List ℕ) → R2.request s x ≡ Two.Mode → Carried2 ts x rows → NthHas rules2 0 ts (rows 0) × Has rules2 ts (x .best) (rows 1)
+pub end2 : (s : Settings2) (ts : List Trial2) (x : Search2) (rows : ℕ → List ℕ) → R2.request s x ≡ Two.Mode → Carried2 ts x rows → NthHas rules2 Nowhere 0 ts (rows 0) × Has rules2 ts (x .best) (rows 1)
 end2 s ts x rows q h = let p = ends-at2 (x .stage) s ts x rows q h in (p .zero, p .best)

@@ -113,7 +113,7 @@ module _ (setup : Setup) (counts : List ℕ) (observations : List Observation) (
   value h = h .whole .progress .ofv
 
   abbrev Carries : List (Trial (I .rules)) → Held words → Type 0
-  Carries ts h = X .Carried ts (I .searchOf (h .whole .progress)) (rowsIn (rowsOf counts (h .whole .progress .subject)) (h .whole .work))
+  Carries ts h = X .Carried (Y .settings h) ts (I .searchOf (h .whole .progress)) (rowsIn (rowsOf counts (h .whole .progress .subject)) (h .whole .work))
 
   abbrev shows : Words (I .rules) M Y
   shows = showing setup counts observations I L
@@ -172,6 +172,9 @@ module _ (setup : Setup) (counts : List ℕ) (observations : List Observation) (
 
     effects-are : fit .effects ≡ setup .effects
     effects-are = fit-effects setup (h .parameters)
+
+    domain : I .claims .Domain (I .settingsOf fit p)
+    domain = Q .domain setup (h .parameters) p refl bound (s .omega-in) (s .shape-in) (s .warm-fits)
 
     first-is : p .first ≡ before counts j
     first-is = g .place .first
@@ -271,11 +274,11 @@ module _ (setup : Setup) (counts : List ℕ) (observations : List Observation) (
         abbrev best : I .rules .Conditional
         best = I .rules .best (I .searchOf p)
 
-        found : NthHas (I .rules) (L .zero-at) (x .trials) (rowsIn rows (w .work) 0) × Has (I .rules) (x .trials) best (rowsIn rows (w .work) 1)
-        found = X .ends fit p effects-are wants (x .trials) (rowsIn rows (w .work)) (i .carries)
+        found : NthHas (I .rules) (L .Zero) (L .zero-at) (x .trials) (rowsIn rows (w .work) 0) × Has (I .rules) (x .trials) best (rowsIn rows (w .work) 1)
+        found = X .ends fit p effects-are domain wants (x .trials) (rowsIn rows (w .work)) (i .carries)
 
         abbrev trials : Trials setup counts observations I L x best
-        trials = record { zero = found .0 .trial; mode = found .1 .trial; at-zero = found .0 .nth; tried = found .1 .tried; is = found .1 .point-is }
+        trials = record { zero = found .0 .trial; mode = found .1 .trial; at-zero = found .0 .nth; is-zero = found .0 .holds; tried = found .1 .tried; is = found .1 .point-is }
 
         count-is : getD counts (x .subject) 0 ≡ rows
         count-is = ap (λ (n : ℕ). getD counts n 0) (i .number) ∙ sym rows-are
@@ -383,8 +386,8 @@ module _ (setup : Setup) (counts : List ℕ) (observations : List Observation) (
     refuses n place work warm results f = (λ e. absurd (let z : _≡_ {A = ℕ} 0 1 = cc in omega arith), λ k e x i. f k (let q : k ≡ n = cc in q) x i)
 
     -- a search that has just begun carries nothing yet
-    nothing-carried : (subject first : ℕ) (warm : Pair) (ofv squares : Float) (rows : ℕ → List ℕ) → X .Carried [] (I .searchOf (B.beginSubject subject first warm ofv squares)) rows
-    nothing-carried subject first warm ofv squares rows = subst (λ (x : I .rules .Search). X .Carried [] x rows) (sym (Q .starts subject first warm ofv squares)) (X .begun rows)
+    nothing-carried : (st : I .rules .Settings) (subject first : ℕ) (warm : Pair) (ofv squares : Float) (rows : ℕ → List ℕ) → X .Carried st [] (I .searchOf (B.beginSubject subject first warm ofv squares)) rows
+    nothing-carried st subject first warm ofv squares rows = subst (λ (x : I .rules .Search). X .Carried st [] x rows) (sym (Q .starts subject first warm ofv squares)) (X .begun st rows)
 
     module _ (m : Mode) (o : OfMode I L m (I .rules .best (I .searchOf p))) (wants : B.wantedBy fit p ≡ Wants.Mode) (positive : B.closedBy fit p rows ≡ Positive m) where
       abbrev next : ℕ
@@ -403,7 +406,7 @@ module _ (setup : Setup) (counts : List ℕ) (observations : List Observation) (
           λ x i. (in-words m o wants x i _ _ _ same, adds-up m o wants x i positive),
           X .starts setup (h .parameters) (B.beginSubject next first (warmOf (stored m o) (fit .effects) next) sum squares) (stored m o) next refl (ap (λ (n : ℕ). warmOf (stored m o) n next) effects-are)
               ∙ ap (L .settings setup (h .parameters) (stored m o)) next-is ∙ warm-other m o (suc j) (λ e. omega (arith, e)),
-          nothing-carried next first (warmOf (stored m o) (fit .effects) next) sum squares _,
+          nothing-carried _ next first (warmOf (stored m o) (fit .effects) next) sum squares _,
         )
 
         finishes : (squares : Float) → Ends h (closeTurn (ended (Halt (B.objectiveOf p (w .tally) sum squares)) (w .work) (stored m o) (written m o)))
@@ -450,7 +453,7 @@ module _ (setup : Setup) (counts : List ℕ) (observations : List Observation) (
       abbrev then : Progress
       then = B.advanceBy fit p eta sums .progress
 
-      carried : (ts : List (Trial (I .rules))) → Carries ts h → X .Carried (ts ++ (t ∷ [])) (I .searchOf then) (rowsIn (rowsOf counts (then .subject)) (moveRows rows moves work))
+      carried : (ts : List (Trial (I .rules))) → Carries ts h → X .Carried (I .settingsOf fit then) (ts ++ (t ∷ [])) (I .searchOf then) (rowsIn (rowsOf counts (then .subject)) (moveRows rows moves work))
       carried ts c =
           let f = X .movable fit p eta sums effects-are in
           let l : rowsLength rows * 4 ≤ length work = subst (λ (n : ℕ). rowsLength rows * 4 ≤ n) (sym long-as) roomy in
@@ -459,8 +462,10 @@ module _ (setup : Setup) (counts : List ℕ) (observations : List Observation) (
             zero = moved-zero rows moves work l (f .zero) (f .best) (f .latest);
             best = moved-best rows moves work l (f .zero) (f .best) (f .latest);
             latest = moved-latest rows moves work l (f .zero) (f .best) (f .latest);
-          }) (X .same ts (I .searchOf p) (rowsIn rows (w .work)) (rowsIn rows work) n c) in
-          subst (λ (i : ℕ). X .Carried (ts ++ (t ∷ [])) (I .searchOf then) (rowsIn (rowsOf counts i) (moveRows rows moves work))) (sym (advanced-alike fit p eta sums .subject)) d
+          }) (X .same (I .settingsOf fit p) ts (I .searchOf p) (rowsIn rows (w .work)) (rowsIn rows work) n c) in
+          let e = advanced-alike fit p eta sums in
+          subst (λ (st : I .rules .Settings). X .Carried st (ts ++ (t ∷ [])) (I .searchOf then) (rowsIn (rowsOf counts (then .subject)) (moveRows rows moves work))) (sym (Q .settings fit p then (e .warm)))
+          (subst (λ (i : ℕ). X .Carried (I .settingsOf fit p) (ts ++ (t ∷ [])) (I .searchOf then) (rowsIn (rowsOf counts i) (moveRows rows moves work))) (sym (e .subject)) d)
 
       goes-on-carries : Got h t (closeTurn (ended (On then) (moveRows rows moves work) (w .warm) (w .results)))
       unfolding Carried N.heldBy moved isOver pick
@@ -469,7 +474,8 @@ module _ (setup : Setup) (counts : List ℕ) (observations : List Observation) (
     -- a question leaves all as it is
     asked-carries : (eta : Pair) (v : Answer Pair) → Got h (Y .kept h (I .pointOf eta)) (closeTurn (ended (Halt (B.askFor p (B.counted (w .tally)) eta v)) (w .work) (w .warm) (w .results)))
     unfolding Carried N.heldBy moved isOver pick B.askFor B.refusedBy B.isOver B.idle B.withSearch B.awaiting
-    asked-carries eta (given v) t = (refl, λ ts c. subst (λ (x : I .rules .Search). X .Carried ts x (rowsIn rows (w .work))) (sym (Q .waits p v)) c)
+    asked-carries eta (given v) t = (refl, λ ts c. subst (λ (st : I .rules .Settings). X .Carried st ts (I .searchOf (B.awaiting p v)) (rowsIn rows (w .work))) (sym (Q .settings fit p (B.awaiting p v) refl))
+        (subst (λ (x : I .rules .Search). X .Carried (I .settingsOf fit p) ts x (rowsIn rows (w .work))) (sym (Q .waits p v)) c))
     asked-carries eta (refused n) t = absurd (subst T (sym t) tt)
 
     short-carries : (eta : Pair) → Got h (Y .kept h (I .pointOf eta)) (closeTurn (ended (Halt (B.refusedBy p (w .tally) 6 (At.Subject (p .subject)))) (w .work) (w .warm) (w .results)))
@@ -617,7 +623,7 @@ module _ (setup : Setup) (counts : List ℕ) (observations : List Observation) (
 
     begun-opens : (parameters : Parameters) → Begins (objective parameters) h (on (N.begun words setup counts parameters w))
     unfolding Opens N.begun B.beginSubject
-    begun-opens parameters = (X .starts setup parameters _ (w .warm) 0 refl refl, λ i l. refl, refl, nothing-carried 0 0 (warmOf (w .warm) (setup .effects) 0) (word 0) (word 0) _, refl)
+    begun-opens parameters = (X .starts setup parameters _ (w .warm) 0 refl refl, λ i l. refl, refl, nothing-carried _ 0 0 (warmOf (w .warm) (setup .effects) 0) (word 0) (word 0) _, refl)
 
     admitted-opens : (parameters : Parameters) (v : Admission) → Begins (objective parameters) h (N.whenAdmitted words setup counts h (on (N.begun words setup counts parameters w)) v)
     unfolding N.whenAdmitted

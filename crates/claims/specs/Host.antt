@@ -62,7 +62,8 @@ lending setup counts observations m = record {
   results = m .results;
 }
 
--- after setup: with the same setup and counts, and all the observations or those of the awaited subject alone. Word 8 of the state is its number.
+-- after setup: with the same setup and counts, and all the observations or those of the awaited subject alone, whose number is word 8 of the
+-- state
 abbrev pub all : Lending → Lends → Lending
 all l m = lending (l .setup) (l .counts) (l .observations) m
 

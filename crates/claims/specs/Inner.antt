@@ -189,7 +189,8 @@ module _ (S : Store) (setup : Setup) (counts : List ℕ) (observations : List Ob
   -- the sums of a reply
   abbrev pub sumsOfCall : Call → Held S → Sums
   sumsOfCall (objective parameters) h = noSums
-  sumsOfCall (reply words) h = runningSums (finish (evaluated S setup counts observations (fitAt h) words (h .whole .progress) (h .whole .work) .evaluation))
+  sumsOfCall (reply words) h =
+      runningSums (finish (evaluated S setup counts observations (fitAt h) words (h .whole .progress) (h .whole .work) .evaluation))
   sumsOfCall failure h = noSums
 
   -- and its rows: the words that it has for the observations of the awaited subject
@@ -207,7 +208,9 @@ module _ (S : Store) (setup : Setup) (counts : List ℕ) (observations : List Ob
       S .recall (h .whole .kept) (fitAt h .k) (keyOf (fitAt h) (h .whole .progress .subject) eta) rows (h .whole .work) (block rows 3)
 
   abbrev pub keptRows : Held S → Pair → List ℕ
-  keptRows h eta = let rows = rowsOf counts (h .whole .progress .subject) in wordsFrom (rowWords * rows) (block rows 3) (recalledWork (recalled h eta))
+  keptRows h eta =
+      let rows = rowsOf counts (h .whole .progress .subject) in
+      wordsFrom (rowWords * rows) (block rows 3) (recalledWork (recalled h eta))
 
   abbrev pub view : View (I .rules) (session S setup counts observations)
   view = record {
@@ -218,7 +221,10 @@ module _ (S : Store) (setup : Setup) (counts : List ℕ) (observations : List Ob
     search = λ h. I .searchOf (h .whole .progress);
     evaluations = λ h. h .whole .tally .calls .0;
     limit = setup .«max_evaluations»;
-    kept = λ h p. record { point = I .conditionalOf (fitAt h) (I .pairOf p) (recalledSums (recalled h (I .pairOf p))); rows = keptRows h (I .pairOf p) };
+    kept = λ h p. record {
+      point = I .conditionalOf (fitAt h) (I .pairOf p) (recalledSums (recalled h (I .pairOf p)));
+      rows = keptRows h (I .pairOf p);
+    };
     given = λ c h. record {
       point = I .conditionalOf (fitAt h) (pointWanted (wantedBy (fitAt h) (h .whole .progress))) (sumsOfCall c h);
       rows = rowsOfCall c h;

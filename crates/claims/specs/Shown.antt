@@ -1,6 +1,6 @@
--- What the lent words show of the log, in every session: a search's settings are those of the call that began its objective, with the warm start that the words held
--- then; a mode stands in the warm starts and in the results, with the predictions of its own trial and of the one at eta zero; and the objective is the sum over the
--- modes.
+-- What the lent words show of the log, in every session: a search's settings are those of the call that began its objective, with the warm
+-- start that the words held then; a mode stands in the warm starts and in the results, with the predictions of its own trial and of the one
+-- at eta zero; and the objective is the sum over the modes.
 use mathlib.Core.Path.{_≡_}
 use mathlib.Core.Bool.{true}
 use mathlib.Core.List.{List, [], _∷_, _++_, List·Memᴰ}
@@ -93,8 +93,8 @@ module _ (R : Rules) (M : Machine) (Y : View R M) where
     Adds (suc n) [] v = ⊥
     Adds (suc n) (x ∷ xs) v = (m : R .Conditional) × (x .end ≡ in-mode m) × ((u : W .Value) × Adds n xs u × (v ≡ W .with-mode x m u))
 
-    -- what an answer leaves: after the last subject, all modes, and the answer gives their sum; else the modes of the subjects before the newest search's, and what a
-    -- refusal leaves of its own
+    -- what an answer leaves: after the last subject, all modes, and the answer gives their sum; else the modes of the subjects before the
+    -- newest search's, and what a refusal leaves of its own
     abbrev pub Left : M .Answer → Meaning (R .Point) → M .State → List (Searched R) → Type 0
     Left a finished t xs = Stood t (Y .subjects) xs × ((v : W .Value) × W .Gives a v × Adds (Y .subjects) xs v)
     Left a (asked p) t [] = ⊥
@@ -110,7 +110,8 @@ module _ (R : Rules) (M : Machine) (Y : View R M) where
       pub runs : M .awaits (run M s₀ acts) ≡ true → W .Runs (underWay o s₀ acts .call) (run M s₀ acts)
       -- a call is refused and alters nothing, or it leaves the modes in the words
       pub leaves : (c : M .Call) → let r = call M c (run M s₀ acts) in
-          Unaltered (run M s₀ acts) r (call-log R M Y c (run M s₀ acts)) ⊎ Left (r .answer) (Y .means (r .answer)) (r .state) (searches R (log R M Y s₀ acts ++ call-log R M Y c (run M s₀ acts)))
+          let l = call-log R M Y c (run M s₀ acts) in
+          Unaltered (run M s₀ acts) r l ⊎ Left (r .answer) (Y .means (r .answer)) (r .state) (searches R (log R M Y s₀ acts ++ l))
 
 -- ---- of a session, with one effect and with two
 
@@ -135,8 +136,9 @@ pub record Reads (I : Inner) : Type 1 where
   pub nll : I .rules .Conditional → ℕ
   -- and that it stands in the warm words
   pub Warm : ℕ → I .rules .Conditional → List ℕ → Type 0
-  -- the place among a search's trials of the one at eta zero
+  -- the place among a search's trials of the one at eta zero, and that it is there
   pub zero-at : ℕ
+  pub Zero : I .rules .Conditional → Type 0
   -- what a mode adds to the objective, of a subject with n observations
   pub term : Setup → I .rules .Settings → ℕ → I .rules .Conditional → Float
 
@@ -156,6 +158,7 @@ reads1 = record {
   Warm = λ i m warm. getD warm i 0 ≡ toBits binary64 (m .eta);
   -- the ninth point of the grid
   zero-at = 8;
+  Zero = λ c. T (eq (c .eta) (word 0));
   -- 2 nll - n log 2π + eta² / omega + log (omega (1 / omega + information))
   term = λ setup s n m.
       two *ᶠ m .nll -ᶠ ofInt binary64 (pos n) *ᶠ log2pi +ᶠ m .eta *ᶠ m .eta /ᶠ s .omega
@@ -190,6 +193,7 @@ reads2 = record {
       (getD warm (2 * i) 0 ≡ toBits binary64 (m .eta .first)) × (getD warm (2 * i + 1) 0 ≡ toBits binary64 (m .eta .second));
   -- the first point
   zero-at = 0;
+  Zero = λ c. T (eq (c .eta .first) (word 0)) × T (eq (c .eta .second) (word 0));
   -- 2 nll - n log 2π + eta · (precision eta) + log (det omega · det (precision + information))
   term = λ setup s n m.
       let x = m .eta .first in
@@ -223,6 +227,7 @@ module _ (setup : Setup) (counts : List ℕ) (observations : List Observation) (
     pub zero : Trial (I .rules)
     pub mode : Trial (I .rules)
     pub at-zero : Nth (L .zero-at) (x .trials) zero
+    pub is-zero : L .Zero (zero .point)
     pub tried : List·Memᴰ mode (x .trials)
     pub is : mode .point ≡ m
 
