@@ -14,6 +14,7 @@ pub mod Host
 pub mod Lengths
 pub mod LetIn
 pub mod Limits
+pub mod Middle
 pub mod ModeWords
 pub mod Opening
 pub mod Placed
