@@ -5,12 +5,12 @@ use mathlib.Core.List.{List, [], _∷_, _++_}
 use Prim.Native.Nat.{ℕ, suc, _+_, _*_, _≤_}
 use native.Mathlib.Omega.{arith}
 use borrow.Author.Tests.{eq-eqb}
-use lib.Dec.{T, eqb}
+use lib.Dec.{eqb}
 use lib.IntN.{pos}
 use lib.ListN.{getD, set, length, length-set}
 use lib.Seq.{getD-set-same, getD-set-other}
 use lib.Ieee.Bits.{toBits-ofBits}
-use lib.Ieee.{Float, binary64, toBits, ofBits, ofInt, isNan, le, eq}
+use lib.Ieee.{Float, binary64, toBits, ofBits, ofInt, isNan, le}
 use Rattle.float64.specs.Arithmetic.{_+ᶠ_, _-ᶠ_, _*ᶠ_, _/ᶠ_, word, one, two}
 use Rattle.float64.specs.Float64.{nonfinite}
 use Rattle.float64.specs.Pick.{pick, cases, pick-yes, pick-no}
@@ -43,7 +43,7 @@ use Rattle.subjects.specs.declared.Progress.{Progress}
 use Rattle.subjects.specs.declared.Wanted.the-variants as Wants
 use Rattle.sessions.specs.Rules.{Trial}
 use Rattle.population.specs.Population.{warmOf, warmStored}
-use Rattle.claims.specs.Inner.{Inner, rules1, rules2, inner1, inner2}
+use Rattle.claims.specs.Inner.{Inner, rules1, inner1, inner2}
 use Rattle.claims.specs.Shown.{precision, Reads, reads1, reads2}
 use Rattle.claims.proofs.Domains.{two-omega}
 use Rattle.claims.proofs.Middle.{middle-zero}
@@ -161,7 +161,7 @@ tells1 = record {
   steps = steps-one;
   ends = λ fit p e d w ts rows h.
       let z = end1 (B.settings fit p) ts (p .search) rows (mode-one (request (B.settings fit p) (p .search)) (sym (wanted-one fit e p) ∙ w)) h in
-      (nth-so rules1 (z .0) (λ c m. subst (λ (x : Float). T (eq x (word 0))) (sym m) (middle-zero (B.settings fit p .«eta_bound») (d .fitsBound) (d .boundLow) (d .boundHigh))), z .1);
+      (nth-so rules1 (z .0) (λ c m. m ∙ middle-zero (B.settings fit p .«eta_bound») (d .fitsBound) (d .boundLow) (d .boundHigh)), z .1);
 }
 
 -- two effects
@@ -264,10 +264,6 @@ adds-two setup parameters p rows m e o q =
     ∙ ap (λ (x : Float). two *ᶠ best .nll -ᶠ ofInt binary64 (pos rows) *ᶠ log2pi +ᶠ dot (pair (best .eta .first) (best .eta .second)) (product (B.precisionOf fit) (pair (best .eta .first) (best .eta .second)))
     +ᶠ log (x *ᶠ determinant (B.curvatureOf fit best))) d
 
-zero-pair : T (eq (word 0) (word 0)) × T (eq (word 0) (word 0))
-unfolding eq ofBits
-zero-pair = (tt, tt)
-
 moves-two : (s : Settings2) (p : Progress) (c : Conditional2) → Movable (B.advance2 s p c .sources)
 unfolding B.advance2
 moves-two s p c = movable2 s (p .«search_2d») (R2.advance s (p .«search_2d») c) c
@@ -290,8 +286,7 @@ tells2 = record {
   movable = λ fit p eta sums e. subst (λ (x : Advanced). Movable (x .sources)) (sym (advance-two fit e p eta sums)) (moves-two (B.settings2 fit p) p (B.conditional2 eta sums));
   steps = steps-two;
   ends = λ fit p e d w ts rows h.
-      let z = end2 (B.settings2 fit p) ts (p .«search_2d») rows (mode-two (R2.request (B.settings2 fit p) (p .«search_2d»)) (sym (wanted-two fit e p) ∙ w)) h in
-      (nth-so rules2 (z .0) (λ c m. subst (λ (x : Pair). T (eq (x .first) (word 0)) × T (eq (x .second) (word 0))) (sym m) zero-pair), z .1);
+      end2 (B.settings2 fit p) ts (p .«search_2d») rows (mode-two (R2.request (B.settings2 fit p) (p .«search_2d»)) (sym (wanted-two fit e p) ∙ w)) h;
 }
   where
     two-others : (i j : ℕ) → (i ≡ j → ⊥) → (eta : Pair) (warm : List ℕ) → let v = set (set warm (2 * j) (toBits binary64 (eta .first))) (2 * j + 1) (toBits binary64 (eta .second)) in

@@ -158,7 +158,7 @@ reads1 = record {
   Warm = λ i m warm. getD warm i 0 ≡ toBits binary64 (m .eta);
   -- the ninth point of the grid
   zero-at = 8;
-  Zero = λ c. T (eq (c .eta) (word 0));
+  Zero = λ c. c .eta ≡ word 0;
   -- 2 nll - n log 2π + eta² / omega + log (omega (1 / omega + information))
   term = λ setup s n m.
       two *ᶠ m .nll -ᶠ ofInt binary64 (pos n) *ᶠ log2pi +ᶠ m .eta *ᶠ m .eta /ᶠ s .omega
@@ -193,7 +193,7 @@ reads2 = record {
       (getD warm (2 * i) 0 ≡ toBits binary64 (m .eta .first)) × (getD warm (2 * i + 1) 0 ≡ toBits binary64 (m .eta .second));
   -- the first point
   zero-at = 0;
-  Zero = λ c. T (eq (c .eta .first) (word 0)) × T (eq (c .eta .second) (word 0));
+  Zero = λ c. c .eta ≡ record { first = word 0; second = word 0 };
   -- 2 nll - n log 2π + eta · (precision eta) + log (det omega · det (precision + information))
   term = λ setup s n m.
       let x = m .eta .first in
