@@ -139,7 +139,8 @@ module _ (rows : ℕ) where
         let q = block-is rows b m in
         ap (λ (v : List ℕ). rowsIn v b) (copy-moves from to w a)
         ∙ words-same len (block rows b) (block rows b) _ w (λ d h. words-out len (block rows from) (block rows to) w (block rows b + d)
-        (⊎-elim (λ (e : b < to). inl (let g = apart len b to e in omega (arith, p, q, g, h))) (λ (e : to ≤ b). inr (let g = apart len to b (omega (arith, e, n)) in omega (arith, p, q, g))) (split b to)))
+        (⊎-elim (λ (e : b < to). inl (let g = apart len b to e in omega (arith, p, q, g, h))) (λ (e : to ≤ b). inr (let g = apart len to b (omega (arith, e, n)) in omega (arith, p, q, g)))
+        (split b to)))
 
   -- the move of an evaluated point's rows
   module _ (s : Sources) (w : List ℕ) (long : len * 4 ≤ length w) (zero-from : From 0 (s .population)) (best-from : From 1 (s .best)) (latest-from : From 2 (s .latest)) where

@@ -66,11 +66,19 @@ module _ (s : Settings) (x : Search) (c : Conditional) (f : Fit1 x) (g : FitsPoi
 
   screened1 : Fit1 (R1.screened x c)
   unfolding R1.screened R1.firstScore
-  screened1 = record { first = both Fits _ (g .score) (f .first); latest = g; left = both FitsPoint _ (both FitsPoint _ (f .latest) (f .left)) (f .left); right = both FitsPoint _ (both FitsPoint _ g (f .right)) (f .right); best = f .best }
+  screened1 = record {
+    first = both Fits _ (g .score) (f .first);
+    latest = g;
+    left = both FitsPoint _ (both FitsPoint _ (f .latest) (f .left)) (f .left);
+    right = both FitsPoint _
+        (both FitsPoint _ g (f .right)) (f .right);
+    best = f .best;
+  }
 
 chosen1 : (s : Settings) (y : Search) → Fit1 y → Fit1 (R1.chosen s y)
 unfolding R1.chosen R1.entered
-chosen1 s y k = both Fit1 _ k (both Fit1 _ k (both Fit1 _ k (both Fit1 _ k (both Fit1 _ (record { first = k .first; latest = k .latest; left = k .left; right = k .right; best = both FitsPoint _ (k .left) (k .right) }) k))))
+chosen1 s y k = both Fit1 _ k (both Fit1 _ k
+    (both Fit1 _ k (both Fit1 _ k (both Fit1 _ (record { first = k .first; latest = k .latest; left = k .left; right = k .right; best = both FitsPoint _ (k .left) (k .right) }) k))))
 
 advance-at1 : (st : Stage) (s : Settings) (x : Search) (c : Conditional) → Fit1 x → FitsPoint c → Fit1 (R1.advanceAt st s x c)
 unfolding R1.advanceAt

@@ -118,7 +118,8 @@ Valued (refused n) = Unit
 
 valued : (theta eta : Pair) (effects : ℕ) → Valued (individualValues theta eta effects)
 unfolding Valued individualValues individual
-valued theta eta effects = both Valued _ tt (both Valued _ (both Valued _ tt (record { first = mul-fits binary64 _ _; second = mul-fits binary64 _ _ })) (record { first = mul-fits binary64 _ _; second = zero-fits }))
+valued theta eta effects = both Valued _ tt (both Valued _ (both Valued _ tt (record { first = mul-fits binary64 _ _; second = mul-fits binary64 _ _ }))
+    (record { first = mul-fits binary64 _ _; second = zero-fits }))
 
 -- ---- an objective's parameters
 abbrev pub FitsSd : AdditiveSd → Type 0
@@ -136,7 +137,8 @@ pub record Formatted (h : Held words) : Type 0 where
   pub parameters : FitsParameters (h .parameters)
   pub progress : FitsProgress (h .whole .progress)
 
-module _ (setup : Setup) (counts : List ℕ) (observations : List Observation) (I : Inner) (Q : Suits I (setup .effects)) (U : Trusted words (setup .k)) (bound : Fits (setup .«eta_bound»)) (h : Held words)
+module _ (setup : Setup) (counts : List ℕ) (observations : List Observation) (I : Inner) (Q : Suits I (setup .effects)) (U : Trusted words (setup .k)) (bound : Fits (setup .«eta_bound»))
+    (h : Held words)
     (s : Standing words setup counts observations I Q U h) (g : Formatted h) where
   abbrev w : Whole words
   w = h .whole
@@ -192,7 +194,8 @@ module _ (setup : Setup) (counts : List ℕ) (observations : List Observation) (
 
   next-ends : (m : Mode) (warm : List ℕ) → FitsTurned (nextSubject fit counts p (w .tally) m rows warm (w .work) .value)
   unfolding nextSubject FitsTurned
-  next-ends m warm = both (λ (x : Worked Turned). FitsTurned (x .value)) _ (begins _ _ _ _ _ (add-fits binary64 _ _) (add-fits binary64 _ _)) (objective-ends _ _ (add-fits binary64 _ _) (add-fits binary64 _ _))
+  next-ends m warm = both (λ (x : Worked Turned). FitsTurned (x .value)) _ (begins _ _ _ _ _ (add-fits binary64 _ _) (add-fits binary64 _ _))
+      (objective-ends _ _ (add-fits binary64 _ _) (add-fits binary64 _ _))
 
   by-closed : (c : Closed) → FitsTurned (closing fit counts p (w .tally) rows (w .work) (w .warm) (w .results) c .turned)
   unfolding closing FitsTurned
@@ -228,13 +231,15 @@ module _ (setup : Setup) (counts : List ℕ) (observations : List Observation) (
   unfolding N.begun After
   begun-fits parameters f = record { parameters = f; progress = begins _ _ _ _ _ zero-fits zero-fits }
 
-  at-wanted : (go : Pair → Moved (Held words) Step) (v : Wanted) → ((eta : Pair) → v ≡ Wants.Point eta → After Formatted (go eta)) → (n : ℕ) → After Formatted (N.atWanted words setup counts n (N.allChecked setup counts observations) h go v)
+  at-wanted : (go : Pair → Moved (Held words) Step) (v : Wanted) → ((eta : Pair) → v ≡ Wants.Point eta → After Formatted (go eta)) → (n : ℕ) → After Formatted
+      (N.atWanted words setup counts n (N.allChecked setup counts observations) h go v)
   unfolding N.atWanted
   at-wanted go (Wants.Point eta) f n = when-admitted (go eta) _ (f eta refl)
   at-wanted go Wants.Mode f n = unaltered 19 _
   at-wanted go (Wants.Refused number) f n = unaltered 19 _
 
-  when-awaited : (go : Pair → Moved (Held words) Step) → ((eta : Pair) → B.wantedBy fit p ≡ Wants.Point eta → After Formatted (go eta)) → (n : ℕ) → After Formatted (N.whenAwaited words setup counts n (N.allChecked setup counts observations) h go)
+  when-awaited : (go : Pair → Moved (Held words) Step) → ((eta : Pair) → B.wantedBy fit p ≡ Wants.Point eta → After Formatted (go eta)) → (n : ℕ) → After Formatted
+      (N.whenAwaited words setup counts n (N.allChecked setup counts observations) h go)
   unfolding N.whenAwaited
   when-awaited go f n = both (After Formatted) _ (both (After Formatted) _ (at-wanted go (B.wantedBy fit p) f n) (unaltered 19 _)) (unaltered 19 _)
 
@@ -247,7 +252,8 @@ module _ (setup : Setup) (counts : List ℕ) (observations : List Observation) (
   answered-fits : (said : List ℕ) (eta : Pair) → B.wantedBy fit p ≡ Wants.Point eta → After Formatted (N.answered words setup counts observations said eta h)
   unfolding N.answered
   answered-fits said eta e =
-      replied eta (point-fits eta e) _ _ (sums-fit (N.trialOf words setup counts fit p) said (setup .width) (setup .effects) (setup .«output_budget») (take rows (drop (p .first) observations)) (w .work))
+      replied eta (point-fits eta e) _ _ (sums-fit (N.trialOf words setup counts fit p) said (setup .width) (setup .effects) (setup .«output_budget»)
+      (take rows (drop (p .first) observations)) (w .work))
 
   unfoldable pub FitsCall : Call → Type 0
   FitsCall (objective parameters) = FitsParameters parameters
@@ -285,7 +291,8 @@ unfolding FitsAdditive
 additive-fits Own f = tt
 additive-fits (Override x) f = f
 
-pub state-fits : (setup : Setup) (counts : List ℕ) (observations : List Observation) (lent : Lent) (a : Accepts setup counts lent) (h : Held words) → Going setup counts observations lent a h → FitsPair (h .whole .progress .warm)
+pub state-fits : (setup : Setup) (counts : List ℕ) (observations : List Observation) (lent : Lent) (a : Accepts setup counts lent) (h : Held words) → Going setup counts observations lent a h
+    → FitsPair (h .whole .progress .warm)
     → Formatted h → FitsState (stateOf h)
 unfolding searchWithin
 state-fits setup counts observations lent a h place warm g =

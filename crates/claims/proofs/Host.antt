@@ -82,7 +82,13 @@ record FitsSetup (s : Setup) : Type 0 where
 
 setup-fits : (b : SetupBits) → FitsSetup (setupFrom b)
 unfolding setupFrom
-setup-fits b = record { bound = ofBits-fits binary64 _; variance = ofBits-fits binary64 _; additive = additive-fits (b .«has_additive») (b .additive); most = mod-lt (b .«max_evaluations») (omega arith) }
+setup-fits b = record {
+  bound = ofBits-fits binary64 _;
+  variance = ofBits-fits binary64 _;
+  additive = additive-fits (b .«has_additive») (b .additive);
+  most = mod-lt (b .«max_evaluations»)
+      (omega arith);
+}
 
 parameters-fit : (b : ParameterBits) → FitsParameters (parametersFrom b)
 unfolding parametersFrom
@@ -108,10 +114,12 @@ module _ (l : Lending) where
   over-is : (c : Call) (m : Lends) (h : Held words) → Is m h → does (all l m) (calls c) ≡ did (call (M l) c h) (m .state) (m .answer)
   unfolding callOver withState
   over-is c m h i =
-      ap (λ (a : Answer State). withState (λ s. did (call (M l) c (heldOf s (m .tally) (m .cache) (m .work) (m .warm) (m .results))) (m .state) (m .answer)) (unknown (m .tally) (m .state) (m .answer) (m .cache) (m .work) (m .warm) (m .results)) a) (i .loads)
+      ap (λ (a : Answer State). withState (λ s. did (call (M l) c (heldOf s (m .tally) (m .cache) (m .work) (m .warm) (m .results))) (m .state) (m .answer))
+      (unknown (m .tally) (m .state) (m .answer) (m .cache) (m .work) (m .warm) (m .results)) a) (i .loads)
       ∙ ap (λ (x : Held words). did (call (M l) c x) (m .state) (m .answer)) (i .held)
 
-  did-is : (z : Ran (Held words) Step) (m : Lends) (h : Held words) → Is m h → FitsState (stateOf (z .state)) → (isUnaltered (numberOf (z .answer)) ≡ true → z .state ≡ h) → Is (left (did z (m .state) (m .answer))) (z .state)
+  did-is : (z : Ran (Held words) Step) (m : Lends) (h : Held words) → Is m h → FitsState (stateOf (z .state)) → (isUnaltered (numberOf (z .answer)) ≡ true → z .state ≡ h) → Is
+      (left (did z (m .state) (m .answer))) (z .state)
   unfolding left told
   did-is z m h i f same =
       let again : Held words → Held words = λ (x : Held words). heldOf (i .state) (x .whole .tally) (x .whole .kept .words) (x .whole .work) (x .whole .warm) (x .whole .results) in
@@ -176,7 +184,8 @@ module _ (l : Lending) (I : Inner) (Q : Suits I (l .setup .effects)) (f : FitsSe
 
   turns-sound : (h : Held words) → Sound h → After Sound (N.turnHeld words (l .setup) (l .counts) h)
   turns-sound h s =
-      three _ (after-turn (I .rules) (I .claims) (M l) (view words (l .setup) (l .counts) (l .observations) I) Stands h (turns words (l .setup) (l .counts) (l .observations) I Q U (f .bound) (a .most) h (s .stands)))
+      three _ (after-turn (I .rules) (I .claims) (M l) (view words (l .setup) (l .counts) (l .observations) I) Stands h
+      (turns words (l .setup) (l .counts) (l .observations) I Q U (f .bound) (a .most) h (s .stands)))
       (turns-going (l .setup) (l .counts) (l .observations) (lent l) a h (s .goes)) (turns-fit (l .setup) (l .counts) (l .observations) I Q U (f .bound) h (s .stands) (s .fits))
 
   abbrev Fit-for : (h : Held words) → Sound h → Call → Type 0
@@ -245,7 +254,8 @@ module _ (l : Lending) (I : Inner) (Q : Suits I (l .setup .effects)) (f : FitsSe
     own-is : (said : List ℕ) → does (own l m) (replies said) ≡ does (all l m) (calls (reply said))
     own-is said =
         ap (λ (os : List Observation). subjectReplyOver (l .setup) (l .counts) os (m .tally) (m .state) (m .answer) (m .cache) (m .work) (m .warm) (m .results) said) own-are
-        ∙ in-every-session (l .setup) (l .counts) (l .observations) (f .bound) (f .most) (lent l) (l .results) refl refl passes xs (m .tally) (m .state) (m .answer) (m .cache) (m .work) (m .warm) (m .results) said
+        ∙ in-every-session (l .setup) (l .counts) (l .observations) (f .bound) (f .most) (lent l) (l .results) refl refl passes xs (m .tally) (m .state) (m .answer) (m .cache) (m .work)
+        (m .warm) (m .results) said
         (d .is .state) (d .is .loads) (d .is .held)
 
     warms-is : (v : List ℕ) → Is (after l m (warms v)) (set (M l) v h)
@@ -255,8 +265,10 @@ module _ (l : Lending) (I : Inner) (Q : Suits I (l .setup .effects)) (f : FitsSe
         let s = i .state in
         let x = heldOf s (m .tally) (m .cache) (m .work) (m .warm) (m .results) in
         let same : Is m x = record { state = s; loads = i .loads; held = refl } in
-        subst (λ (y : Held words). Is (pick (eqb (getD (m .state) 0 0) 1) m (pick (eqb (length v) (length (m .warm))) (rewarmed m v) m)) (pick (y .whole .progress .awaits) y (N.setWarm words (l .setup) (l .counts) v y))) (i .held)
-        (subst (λ (t : Bool). Is (pick t m (pick (eqb (length v) (length (m .warm))) (rewarmed m v) m)) (pick (s .progress .awaits) x (N.setWarm words (l .setup) (l .counts) v x))) (loaded (m .state) s (i .loads) .awaits)
+        subst (λ (y : Held words). Is (pick (eqb (getD (m .state) 0 0) 1) m (pick (eqb (length v) (length (m .warm))) (rewarmed m v) m))
+        (pick (y .whole .progress .awaits) y (N.setWarm words (l .setup) (l .counts) v y))) (i .held)
+        (subst (λ (t : Bool). Is (pick t m (pick (eqb (length v) (length (m .warm))) (rewarmed m v) m)) (pick (s .progress .awaits) x (N.setWarm words (l .setup) (l .counts) v x)))
+        (loaded (m .state) s (i .loads) .awaits)
         (alike Is (s .progress .awaits) same (alike Is (eqb (length v) (length (m .warm))) (record { state = s; loads = i .loads; held = refl }) same)))
 
     sets-on : (v : List ℕ) → Stood (after l m (warms v)) (xs ++ (sets v ∷ []))
@@ -286,7 +298,8 @@ module _ (l : Lending) (f : FitsSetup (l .setup)) (e : number l opens ≡ 0) whe
   next = stateOf (first l)
 
   abbrev settledOut : Out
-  settledOut = H.settled (l .setup) (l .counts) (length (l .observations)) (allChecked (l .setup) (l .counts) (l .observations)) (l .tally) (l .state) (l .answer) (l .cache) (l .work) (l .warm) (l .results) setting
+  settledOut = H.settled (l .setup) (l .counts) (length (l .observations)) (allChecked (l .setup) (l .counts) (l .observations)) (l .tally) (l .state) (l .answer) (l .cache) (l .work)
+      (l .warm) (l .results) setting
 
   record Settled (o : Out) : Type 0 where
     long : 63 ≤ length (l .state)
@@ -296,7 +309,8 @@ module _ (l : Lending) (f : FitsSetup (l .setup)) (e : number l opens ≡ 0) whe
   unfolding setupOver openWith
   settled-by = cases (λ (o : Out). o .told .done .number ≡ 0 → Settled o) (ltb (length (l .state)) 63) (λ t q. absurd (omega (arith, q))) (λ t q. record { long = ltb-false _ _ t; same = refl }) e
 
-  opened-by : (adm : Admission) → Judged (length (l .counts)) adm → H.opened (opening (l .setup) (l .counts) (lent l) (l .tally) (l .cache) (l .work) (l .warm) (l .results) adm .begun) (l .state) (l .answer) .done .number ≡ 0
+  opened-by : (adm : Admission) → Judged (length (l .counts)) adm → H.opened (opening (l .setup) (l .counts) (lent l) (l .tally) (l .cache) (l .work) (l .warm) (l .results) adm .begun)
+      (l .state) (l .answer) .done .number ≡ 0
       → opening (l .setup) (l .counts) (lent l) (l .tally) (l .cache) (l .work) (l .warm) (l .results) adm .begun .opening ≡ Opens.Opened next
   unfolding Judged opening H.opened openedTo
   opened-by A.Accepted n q = refl
@@ -309,7 +323,8 @@ module _ (l : Lending) (f : FitsSetup (l .setup)) (e : number l opens ≡ 0) whe
 
   is-opened : setting .begun .opening ≡ Opens.Opened next
   unfolding openedBy checks
-  is-opened = opened-by _ (counts-judged (l .setup) (length (l .counts)) (lent l) (allChecked (l .setup) (l .counts) (l .observations)) (countObservations (l .counts))) (ap (λ (o : Out). o .told .done .number) (sym (settled-by .same)) ∙ e)
+  is-opened = opened-by _ (counts-judged (l .setup) (length (l .counts)) (lent l) (allChecked (l .setup) (l .counts) (l .observations)) (countObservations (l .counts)))
+      (ap (λ (o : Out). o .told .done .number) (sym (settled-by .same)) ∙ e)
 
   abbrev passes : N.opens words (l .setup) (l .counts) (l .observations) (lent l) ≡ A.Accepted
   passes = every-setup (l .setup) (l .counts) (l .observations) (l .tally) (l .cache) (l .work) (l .warm) (l .results) next is-opened .passes
@@ -334,7 +349,8 @@ module _ (l : Lending) (f : FitsSetup (l .setup)) (e : number l opens ≡ 0) whe
 
     stood : (ds : List Deed) → Stood l I Q f passes (hosted l (left (does l opens)) ds) (actsOf l ds)
     unfolding run
-    stood ds = subst (λ (o : Out). Stood l I Q f passes (hosted l (left o) ds) (actsOf l ds)) (sym (settled-by .same)) (deeds-on l I Q f passes ds _ [] (record { is = first-is; sound = first-sound l I Q f passes }))
+    stood ds = subst (λ (o : Out). Stood l I Q f passes (hosted l (left o) ds) (actsOf l ds)) (sym (settled-by .same))
+        (deeds-on l I Q f passes ds _ [] (record { is = first-is; sound = first-sound l I Q f passes }))
 
     is-hosted : (L : Reads I) → Holds3 words (l .setup) (l .counts) (l .observations) I → Shows (l .setup) (l .counts) (l .observations) I L → (ds : List Deed) → Hosted I L l ds
     is-hosted L holds words-show ds =
@@ -344,7 +360,8 @@ module _ (l : Lending) (f : FitsSetup (l .setup)) (e : number l opens ≡ 0) whe
           demand3 = holds (f .bound) (f .most) (lent l) (l .results) passes (actsOf l ds);
           shows = λ o. words-show (f .bound) (f .most) (lent l) (l .results) refl refl passes o (actsOf l ds);
           tells = λ c. over-tells l c _ _ (d .is);
-          tells-own = λ said. subst (λ (o : Out). Told o (now I L l ds) (call (M l) (reply said) (reached l ds) .answer)) (sym (own-is l I Q f passes _ _ d said)) (over-tells l (reply said) _ _ (d .is));
+          tells-own = λ said. subst (λ (o : Out). Told o (now I L l ds) (call (M l) (reply said) (reached l ds) .answer)) (sym (own-is l I Q f passes _ _ d said))
+              (over-tells l (reply said) _ _ (d .is));
         }
 
 pub every-host : EveryHost

@@ -60,20 +60,24 @@ module _ (I : Inner) (L : Reads I) where
     pub nll : toBits binary64 (m .nll) ≡ L .nll b
 
   pub record Tells (effects : ℕ) : Type 1 where
-    pub starts : (setup : Setup) (parameters : Parameters) (q : Progress) (warm : List ℕ) (i : ℕ) → setup .effects ≡ effects → q .warm ≡ warmOf warm effects i → I .settingsOf (B.fitOf setup parameters) q ≡ L .settings setup parameters warm i
+    pub starts : (setup : Setup) (parameters : Parameters) (q : Progress) (warm : List ℕ) (i : ℕ) → setup .effects ≡ effects → q .warm ≡ warmOf warm effects i → I .settingsOf
+        (B.fitOf setup parameters) q ≡ L .settings setup parameters warm i
     pub modes : (fit : Fit) (p : Progress) (rows : ℕ) (m : Mode) → fit .effects ≡ effects → B.closedBy fit p rows ≡ Positive m → OfMode m (I .rules .best (I .searchOf p))
     pub stores : (j : ℕ) (m : Mode) (b : I .rules .Conditional) (warm : List ℕ) → OfMode m b → effects * suc j ≤ length warm → L .Warm j b (warmStored effects j (m .eta) warm)
-    pub others : (setup : Setup) (parameters : Parameters) (i j : ℕ) → (i ≡ j → ⊥) → (eta : Pair) (warm : List ℕ) → L .settings setup parameters (warmStored effects j eta warm) i ≡ L .settings setup parameters warm i
+    pub others : (setup : Setup) (parameters : Parameters) (i j : ℕ) → (i ≡ j → ⊥) → (eta : Pair) (warm : List ℕ) → L .settings setup parameters
+        (warmStored effects j eta warm) i ≡ L .settings setup parameters warm i
     pub stays : (i j : ℕ) → (i ≡ j → ⊥) → (eta : Pair) (warm : List ℕ) (b : I .rules .Conditional) → L .Warm i b warm → L .Warm i b (warmStored effects j eta warm)
     -- a mode's part of the objective
-    pub adds : (setup : Setup) (parameters : Parameters) (p : Progress) (rows : ℕ) (m : Mode) → setup .effects ≡ effects → isNoOmega (withParameters setup parameters) ≡ false → B.closedBy (B.fitOf setup parameters) p rows ≡ Positive m
+    pub adds : (setup : Setup) (parameters : Parameters) (p : Progress) (rows : ℕ) (m : Mode) → setup .effects ≡ effects → isNoOmega (withParameters setup parameters) ≡ false → B.closedBy
+        (B.fitOf setup parameters) p rows ≡ Positive m
         → m .term ≡ L .term setup (I .settingsOf (B.fitOf setup parameters) p) rows (I .rules .best (I .searchOf p))
     -- the rows of the trials in the blocks
     pub Carried : I .rules .Settings → List (Trial (I .rules)) → I .rules .Search → (ℕ → List ℕ) → Type 0
     pub begun : (st : I .rules .Settings) (rows : ℕ → List ℕ) → Carried st [] (I .rules .start) rows
     pub same : (st : I .rules .Settings) (ts : List (Trial (I .rules))) (x : I .rules .Search) (rows other : ℕ → List ℕ) → SameBlocks rows other → Carried st ts x rows → Carried st ts x other
     pub movable : (fit : Fit) (p : Progress) (eta : Pair) (sums : Sums) → fit .effects ≡ effects → Movable (B.advanceBy fit p eta sums .sources)
-    pub steps : (fit : Fit) (p : Progress) (eta : Pair) (sums : Sums) → fit .effects ≡ effects → B.wantedBy fit p ≡ Wants.Point eta → (ts : List (Trial (I .rules))) (rows after : ℕ → List ℕ) (t : Trial (I .rules))
+    pub steps : (fit : Fit) (p : Progress) (eta : Pair) (sums : Sums) → fit .effects ≡ effects → B.wantedBy fit p ≡ Wants.Point eta → (ts : List (Trial (I .rules))) (rows after : ℕ → List ℕ)
+        (t : Trial (I .rules))
         → t .point ≡ I .conditionalOf fit eta sums → t .rows ≡ rows 3 → Moves (B.advanceBy fit p eta sums .sources) rows after → Carried (I .settingsOf fit p) ts (I .searchOf p) rows
         → Carried (I .settingsOf fit p) (ts ++ (t ∷ [])) (I .searchOf (B.advanceBy fit p eta sums .progress)) after
     pub ends : (fit : Fit) (p : Progress) → fit .effects ≡ effects → I .claims .Domain (I .settingsOf fit p) → B.wantedBy fit p ≡ Wants.Mode → (ts : List (Trial (I .rules))) (rows : ℕ → List ℕ)
@@ -97,10 +101,12 @@ one-mode fit best rows m =
     (λ t. cases (λ (c : Closed). c ≡ Positive m → OfMode inner1 reads1 m best) (le (one /ᶠ fit .omega +ᶠ best .information) (word 0)) (λ z q. absurd (not-positive q))
     (λ z q. subst (λ (x : Mode). OfMode inner1 reads1 x best) (same-mode q) (record { first = refl; second = zero-bits; nll = refl })))
 
-starts1 : (setup : Setup) (parameters : Parameters) (q : Progress) (warm : List ℕ) (i : ℕ) → setup .effects ≡ 1 → q .warm ≡ warmOf warm 1 i → B.settings (B.fitOf setup parameters) q ≡ reads1 .settings setup parameters warm i
+starts1 : (setup : Setup) (parameters : Parameters) (q : Progress) (warm : List ℕ) (i : ℕ) → setup .effects ≡ 1 → q .warm ≡ warmOf warm 1 i → B.settings
+    (B.fitOf setup parameters) q ≡ reads1 .settings setup parameters warm i
 unfolding etaTolerance B.fitOf B.fitWith B.settings withParameters warmOf pick
 starts1 setup parameters q warm i e v =
-    let fit = pick-no _ (B.fit2 (withParameters setup parameters) (parameters .theta)) (B.fitWith (withParameters setup parameters) (parameters .theta) B.noMatrix (word 0)) (ap (λ (n : ℕ). eqb n 2) e) in
+    let fit = pick-no _ (B.fit2 (withParameters setup parameters) (parameters .theta)) (B.fitWith (withParameters setup parameters) (parameters .theta) B.noMatrix (word 0))
+    (ap (λ (n : ℕ). eqb n 2) e) in
     let own = pick-yes _ (parameters .omega) (setup .omega00) (ap (λ (n : ℕ). eqb n 1) e) in
     ap (λ (f : Fit). B.settings f q) fit ∙ cc
 
@@ -123,13 +129,16 @@ mode-one (One.Point x) e = let z : _≡_ {A = ℕ} 0 1 = cc in absurd (omega ari
 mode-one One.Mode e = refl
 mode-one (One.Refused n) e = let z : _≡_ {A = ℕ} 0 1 = cc in absurd (omega arith)
 
-steps-one : (fit : Fit) (p : Progress) (eta : Pair) (sums : Sums) → fit .effects ≡ 1 → B.wantedBy fit p ≡ Wants.Point eta → (ts : List Trial1) (rows after : ℕ → List ℕ) (t : Trial1) → t .point ≡ B.conditional1 fit eta sums → t .rows ≡ rows 3
-    → Moves (B.advanceBy fit p eta sums .sources) rows after → Carried1 (B.settings fit p) ts (p .search) rows → Carried1 (B.settings fit p) (ts ++ (t ∷ [])) (B.advanceBy fit p eta sums .progress .search) after
+steps-one : (fit : Fit) (p : Progress) (eta : Pair) (sums : Sums) → fit .effects ≡ 1 → B.wantedBy fit p ≡ Wants.Point eta → (ts : List Trial1) (rows after : ℕ → List ℕ) (t : Trial1)
+    → t .point ≡ B.conditional1 fit eta sums → t .rows ≡ rows 3
+    → Moves (B.advanceBy fit p eta sums .sources) rows after → Carried1 (B.settings fit p) ts (p .search) rows → Carried1 (B.settings fit p) (ts ++ (t ∷ []))
+    (B.advanceBy fit p eta sums .progress .search) after
 unfolding B.advance1 B.withSearch B.conditional1
 steps-one fit p eta sums e w ts rows after t is own m h =
     let a = advance-one fit e p eta sums in
     let q = point-one (request (B.settings fit p) (p .search)) eta (sym (wanted-one fit e p) ∙ w) .0 in
-    let n : Moves (B.sources1 (p .search) (t .point)) rows after = subst (λ (c : Conditional). Moves (B.sources1 (p .search) c) rows after) (sym is) (subst (λ (x : Advanced). Moves (x .sources) rows after) a m) in
+    let n : Moves (B.sources1 (p .search) (t .point)) rows after = subst (λ (c : Conditional). Moves (B.sources1 (p .search) c) rows after) (sym is)
+    (subst (λ (x : Advanced). Moves (x .sources) rows after) a m) in
     subst (λ (x : Advanced). Carried1 (B.settings fit p) (ts ++ (t ∷ [])) (x .progress .search) after) (sym a)
     (subst (λ (c : Conditional). Carried1 (B.settings fit p) (ts ++ (t ∷ [])) (advance (B.settings fit p) (p .search) c) after) is
     (step1 (B.settings fit p) ts (p .search) rows after t own (eta .first) (ap (λ (c : Conditional). c .eta) is) q n h))
@@ -138,7 +147,8 @@ moves-one : (s : Settings) (p : Progress) (c : Conditional) → Movable (B.advan
 unfolding B.advance1
 moves-one s p c = movable1 (p .search) c
 
-adds-one : (setup : Setup) (parameters : Parameters) (p : Progress) (rows : ℕ) (m : Mode) → setup .effects ≡ 1 → isNoOmega (withParameters setup parameters) ≡ false → B.closedBy (B.fitOf setup parameters) p rows ≡ Positive m
+adds-one : (setup : Setup) (parameters : Parameters) (p : Progress) (rows : ℕ) (m : Mode) → setup .effects ≡ 1 → isNoOmega (withParameters setup parameters) ≡ false → B.closedBy
+    (B.fitOf setup parameters) p rows ≡ Positive m
     → m .term ≡ reads1 .term setup (B.settings (B.fitOf setup parameters) p) rows (p .search .best)
 unfolding B.closedBy B.settings
 adds-one setup parameters p rows m e o q =
@@ -183,7 +193,8 @@ unfolding B.fitBy B.fitWith B.settings2
 settings-by own theta q (inverted m det) = refl
 settings-by own theta q singular = refl
 
-starts2 : (setup : Setup) (parameters : Parameters) (q : Progress) (warm : List ℕ) (i : ℕ) → setup .effects ≡ 2 → q .warm ≡ warmOf warm 2 i → B.settings2 (B.fitOf setup parameters) q ≡ reads2 .settings setup parameters warm i
+starts2 : (setup : Setup) (parameters : Parameters) (q : Progress) (warm : List ℕ) (i : ℕ) → setup .effects ≡ 2 → q .warm ≡ warmOf warm 2 i → B.settings2
+    (B.fitOf setup parameters) q ≡ reads2 .settings setup parameters warm i
 unfolding B.fitOf B.fit2 withParameters warmOf pick
 starts2 setup parameters q warm i e v =
     let own = withParameters setup parameters in
@@ -204,14 +215,16 @@ det-is m i det e =
     cc
 
 -- the setup's omega has an inverse, and its determinant is in the fit
-det-omega : (setup : Setup) (parameters : Parameters) → setup .effects ≡ 2 → isNoOmega (withParameters setup parameters) ≡ false → B.fitOf setup parameters .«det_omega» ≡ determinant (omegaOf (withParameters setup parameters))
+det-omega : (setup : Setup) (parameters : Parameters) → setup .effects ≡ 2 → isNoOmega (withParameters setup parameters) ≡ false → B.fitOf setup parameters .«det_omega» ≡ determinant
+    (omegaOf (withParameters setup parameters))
 unfolding B.fitOf B.fit2 withParameters
 det-omega setup parameters e o =
     let own = withParameters setup parameters in
     let fit : B.fitOf setup parameters ≡ B.fitBy own (parameters .theta) (inversePositive (omegaOf own)) = pick-yes _ _ _ (eq-eqb _ _ e) in
     ap (λ (f : Fit). f .«det_omega») fit ∙ by own (inversePositive (omegaOf own)) refl (two-omega own e o .1 .1)
   where
-    by : (own : Setup) (i : Inverse) → inversePositive (omegaOf own) ≡ i → isNone (inversePositive (omegaOf own)) ≡ false → B.fitBy own (parameters .theta) (inversePositive (omegaOf own)) .«det_omega» ≡ determinant (omegaOf own)
+    by : (own : Setup) (i : Inverse) → inversePositive (omegaOf own) ≡ i → isNone (inversePositive (omegaOf own)) ≡ false → B.fitBy own (parameters .theta)
+        (inversePositive (omegaOf own)) .«det_omega» ≡ determinant (omegaOf own)
     by own singular q n = absurd (true-not-false (sym (ap isNone q) ∙ n))
     by own (inverted i det) q n = ap (λ (v : Inverse). B.fitBy own (parameters .theta) v .«det_omega») q ∙ unfold B.fitBy B.fitWith in sym (det-is (omegaOf own) i det q)
 
@@ -226,7 +239,8 @@ unfolding B.closedWith
 two-term fit best rows m singular q e = absurd (not-positive e)
 two-term fit best rows m (inverted i det) q e =
     sym (ap (λ (x : Mode). x .term) (same-mode e))
-    ∙ ap (λ (d : Float). two *ᶠ best .nll -ᶠ ofInt binary64 (pos rows) *ᶠ log2pi +ᶠ dot (pair (best .eta .first) (best .eta .second)) (product (B.precisionOf fit) (pair (best .eta .first) (best .eta .second)))
+    ∙ ap (λ (d : Float). two *ᶠ best .nll -ᶠ ofInt binary64 (pos rows) *ᶠ log2pi +ᶠ dot (pair (best .eta .first) (best .eta .second))
+    (product (B.precisionOf fit) (pair (best .eta .first) (best .eta .second)))
     +ᶠ log (fit .«det_omega» *ᶠ d)) (sym (det-is (B.curvatureOf fit best) i det q))
 
 -- what an objective's fit does with two effects
@@ -240,7 +254,8 @@ mode-two (Two.Point x) e = let z : _≡_ {A = ℕ} 0 1 = cc in absurd (omega ari
 mode-two Two.Mode e = refl
 mode-two (Two.Refused n) e = let z : _≡_ {A = ℕ} 0 1 = cc in absurd (omega arith)
 
-steps-two : (fit : Fit) (p : Progress) (eta : Pair) (sums : Sums) → fit .effects ≡ 2 → B.wantedBy fit p ≡ Wants.Point eta → (ts : List Trial2) (rows after : ℕ → List ℕ) (t : Trial2) → t .point ≡ B.conditional2 eta sums → t .rows ≡ rows 3
+steps-two : (fit : Fit) (p : Progress) (eta : Pair) (sums : Sums) → fit .effects ≡ 2 → B.wantedBy fit p ≡ Wants.Point eta → (ts : List Trial2) (rows after : ℕ → List ℕ) (t : Trial2)
+    → t .point ≡ B.conditional2 eta sums → t .rows ≡ rows 3
     → Moves (B.advanceBy fit p eta sums .sources) rows after → Carried2 ts (p .«search_2d») rows → Carried2 (ts ++ (t ∷ [])) (B.advanceBy fit p eta sums .progress .«search_2d») after
 unfolding B.advance2 B.withSearch B.conditional2
 steps-two fit p eta sums e w ts rows after t is own m h =
@@ -253,7 +268,8 @@ steps-two fit p eta sums e w ts rows after t is own m h =
     subst (λ (v : Advanced). Carried2 (ts ++ (t ∷ [])) (v .progress .«search_2d») after) (sym a)
     (subst (λ (c : Conditional2). Carried2 (ts ++ (t ∷ [])) (R2.advance s x c) after) is (step2 s ts x rows t own after eta (ap (λ (c : Conditional2). c .eta) is) q n h))
 
-adds-two : (setup : Setup) (parameters : Parameters) (p : Progress) (rows : ℕ) (m : Mode) → setup .effects ≡ 2 → isNoOmega (withParameters setup parameters) ≡ false → B.closedBy (B.fitOf setup parameters) p rows ≡ Positive m
+adds-two : (setup : Setup) (parameters : Parameters) (p : Progress) (rows : ℕ) (m : Mode) → setup .effects ≡ 2 → isNoOmega (withParameters setup parameters) ≡ false → B.closedBy
+    (B.fitOf setup parameters) p rows ≡ Positive m
     → m .term ≡ reads2 .term setup (B.settings2 (B.fitOf setup parameters) p) rows (p .«search_2d» .best)
 unfolding B.closedBy B.closed2 B.settings2 dot product determinant
 adds-two setup parameters p rows m e o q =
@@ -261,7 +277,8 @@ adds-two setup parameters p rows m e o q =
     let best = p .«search_2d» .best in
     let d = det-omega setup parameters e o ∙ ap determinant (same-omega setup parameters e) in
     two-term fit best rows m (inversePositive (B.curvatureOf fit best)) refl (sym (pick-yes _ _ _ (is-two fit (fit-effects setup parameters ∙ e))) ∙ q)
-    ∙ ap (λ (x : Float). two *ᶠ best .nll -ᶠ ofInt binary64 (pos rows) *ᶠ log2pi +ᶠ dot (pair (best .eta .first) (best .eta .second)) (product (B.precisionOf fit) (pair (best .eta .first) (best .eta .second)))
+    ∙ ap (λ (x : Float). two *ᶠ best .nll -ᶠ ofInt binary64 (pos rows) *ᶠ log2pi +ᶠ dot (pair (best .eta .first) (best .eta .second))
+    (product (B.precisionOf fit) (pair (best .eta .first) (best .eta .second)))
     +ᶠ log (x *ᶠ determinant (B.curvatureOf fit best))) d
 
 moves-two : (s : Settings2) (p : Progress) (c : Conditional2) → Movable (B.advance2 s p c .sources)
@@ -274,8 +291,10 @@ tells2 = record {
   starts = starts2;
   modes = λ fit p rows m e q. with-mode fit (p .«search_2d» .best) rows m (inversePositive (B.curvatureOf fit (p .«search_2d» .best))) (sym (pick-yes _ _ _ (eq-eqb _ _ e)) ∙ q);
   stores = λ j m b warm o l. (
-    getD-set-other (set warm (2 * j) (toBits binary64 (m .eta .first))) (2 * j + 1) (2 * j) (toBits binary64 (m .eta .second)) 0 (λ e. omega (arith, e)) ∙ getD-set-same warm (2 * j) (toBits binary64 (m .eta .first)) 0 (omega (arith, l)) ∙ o .first,
-    getD-set-same (set warm (2 * j) (toBits binary64 (m .eta .first))) (2 * j + 1) (toBits binary64 (m .eta .second)) 0 (let n = length-set warm (2 * j) (toBits binary64 (m .eta .first)) in omega (arith, l, n)) ∙ o .second,
+    getD-set-other (set warm (2 * j) (toBits binary64 (m .eta .first))) (2 * j + 1) (2 * j) (toBits binary64 (m .eta .second)) 0 (λ e. omega (arith, e)) ∙ getD-set-same warm (2 * j)
+        (toBits binary64 (m .eta .first)) 0 (omega (arith, l)) ∙ o .first,
+    getD-set-same (set warm (2 * j) (toBits binary64 (m .eta .first))) (2 * j + 1) (toBits binary64 (m .eta .second)) 0
+        (let n = length-set warm (2 * j) (toBits binary64 (m .eta .first)) in omega (arith, l, n)) ∙ o .second,
   );
   others = λ setup parameters i j d eta warm. let a = two-others i j d eta warm in let x = a .0 in let y = a .1 in cc;
   stays = λ i j d eta warm b h. let a = two-others i j d eta warm in (a .0 ∙ h .0, a .1 ∙ h .1);

@@ -47,7 +47,8 @@ module _ (at : ℕ) (work : List ℕ) (rows : ℕ) where
       let one = set results (at + 2 * i) a in
       let m = length-set results (at + 2 * i) a in
       record {
-        population = fitted-behind n at work rows (i + 1) _ (at + 2 * i) (omega arith) ∙ getD-set-other one (at + 2 * i + 1) (at + 2 * i) b 0 (λ e. omega (arith, e)) ∙ getD-set-same results (at + 2 * i) a 0 (omega (arith, l));
+        population = fitted-behind n at work rows (i + 1) _ (at + 2 * i) (omega arith) ∙ getD-set-other one (at + 2 * i + 1) (at + 2 * i) b 0 (λ e. omega (arith, e)) ∙ getD-set-same results
+            (at + 2 * i) a 0 (omega (arith, l));
         individual = fitted-behind n at work rows (i + 1) _ (at + 2 * i + 1) (omega arith) ∙ getD-set-same one (at + 2 * i + 1) b 0 (omega (arith, l, m));
       }
 
@@ -83,19 +84,22 @@ module _ (subjects first : ℕ) (work : List ℕ) (rows : ℕ) (m : subjects ≤
   unfolding resultWritten
   result-kept x l o =
       result-behind x l
-      ∙ getD-set-other (set (set results (3 * j) a) (3 * j + 1) b) (3 * j + 2) x (toBits binary64 nll) 0 (λ e. ⊎-elim (λ (c : x < 3 * j). omega (arith, c, e)) (λ (c : 3 * j + 3 ≤ x). omega (arith, c, e)) o)
+      ∙ getD-set-other (set (set results (3 * j) a) (3 * j + 1) b) (3 * j + 2) x (toBits binary64 nll) 0
+      (λ e. ⊎-elim (λ (c : x < 3 * j). omega (arith, c, e)) (λ (c : 3 * j + 3 ≤ x). omega (arith, c, e)) o)
       ∙ past-two results (3 * j) (3 * j + 1) a b x (λ e. ⊎-elim (λ (c : x < 3 * j). omega (arith, c, e)) (λ (c : 3 * j + 3 ≤ x). omega (arith, c, e)) o)
       (λ e. ⊎-elim (λ (c : x < 3 * j). omega (arith, c, e)) (λ (c : 3 * j + 3 ≤ x). omega (arith, c, e)) o)
 
   module _ (inside : j < subjects) (lent : 3 * subjects + 2 * (first + rows) ≤ length results) where
     pub first-written : getD after (3 * j) 0 ≡ a
     unfolding resultWritten
-    first-written = result-behind (3 * j) (omega (arith, inside)) ∙ past-two (set results (3 * j) a) (3 * j + 1) (3 * j + 2) b (toBits binary64 nll) (3 * j) (λ e. omega (arith, e)) (λ e. omega (arith, e))
+    first-written = result-behind (3 * j) (omega (arith, inside)) ∙ past-two (set results (3 * j) a) (3 * j + 1) (3 * j + 2) b (toBits binary64 nll) (3 * j) (λ e. omega (arith, e))
+        (λ e. omega (arith, e))
         ∙ getD-set-same results (3 * j) a 0 (omega (arith, inside, lent))
 
     pub second-written : getD after (3 * j + 1) 0 ≡ b
     unfolding resultWritten
-    second-written = result-behind (3 * j + 1) (omega (arith, inside)) ∙ getD-set-other (set (set results (3 * j) a) (3 * j + 1) b) (3 * j + 2) (3 * j + 1) (toBits binary64 nll) 0 (λ e. omega (arith, e))
+    second-written = result-behind (3 * j + 1) (omega (arith, inside)) ∙ getD-set-other (set (set results (3 * j) a) (3 * j + 1) b) (3 * j + 2) (3 * j + 1) (toBits binary64 nll) 0
+        (λ e. omega (arith, e))
         ∙ getD-set-same (set results (3 * j) a) (3 * j + 1) b 0 (let n = length-set results (3 * j) a in omega (arith, inside, lent, n))
 
     pub nll-written : getD after (3 * j + 2) 0 ≡ toBits binary64 nll
@@ -114,7 +118,8 @@ module _ (subjects first : ℕ) (work : List ℕ) (rows : ℕ) (m : subjects ≤
         let all : 100000 - (100000 - rows) ≡ rows = omega (arith, small) in
         let n = own-length in
         subst (λ (p : ℕ). Predicted p work rows k (fittedFrom (100000 - (100000 - rows)) (fittedAt subjects first) work rows 0 (resultWritten j eta nll results))) at-is
-        (subst (λ (i : ℕ). Predicted (fittedAt subjects first) work rows i (fittedFrom (100000 - (100000 - rows)) (fittedAt subjects first) work rows 0 (resultWritten j eta nll results))) (let e : 0 + k ≡ k = omega arith in e)
+        (subst (λ (i : ℕ). Predicted (fittedAt subjects first) work rows i (fittedFrom (100000 - (100000 - rows)) (fittedAt subjects first) work rows 0 (resultWritten j eta nll results)))
+        (let e : 0 + k ≡ k = omega arith in e)
         (fitted-in (fittedAt subjects first) work rows (100000 - (100000 - rows)) 0 (resultWritten j eta nll results) (let p = at-is in omega (arith, p, all, lent, n)) k (omega (arith, l, all))))
 
 -- ---- 17: of each row, the times as floats and the sides
@@ -165,4 +170,5 @@ module _ (work : List ℕ) (rows : ℕ) where
 
   pub grid-other : rows ≤ 100000 → isSameGrid work rows ≡ false → ((k : ℕ) → k < rows → SameAt k) → ⊥
   unfolding isSameGrid
-  grid-other small e f = true-not-false (sym (all-same _ 0 (λ d l. subst SameAt (let z : d ≡ 0 + d = omega arith in z) (f d (let all : 100000 - (100000 - rows) ≡ rows = omega (arith, small) in omega (arith, l, all))))) ∙ e)
+  grid-other small e f = true-not-false (sym
+      (all-same _ 0 (λ d l. subst SameAt (let z : d ≡ 0 + d = omega arith in z) (f d (let all : 100000 - (100000 - rows) ≡ rows = omega (arith, small) in omega (arith, l, all))))) ∙ e)

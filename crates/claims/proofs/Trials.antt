@@ -60,7 +60,8 @@ module _ (R : Rules) where
   has-last : (ts : List (Trial R)) (t : Trial R) (c : R .Conditional) (rows : List ℕ) → t .point ≡ c → t .rows ≡ rows → Has (ts ++ (t ∷ [])) c rows
   has-last ts t c rows p r = record { trial = t; tried = Memᴰ·append-right ts (List·Memᴰ·head refl); point-is = p; rows-are = r }
 
-  has-pick : (ts : List (Trial R)) (z : Bool) {p q : R .Conditional} (rows : ℕ → List ℕ) (i j : ℕ) → (z ≡ true → Has ts p (rows i)) → (z ≡ false → Has ts q (rows j)) → Has ts (pick z p q) (rows (pick z i j))
+  has-pick : (ts : List (Trial R)) (z : Bool) {p q : R .Conditional} (rows : ℕ → List ℕ) (i j : ℕ) → (z ≡ true → Has ts p (rows i)) → (z ≡ false → Has ts q (rows j)) → Has ts (pick z p q)
+      (rows (pick z i j))
   unfolding pick
   has-pick ts true rows i j f g = f refl
   has-pick ts false rows i j f g = g refl
@@ -231,7 +232,8 @@ module _ (s : Settings) (ts : List Trial1) (x : Search) (rows after : ℕ → Li
     rested : Rises (x .left) (x .right) 1
     rested q = ⊎-elim
         (λ (l : x .count < 1). absurd (nothing-yet (h .begun (omega (arith, l)))))
-        (λ (l : 1 ≤ x .count). ⊎-elim (λ (f : lt nought (x .first) ≡ true). inl (subst (λ (v : Float). lt nought v ≡ true) (sym (first-is l)) f)) (λ (f : Has rules1 ts (closest (x .left) (x .right)) (rows 1)). inr (has-more rules1 t f)) (h .best q))
+        (λ (l : 1 ≤ x .count). ⊎-elim (λ (f : lt nought (x .first) ≡ true). inl (subst (λ (v : Float). lt nought v ≡ true) (sym (first-is l)) f))
+        (λ (f : Has rules1 ts (closest (x .left) (x .right)) (rows 1)). inr (has-more rules1 t f)) (h .best q))
         (split (x .count) 1)
       where
         nothing-yet : x ≡ R1.start → ⊥
@@ -258,12 +260,14 @@ module _ (s : Settings) (ts : List Trial1) (x : Search) (rows after : ℕ → Li
     }
 
   -- the cell is entered
-  enters : (y : Search) → y .stage ≡ Grid → (17 ≤ y .count) → le nought (y .first) ≡ false → isAbove (y .right) ≡ true → OnGrid s us y after → CarriedAt (R1.firstStage s (y .left) (y .right)) s us (R1.entered s y) after
+  enters : (y : Search) → y .stage ≡ Grid → (17 ≤ y .count) → le nought (y .first) ≡ false → isAbove (y .right) ≡ true → OnGrid s us y after → CarriedAt
+      (R1.firstStage s (y .left) (y .right)) s us (R1.entered s y) after
   unfolding R1.firstStage R1.entered
   enters y g l n r o =
       let p : Past s us (R1.entered s y) after = record {
         zero = o .zero (omega (arith, l));
-        best = ⊎-elim (λ (f : lt nought (y .first) ≡ true). absurd (subst T n (lt→le nought (y .first) (subst T (sym f) tt)))) (λ (f : Has rules1 us (closest (y .left) (y .right)) (after 1)). f) (o .best r);
+        best = ⊎-elim (λ (f : lt nought (y .first) ≡ true). absurd (subst T n (lt→le nought (y .first) (subst T (sym f) tt))))
+            (λ (f : Has rules1 us (closest (y .left) (y .right)) (after 1)). f) (o .best r);
       } in
       both (λ (st : Stage). CarriedAt st s us (R1.entered s y) after) _ (both (λ (st : Stage). CarriedAt st s us (R1.entered s y) after) _ p p) p
 
@@ -298,7 +302,8 @@ module _ (s : Settings) (ts : List Trial1) (x : Search) (rows after : ℕ → Li
       same-point e = cc
 
       no-point : pick (le nought (x .first)) (One.Refused 13) (pick (isUnder (x .latest)) (One.Refused 13) (One.Refused 14)) ≡ One.Point p → ⊥
-      no-point = both (λ (r : _). r ≡ One.Point p → ⊥) _ (λ e. let z : _≡_ {A = ℕ} 0 1 = cc in omega arith) (both (λ (r : _). r ≡ One.Point p → ⊥) _ (λ e. let z : _≡_ {A = ℕ} 0 1 = cc in omega arith) (λ e. let z : _≡_ {A = ℕ} 0 1 = cc in omega arith))
+      no-point = both (λ (r : _). r ≡ One.Point p → ⊥) _ (λ e. let z : _≡_ {A = ℕ} 0 1 = cc in omega arith)
+          (both (λ (r : _). r ≡ One.Point p → ⊥) _ (λ e. let z : _≡_ {A = ℕ} 0 1 = cc in omega arith) (λ e. let z : _≡_ {A = ℕ} 0 1 = cc in omega arith))
   asked-on Warm p e q m h = tries m h Secant 0
   asked-on Secant p e q m h = both (λ (z : Search). Carried1 s us z after) (ltb (x .count) 15) (tries m h Secant (x .count + 1)) (tries m h Halving 0)
   asked-on Halving p e q m h = cases (λ (z : Search). Carried1 s us z after) (ltb (x .count) 48) (λ _. tries m h Halving (x .count + 1)) (λ l. absurd (no-point l))
@@ -315,12 +320,14 @@ module _ (s : Settings) (ts : List Trial1) (x : Search) (rows after : ℕ → Li
 ends-at : (st : Stage) (s : Settings) (ts : List Trial1) (x : Search) (rows : ℕ → List ℕ) → R1.requestAt st s x ≡ One.Mode → CarriedAt st s ts x rows → Past s ts x rows
 unfolding R1.requestAt
 ends-at Grid s ts x rows q h = absurd (both (λ (r : _). r ≡ One.Mode → ⊥) _ (λ e. let z : _≡_ {A = ℕ} 0 1 = cc in omega arith)
-    (both (λ (r : _). r ≡ One.Mode → ⊥) _ (λ e. let z : _≡_ {A = ℕ} 0 1 = cc in omega arith) (both (λ (r : _). r ≡ One.Mode → ⊥) _ (λ e. let z : _≡_ {A = ℕ} 0 1 = cc in omega arith) (λ e. let z : _≡_ {A = ℕ} 0 1 = cc in omega arith))) q)
+    (both (λ (r : _). r ≡ One.Mode → ⊥) _ (λ e. let z : _≡_ {A = ℕ} 0 1 = cc in omega arith)
+    (both (λ (r : _). r ≡ One.Mode → ⊥) _ (λ e. let z : _≡_ {A = ℕ} 0 1 = cc in omega arith) (λ e. let z : _≡_ {A = ℕ} 0 1 = cc in omega arith))) q)
 ends-at Warm s ts x rows q h = h
 ends-at Secant s ts x rows q h = h
 ends-at Halving s ts x rows q h = h
 
-pub end1 : (s : Settings) (ts : List Trial1) (x : Search) (rows : ℕ → List ℕ) → R1.request s x ≡ One.Mode → Carried1 s ts x rows → NthHas rules1 (Middle s) 8 ts (rows 0) × Has rules1 ts (x .best) (rows 1)
+pub end1 : (s : Settings) (ts : List Trial1) (x : Search) (rows : ℕ → List ℕ) → R1.request s x ≡ One.Mode → Carried1 s ts x rows → NthHas rules1 (Middle s) 8 ts (rows 0) × Has rules1 ts
+    (x .best) (rows 1)
 end1 s ts x rows q h = let p = ends-at (x .stage) s ts x rows q h in (p .zero, p .best)
 
 -- ---- two effects
@@ -421,7 +428,8 @@ module _ (s : Settings2) (x : Search2) (ts : List Trial2) (z r old : List ℕ) (
   trying : (round reduction : ℕ) (step : NewtonStep) (trial : Pair) → Next (R2.trying (x .seed) round reduction c (x .best) step trial)
   unfolding R2.trying B.isNewBest
   trying round reduction step trial =
-      subst (λ (t : Bool). Between2 ts (R2.trying (x .seed) round reduction c (x .best) step trial) z (pick t r old) × Has rules2 ts c r) (sym (pick-no _ _ false (le-ltb (x .seed) (x .seed) (omega arith))))
+      subst (λ (t : Bool). Between2 ts (R2.trying (x .seed) round reduction c (x .best) step trial) z (pick t r old) × Has rules2 ts c r)
+      (sym (pick-no _ _ false (le-ltb (x .seed) (x .seed) (omega arith))))
       (unfold pick in (record { seed = seed-in; zero = at-zero; best = had }, has))
 
   tries-next : (round from : ℕ) (step : NewtonStep) → Next (R2.tryFrom s (x .seed) round from c (x .best) step)
@@ -501,7 +509,8 @@ module _ (s : Settings2) (ts : List Trial2) (x : Search2) (rows : ℕ → List �
   asked-on2 S2.Found p e q h = absurd (let z : _≡_ {A = ℕ} 0 1 = cc in omega arith)
   asked-on2 (S2.Halted n) p e q h = absurd (let z : _≡_ {A = ℕ} 0 1 = cc in omega arith)
 
-  pub step2 : (after : ℕ → List ℕ) (p : Pair) → c2 .eta ≡ p → R2.request s x ≡ Two.Point p → Moves (B.sources2 s x (R2.advance s x c2) c2) rows after → Carried2 ts x rows → Carried2 us2 (R2.advance s x c2) after
+  pub step2 : (after : ℕ → List ℕ) (p : Pair) → c2 .eta ≡ p → R2.request s x ≡ Two.Point p → Moves (B.sources2 s x (R2.advance s x c2) c2) rows after → Carried2 ts x rows → Carried2 us2
+      (R2.advance s x c2) after
   unfolding B.sources2 B.currentSource B.populationSource
   step2 after p is q m h =
       let y = R2.advance s x c2 in
@@ -512,7 +521,8 @@ module _ (s : Settings2) (ts : List Trial2) (x : Search2) (rows : ℕ → List �
       (subst (λ (v : List ℕ). CarriedAt2 (y .stage) us2 y v (pick (B.isNewBest s x y) (rows k) (rows 1)) (rows k)) (sym (m .zero)) (asked-on2 (x .stage) p is q h)))
 
 -- ---- a mode
-ends-at2 : (st : Stage2) (s : Settings2) (ts : List Trial2) (x : Search2) (rows : ℕ → List ℕ) → R2.requestAt st s x ≡ Two.Mode → CarriedAt2 st ts x (rows 0) (rows 1) (rows 2) → Found2 ts x (rows 0) (rows 1)
+ends-at2 : (st : Stage2) (s : Settings2) (ts : List Trial2) (x : Search2) (rows : ℕ → List ℕ) → R2.requestAt st s x ≡ Two.Mode → CarriedAt2 st ts x (rows 0) (rows 1) (rows 2) → Found2 ts x
+    (rows 0) (rows 1)
 unfolding R2.requestAt
 ends-at2 S2.Zero s ts x rows q h = absurd (let z : _≡_ {A = ℕ} 0 1 = cc in omega arith)
 ends-at2 S2.Start s ts x rows q h = absurd (let z : _≡_ {A = ℕ} 0 1 = cc in omega arith)
@@ -520,5 +530,6 @@ ends-at2 S2.Trial s ts x rows q h = absurd (let z : _≡_ {A = ℕ} 0 1 = cc in 
 ends-at2 S2.Found s ts x rows q h = h
 ends-at2 (S2.Halted n) s ts x rows q h = absurd (let z : _≡_ {A = ℕ} 0 1 = cc in omega arith)
 
-pub end2 : (s : Settings2) (ts : List Trial2) (x : Search2) (rows : ℕ → List ℕ) → R2.request s x ≡ Two.Mode → Carried2 ts x rows → NthHas rules2 Nowhere 0 ts (rows 0) × Has rules2 ts (x .best) (rows 1)
+pub end2 : (s : Settings2) (ts : List Trial2) (x : Search2) (rows : ℕ → List ℕ) → R2.request s x ≡ Two.Mode → Carried2 ts x rows → NthHas rules2 Nowhere 0 ts (rows 0) × Has rules2 ts
+    (x .best) (rows 1)
 end2 s ts x rows q h = let p = ends-at2 (x .stage) s ts x rows q h in (p .zero, p .best)

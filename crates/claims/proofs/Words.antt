@@ -77,7 +77,12 @@ module _ (R : Rules) (K : Claims R) (M : Machine) (Y : View R M) (Sound : M .Sta
       unfolding Stood
       stood-on s t k zero l xs h = tt
       stood-on s t k (suc n) l [] h = h
-      stood-on s t k (suc n) l (x ∷ xs) h = (h .0, (h .1 .0, h .1 .1, k .before x (h .1 .0) (subst (λ (i : ℕ). i < Y .subject s) (sym (h .0)) l) (h .1 .2)), stood-on s t k n (omega (arith, l)) xs (h .2))
+      stood-on s t k (suc n) l (x ∷ xs) h = (
+        h .0,
+        (h .1 .0, h .1 .1, k .before x (h .1 .0) (subst (λ (i : ℕ). i < Y .subject s) (sym (h .0)) l) (h .1 .2)),
+        stood-on s t k n
+            (omega (arith, l)) xs (h .2),
+      )
 
       -- the search x is the one that the state s is at, in the objective o
       record Now (o : Objective R M Y) (s : M .State) (x : Searched R) (xs : List (Searched R)) : Type 0 where
@@ -106,7 +111,8 @@ module _ (R : Rules) (K : Claims R) (M : Machine) (Y : View R M) (Sound : M .Sta
       never e q = absurd (let z : _≡_ {A = ℕ} 0 1 = cc in omega arith)
 
       -- the same search, after an entry of the log
-      now-on : (o : Objective R M Y) (s t : M .State) (x y : Searched R) (xs : List (Searched R)) → Keeps s t → Y .subject t ≡ Y .subject s → value t ≡ value s → Of y t → y .end ≡ x .end → Now o s x xs → Now o t y xs
+      now-on : (o : Objective R M Y) (s t : M .State) (x y : Searched R) (xs : List (Searched R)) → Keeps s t → Y .subject t ≡ Y .subject s → value t ≡ value s → Of y t → y .end ≡ x .end
+          → Now o s x xs → Now o t y xs
       now-on o s t x y xs k e v i b u = record {
         is = i;
         running = b ∙ u .running;
@@ -122,7 +128,8 @@ module _ (R : Rules) (K : Claims R) (M : Machine) (Y : View R M) (Sound : M .Sta
       got s t x d e f c i = record { number = i .number ∙ sym e; settings = i .settings ∙ sym f; carries = c .1 (x .trials) (i .carries) }
 
       -- a refusal before the mode
-      refuses : (o : Objective R M Y) (s t : M .State) (a : M .Answer) (x y : Searched R) (xs : List (Searched R)) (n : ℕ) → Keeps s t → y .subject ≡ x .subject → y .end ≡ stop n (x .end) → Now o s x xs → Left R M Y X a (refused n) t (y ∷ xs)
+      refuses : (o : Objective R M Y) (s t : M .State) (a : M .Answer) (x y : Searched R) (xs : List (Searched R)) (n : ℕ) → Keeps s t → y .subject ≡ x .subject → y .end ≡ stop n (x .end)
+          → Now o s x xs → Left R M Y X a (refused n) t (y ∷ xs)
       refuses o s t a x y xs n k e b u =
           (subst (λ (i : ℕ). Stood R M Y X t i xs) (sym (e ∙ u .is .number)) (stood-on s t k (Y .subject s) (omega arith) xs (u .earlier)), λ m q. absurd (no-mode n (x .end) (u .running) (sym b ∙ q)))
 
@@ -151,11 +158,13 @@ module _ (R : Rules) (K : Claims R) (M : Machine) (Y : View R M) (Sound : M .Sta
           subst (λ (i : ℕ). Stood R M Y X t i xs) (sym (u .is .number)) (stood-on s t kept (Y .subject s) (omega arith) xs (u .earlier)),
           λ m q.
               let same : m₀ ≡ m = cc in
-              subst (λ (c : R .Conditional). X .Remains n (told R done (Refused n)) c t) same (v (told R done (Refused n)) (record { number = u .is .number; settings = u .is .settings; carries = u .is .carries })),
+              subst (λ (c : R .Conditional). X .Remains n (told R done (Refused n)) c t) same
+              (v (told R done (Refused n)) (record { number = u .is .number; settings = u .is .settings; carries = u .is .carries })),
         )
 
         -- a question, counted or not
-        asks : (p : R .Point) (a : M .Answer) (t : M .State) → E t → Y .means a ≡ asked p → Keeps s t → Y .subject t ≡ Y .subject s → Y .settings t ≡ Y .settings s → M .awaits t ≡ true → Carried s (Y .kept s p) (halt a t)
+        asks : (p : R .Point) (a : M .Answer) (t : M .State) → E t → Y .means a ≡ asked p → Keeps s t → Y .subject t ≡ Y .subject s → Y .settings t ≡ Y .settings s → M .awaits t ≡ true
+            → Carried s (Y .kept s p) (halt a t)
             → Done o (x ∷ xs) (record { answer = a; state = t }) (Ask p ∷ ((raise R M Y (Y .evaluations s) (Y .evaluations t) ++ []) ++ []))
         unfolding read Carried
         asks p a t h w kept e f aw c =
@@ -171,16 +180,24 @@ module _ (R : Rules) (K : Claims R) (M : Machine) (Y : View R M) (Sound : M .Sta
             → Done o (x ∷ xs) (record { answer = a; state = t }) (Ask p ∷ ((raise R M Y (Y .evaluations s) (Y .evaluations t) ++ (Refused n ∷ [])) ++ []))
         unfolding read
         barely p a t n h w kept idle = both (λ (c : List (Entry R)). Done o (x ∷ xs) (record { answer = a; state = t }) (Ask p ∷ ((c ++ (Refused n ∷ [])) ++ []))) _
-            (record { holds = h; settles = more tt (more tt (more tt none)); leaves = rw w (refuses o s t a x (told R (told R (told R x (Ask p)) (Count (Y .evaluations t))) (Refused n)) xs n kept refl refl u); waits = λ q. never idle q })
+            (record {
+              holds = h;
+              settles = more tt (more tt (more tt none));
+              leaves = rw w
+                  (refuses o s t a x (told R (told R (told R x (Ask p)) (Count (Y .evaluations t))) (Refused n)) xs n kept refl refl u);
+              waits = λ q. never idle q;
+            })
             (record { holds = h; settles = more tt (more tt none); leaves = rw w (refuses o s t a x (told R (told R x (Ask p)) (Refused n)) xs n kept refl refl u); waits = λ q. never idle q })
 
-        turned : {m : Move M} → Turn R K M Y Sound s m → After E m → After (Keeps s) m → ((p : R .Point) → wantedAt R M Y s ≡ point p → Carried s (Y .kept s p) m) → (wantedAt R M Y s ≡ mode → Closes s m)
+        turned : {m : Move M} → Turn R K M Y Sound s m → After E m → After (Keeps s) m → ((p : R .Point) → wantedAt R M Y s ≡ point p → Carried s (Y .kept s p) m) →
+            (wantedAt R M Y s ≡ mode → Closes s m)
             → Done o (x ∷ xs) (onward m k) (turn-log R M Y s m ++ goes-on m l)
         unfolding After Carried Closes read onward goes-on turn-log
         turned (hit {p} {t} e h a) i kept c z =
             let b = c p e in
             let f = a .kept .subject in
-            let v = now-on o s t x (told R (told R x (Ask p)) (Got (Y .kept s p))) xs kept f (b .0) (got s t (told R x (Ask p)) (Y .kept s p) f (a .kept .settings) b (record { number = u .is .number; settings = u .is .settings; carries = u .is .carries })) refl u in
+            let v = now-on o s t x (told R (told R x (Ask p)) (Got (Y .kept s p))) xs kept f (b .0)
+            (got s t (told R x (Ask p)) (Y .kept s p) f (a .kept .settings) b (record { number = u .is .number; settings = u .is .settings; carries = u .is .carries })) refl u in
             let d = go o t (told R (told R x (Ask p)) (Got (Y .kept s p))) xs i v in
             rw e (record { holds = d .holds; settles = more tt (more tt (d .settles)); leaves = d .leaves; waits = d .waits })
         turned (short {p} {a} {t} {n} e w b v) i kept c z = rw (e, w) (barely p a t n i w kept (v .idle))
@@ -200,11 +217,13 @@ module _ (R : Rules) (K : Claims R) (M : Machine) (Y : View R M) (Sound : M .Sta
             let d = go o t _ _ i v in
             rw e (record {
               holds = d .holds;
-              settles = more tt (more (subst (λ (n : ℕ). X .Settles (o .call) (o .state) n (Y .settings t)) (sym (b .subject)) (subst (X .Settles (o .call) (o .state) (suc (Y .subject s))) (sym (q .1)) (u .later (suc (Y .subject s)) (omega arith)))) (d .settles));
+              settles = more tt (more (subst (λ (n : ℕ). X .Settles (o .call) (o .state) n (Y .settings t)) (sym (b .subject))
+                  (subst (X .Settles (o .call) (o .state) (suc (Y .subject s))) (sym (q .1)) (u .later (suc (Y .subject s)) (omega arith)))) (d .settles));
               leaves = d .leaves;
               waits = d .waits;
             })
-        turned (barred {a} {t} {n} e w v) i kept c z = rw (e, w) (record { holds = i; settles = more tt (more tt none); leaves = rw w (remained n a t kept (z e .1 n w)); waits = λ q. never (v .idle) q })
+        turned (barred {a} {t} {n} e w v) i kept c z = rw (e, w)
+            (record { holds = i; settles = more tt (more tt none); leaves = rw w (remained n a t kept (z e .1 n w)); waits = λ q. never (v .idle) q })
         turned (last {a} {t} e w j v) i kept c z =
             let r = z e .0 w done is-done in
             rw (e, w) (record {
@@ -216,7 +235,8 @@ module _ (R : Rules) (K : Claims R) (M : Machine) (Y : View R M) (Sound : M .Sta
               );
               waits = λ q. never (v .idle) q;
             })
-        turned (fails {a} {t} {n} e w v) i kept c z = rw e (record { holds = i; settles = more tt none; leaves = rw w (refuses o s t a x (told R x (Refused n)) xs n kept refl refl u); waits = λ q. never (v .idle) q })
+        turned (fails {a} {t} {n} e w v) i kept c z = rw e
+            (record { holds = i; settles = more tt none; leaves = rw w (refuses o s t a x (told R x (Refused n)) xs n kept refl refl u); waits = λ q. never (v .idle) q })
 
       loops : (n : ℕ) → Goes (λ t. loop (M .turn) (M .spent) n t) (λ t. loop-log R M Y n t)
       unfolding loop loop-log read
@@ -226,7 +246,8 @@ module _ (R : Rules) (K : Claims R) (M : Machine) (Y : View R M) (Sound : M .Sta
         leaves = rw (F .spent .1) (subst (λ (i : ℕ). Stood R M Y X s i xs) (sym (u .is .number)) (u .earlier), λ m q. let r = u .running in let z : _≡_ {A = ℕ} 0 1 = cc in absurd (omega arith));
         waits = λ q. u;
       }
-      loops (suc n) o s x xs h u = turned (λ t. loop (M .turn) (M .spent) n t) (λ t. loop-log R M Y n t) (loops n) o s x xs u (W .turns s (F .sound s h) (F .inside s h)) (F .turns-hold s h) (F .turns-keep s h) (F .turns-carry s h) (F .turns-close s h)
+      loops (suc n) o s x xs h u = turned (λ t. loop (M .turn) (M .spent) n t) (λ t. loop-log R M Y n t) (loops n) o s x xs u (W .turns s (F .sound s h) (F .inside s h)) (F .turns-hold s h)
+          (F .turns-keep s h) (F .turns-carry s h) (F .turns-close s h)
 
       -- ---- a call
       record Called (o : Objective R M Y) (s : M .State) (xs : List (Searched R)) (r : Outcome M) (l : List (Entry R)) : Type 0 where
@@ -267,15 +288,23 @@ module _ (R : Rules) (K : Claims R) (M : Machine) (Y : View R M) (Sound : M .Sta
             let r = loops (M .fuel) now t _ xs i u in
             record {
               holds = r .holds;
-              settles = more (subst (λ (j : ℕ). X .Settles (now .call) (now .state) j (Y .settings t)) (sym e) (subst (λ (g : Objective R M Y). X .Settles (g .call) (g .state) 0 (Y .settings t)) (sym (new w)) (q .0))) (r .settles);
+              settles = more (subst (λ (j : ℕ). X .Settles (now .call) (now .state) j (Y .settings t)) (sym e)
+                  (subst (λ (g : Objective R M Y). X .Settles (g .call) (g .state) 0 (Y .settings t)) (sym (new w)) (q .0))) (r .settles);
               leaves = inr (r .leaves);
               waits = r .waits;
             }
 
-        ends : (a : M .Answer) (t : M .State) (j : ℕ) (xs : List (Searched R)) → E t → Y .means a ≡ refused j → Keeps s t → M .awaits t ≡ false → Waiting now s xs → Called now s xs (record { answer = a; state = t }) (Refused j ∷ [])
+        ends : (a : M .Answer) (t : M .State) (j : ℕ) (xs : List (Searched R)) → E t → Y .means a ≡ refused j → Keeps s t → M .awaits t ≡ false → Waiting now s xs → Called now s xs
+            (record { answer = a; state = t }) (Refused j ∷ [])
         unfolding read
         ends a t j [] i w kept idle v = absurd v
-        ends a t j (x ∷ xs) i w kept idle v = record { holds = i; settles = more tt none; leaves = inr (rw w (refuses now s t a x (told R x (Refused j)) xs j kept refl refl v)); waits = λ q. never idle q }
+        ends a t j (x ∷ xs) i w kept idle v = record {
+          holds = i;
+          settles = more tt none;
+          leaves = inr
+              (rw w (refuses now s t a x (told R x (Refused j)) xs j kept refl refl v));
+          waits = λ q. never idle q;
+        }
 
         entered : {m : Move M} (xs : List (Searched R)) → (M .awaits s ≡ true → Waiting o s xs) → Enters R K M Y Sound c s m → After E m → (M .awaits s ≡ true → After (Keeps s) m)
             → (M .awaits s ≡ true → Carried s (Y .given c s) m) → (M .awaits s ≡ false → Opens c s m)
@@ -288,12 +317,16 @@ module _ (R : Rules) (K : Claims R) (M : Machine) (Y : View R M) (Sound : M .Sta
           waits = λ q. unfold read in subst (λ (b : Objective R M Y). Waiting b s xs) (sym (old q)) (v q);
         })
         entered xs v (begins {t} w b) i kept got-it opens = unfold enter-log in rw w (starts t xs w (b .subject) i (opens w))
-        entered xs v (replied {t} w g a) i kept got-it opens = unfold enter-log in rw w (replies t (Y .given c s) xs i (kept w) (a .kept .subject) (a .kept .settings) (got-it w) (subst (λ (b : Objective R M Y). Waiting b s xs) (sym (old w)) (v w)))
-        entered xs v (failed {a} {t} {n} w e b f) i kept got-it opens = unfold enter-log in rw (w, e, ← (ended t n (f .idle))) (ends a t n xs i e (kept w) (f .idle) (subst (λ (b : Objective R M Y). Waiting b s xs) (sym (old w)) (v w)))
+        entered xs v (replied {t} w g a) i kept got-it opens = unfold enter-log in rw w
+            (replies t (Y .given c s) xs i (kept w) (a .kept .subject) (a .kept .settings) (got-it w) (subst (λ (b : Objective R M Y). Waiting b s xs) (sym (old w)) (v w)))
+        entered xs v (failed {a} {t} {n} w e b f) i kept got-it opens = unfold enter-log in rw (w, e, ← (ended t n (f .idle)))
+            (ends a t n xs i e (kept w) (f .idle) (subst (λ (b : Objective R M Y). Waiting b s xs) (sym (old w)) (v w)))
 
-      called : (c : M .Call) (s : M .State) (o : Objective R M Y) (xs : List (Searched R)) → E s → (M .awaits s ≡ true → Waiting o s xs) → Called (newer R M Y o c s) s xs (call M c s) (call-log R M Y c s)
+      called : (c : M .Call) (s : M .State) (o : Objective R M Y) (xs : List (Searched R)) → E s → (M .awaits s ≡ true → Waiting o s xs) → Called (newer R M Y o c s) s xs (call M c s)
+          (call-log R M Y c s)
       unfolding call call-log
-      called c s o xs h v = entered c s h o (newer R M Y o c s) (λ q. pick-yes _ _ _ q) (λ q. pick-no _ _ _ q) xs v (W .enters c s (F .sound s h)) (F .enters-hold c s h) (F .enters-keep c s h) (F .enters-carry c s h) (F .enters-open c s h)
+      called c s o xs h v = entered c s h o (newer R M Y o c s) (λ q. pick-yes _ _ _ q) (λ q. pick-no _ _ _ q) xs v (W .enters c s (F .sound s h)) (F .enters-hold c s h)
+          (F .enters-keep c s h) (F .enters-carry c s h) (F .enters-open c s h)
 
       -- ---- any list of calls
       record Between (o : Objective R M Y) (s : M .State) (xs : List (Searched R)) : Type 0 where
@@ -302,7 +335,8 @@ module _ (R : Rules) (K : Claims R) (M : Machine) (Y : View R M) (Sound : M .Sta
 
       set-between : (w : M .Host) (o : Objective R M Y) (s : M .State) (xs : List (Searched R)) → Between o s xs → Between o (set M w s) xs
       unfolding set
-      set-between w o s xs b = cases (λ (t : M .State). Between o t xs) (M .awaits s) (λ e. b) (λ e. record { holds = F .writes-hold w s (b .holds); waits = λ q. never e (sym (W .writes-awaits w s) ∙ q) })
+      set-between w o s xs b = cases (λ (t : M .State). Between o t xs) (M .awaits s) (λ e. b)
+          (λ e. record { holds = F .writes-hold w s (b .holds); waits = λ q. never e (sym (W .writes-awaits w s) ∙ q) })
 
       runs : (s : M .State) (acts : List (Act M)) (o : Objective R M Y) (xs : List (Searched R)) → Between o s xs → Between (underWay R M Y o s acts) (run M s acts) (read R xs (log R M Y s acts))
       unfolding run log read underWay
@@ -319,7 +353,8 @@ module _ (R : Rules) (K : Claims R) (M : Machine) (Y : View R M) (Sound : M .Sta
       pub shown : (s₀ : M .State) → E s₀ → M .awaits s₀ ≡ false → (o : Objective R M Y) (acts : List (Act M)) → Shown R M Y X o s₀ acts
       shown s₀ h i o acts =
           let b = runs s₀ acts o [] (record { holds = h; waits = λ q. never i q }) in
-          let a : (c : M .Call) → Called (newer R M Y (underWay R M Y o s₀ acts) c (run M s₀ acts)) (run M s₀ acts) _ (call M c (run M s₀ acts)) _ = λ c. called c (run M s₀ acts) (underWay R M Y o s₀ acts) (searches R (log R M Y s₀ acts)) (b .holds) (b .waits) in
+          let a : (c : M .Call) → Called (newer R M Y (underWay R M Y o s₀ acts) c (run M s₀ acts)) (run M s₀ acts) _ (call M c (run M s₀ acts)) _ = λ c. called c (run M s₀ acts)
+          (underWay R M Y o s₀ acts) (searches R (log R M Y s₀ acts)) (b .holds) (b .waits) in
           record {
             settles = λ c. a c .settles;
             runs = λ q. runs-now (underWay R M Y o s₀ acts) (run M s₀ acts) (searches R (log R M Y s₀ acts)) (b .waits q);

@@ -86,7 +86,8 @@ same-value : (fit : Fit) (p : Progress) (eta : Pair) (sums : Sums) → B.advance
 unfolding B.advanceBy B.advance1 B.advance2 B.withSearch
 same-value fit p eta sums = both (λ (a : Advanced). a .progress .ofv ≡ p .ofv) _ refl refl
 
-module _ (setup : Setup) (counts : List ℕ) (observations : List Observation) (I : Inner) (Q : Suits I (setup .effects)) (L : Reads I) (X : Tells I L (setup .effects)) (bound : Fits (setup .«eta_bound»))
+module _ (setup : Setup) (counts : List ℕ) (observations : List Observation) (I : Inner) (Q : Suits I (setup .effects)) (L : Reads I) (X : Tells I L (setup .effects))
+    (bound : Fits (setup .«eta_bound»))
     (limit : setup .«max_evaluations» < 4294967296) (lent : Lent) (r₀ : List ℕ)
     (there : length observations ≡ lent .observations) (long : length r₀ ≡ lent .results) (a : Accepts setup counts lent) (room : Room (setup .k)) where
   abbrev U : Trusted words (setup .k)
@@ -197,16 +198,23 @@ module _ (setup : Setup) (counts : List ℕ) (observations : List Observation) (
     nothing : Writes (w .warm) (w .results)
     nothing = record { others = λ i d. refl; stays = λ i d b q. q; kept = λ x o. refl }
 
-    still-in : (warm results : List ℕ) → Writes warm results → (q : Progress) (tally : Tally) (kept : words .Kept) (work : List ℕ) (x : Searched (I .rules)) (m : I .rules .Conditional) → x .subject < j → In x m h
+    still-in : (warm results : List ℕ) → Writes warm results → (q : Progress) (tally : Tally) (kept : words .Kept) (work : List ℕ) (x : Searched (I .rules)) (m : I .rules .Conditional)
+        → x .subject < j → In x m h
         → In x m (held words (h .parameters) (wholeOf words q tally kept work warm results))
     still-in warm results v q tally kept work x m l o =
         let i = x .subject in
         let c : (y : ℕ) → y < 3 * j → getD results y 0 ≡ getD (w .results) y 0 = λ y z. v .kept y (inl z) in
-        let f : (k : ℕ) → k < getD counts i 0 → (y : ℕ) → 3 * length counts + 2 * (before counts i + k) ≤ y → y < 3 * length counts + 2 * (before counts i + k) + 2 → getD results y 0 ≡ getD (w .results) y 0 =
+        let f : (k : ℕ) → k < getD counts i 0 → (y : ℕ) → 3 * length counts + 2 * (before counts i + k) ≤ y → y < 3 * length counts + 2 * (before counts i + k) + 2 → getD results y 0 ≡ getD
+        (w .results) y 0 =
         λ k z y u t. v .kept y (inr (omega (arith, u), let e = before-later i j l in omega (arith, z, t, e))) in
         record {
           warm = v .stays i (λ e. omega (arith, e, l)) m (o .warm);
-          result = record { first = c (3 * i) (omega (arith, l)) ∙ o .result .first; second = c (3 * i + 1) (omega (arith, l)) ∙ o .result .second; nll = c (3 * i + 2) (omega (arith, l)) ∙ o .result .nll };
+          result = record {
+            first = c (3 * i) (omega (arith, l)) ∙ o .result .first;
+            second = c (3 * i + 1) (omega (arith, l)) ∙ o .result .second;
+            nll = c (3 * i + 2) (omega (arith, l))
+                ∙ o .result .nll;
+          };
           both = o .both;
           same = o .same;
           fitted = record { population = λ k z. f k z _ (omega arith) (omega arith) ∙ o .fitted .population k z; individual = λ k z. f k z _ (omega arith) (omega arith) ∙ o .fitted .individual k z };
@@ -349,7 +357,8 @@ module _ (setup : Setup) (counts : List ℕ) (observations : List Observation) (
           fitted = fits;
         }
 
-        apart : (q : Progress) (tally : Tally) (work : List ℕ) → isSameGrid (w .work) rows ≡ false → Apart setup counts observations I L x best (held words (h .parameters) (wholeOf words q tally (w .kept) work stored (w .results)))
+        apart : (q : Progress) (tally : Tally) (work : List ℕ) → isSameGrid (w .work) rows ≡ false → Apart setup counts observations I L x best
+            (held words (h .parameters) (wholeOf words q tally (w .kept) work stored (w .results)))
         apart q tally work e = record { warm = at-own (λ (n : ℕ). L .Warm n best stored) warm-in; both = trials; other = rows-other e }
 
         -- its part of the objective
@@ -380,13 +389,15 @@ module _ (setup : Setup) (counts : List ℕ) (observations : List Observation) (
     -- ---- a mode
     refuses : (n : ℕ) (place : Place) (work warm results : List ℕ)
         → (let q = B.refusedBy p (w .tally) n place in (k : ℕ) → k ≡ n → (x : Searched (I .rules)) → At-search x h
-        → shows .Remains k x (I .rules .best (I .searchOf p)) (held words (h .parameters) (wholeOf words (q .progress) (q .tally) (w .kept) (pick (B.isOver (q .step)) (zeros (length work)) work) warm results)))
+        → shows .Remains k x (I .rules .best (I .searchOf p)) (held words (h .parameters)
+        (wholeOf words (q .progress) (q .tally) (w .kept) (pick (B.isOver (q .step)) (zeros (length work)) work) warm results)))
         → Ends h (closeTurn (ended (Halt (B.refusedBy p (w .tally) n place)) work warm results))
     unfolding Closes N.heldBy moved isOver B.refusedBy
     refuses n place work warm results f = (λ e. absurd (let z : _≡_ {A = ℕ} 0 1 = cc in omega arith), λ k e x i. f k (let q : k ≡ n = cc in q) x i)
 
     -- a search that has just begun carries nothing yet
-    nothing-carried : (st : I .rules .Settings) (subject first : ℕ) (warm : Pair) (ofv squares : Float) (rows : ℕ → List ℕ) → X .Carried st [] (I .searchOf (B.beginSubject subject first warm ofv squares)) rows
+    nothing-carried : (st : I .rules .Settings) (subject first : ℕ) (warm : Pair) (ofv squares : Float) (rows : ℕ → List ℕ) → X .Carried st []
+        (I .searchOf (B.beginSubject subject first warm ofv squares)) rows
     nothing-carried st subject first warm ofv squares rows = subst (λ (x : I .rules .Search). X .Carried st [] x rows) (sym (Q .starts subject first warm ofv squares)) (X .begun st rows)
 
     module _ (m : Mode) (o : OfMode I L m (I .rules .best (I .searchOf p))) (wants : B.wantedBy fit p ≡ Wants.Mode) (positive : B.closedBy fit p rows ≡ Positive m) where
@@ -400,11 +411,13 @@ module _ (setup : Setup) (counts : List ℕ) (observations : List Observation) (
       sum = p .ofv +ᶠ m .term
 
       module _ (same : isSameGrid (w .work) rows ≡ true) where
-        begins : (first : ℕ) (squares : Float) (work : List ℕ) → Ends h (closeTurn (ended (On (B.beginSubject next first (warmOf (stored m o) (fit .effects) next) sum squares)) work (stored m o) (written m o)))
+        begins : (first : ℕ) (squares : Float) (work : List ℕ) → Ends h
+            (closeTurn (ended (On (B.beginSubject next first (warmOf (stored m o) (fit .effects) next) sum squares)) work (stored m o) (written m o)))
         unfolding Closes N.heldBy moved isOver pick B.beginSubject
         begins first squares work = (
           λ x i. (in-words m o wants x i _ _ _ same, adds-up m o wants x i positive),
-          X .starts setup (h .parameters) (B.beginSubject next first (warmOf (stored m o) (fit .effects) next) sum squares) (stored m o) next refl (ap (λ (n : ℕ). warmOf (stored m o) n next) effects-are)
+          X .starts setup (h .parameters) (B.beginSubject next first (warmOf (stored m o) (fit .effects) next) sum squares) (stored m o) next refl
+              (ap (λ (n : ℕ). warmOf (stored m o) n next) effects-are)
               ∙ ap (L .settings setup (h .parameters) (stored m o)) next-is ∙ warm-other m o (suc j) (λ e. omega (arith, e)),
           nothing-carried _ next first (warmOf (stored m o) (fit .effects) next) sum squares _,
         )
@@ -415,9 +428,11 @@ module _ (setup : Setup) (counts : List ℕ) (observations : List Observation) (
             (refuses 18 At.Nowhere (w .work) (stored m o) (written m o) (λ k e x i. inr (inr (e, in-words m o wants x i _ _ _ same))))
             (unfold Closes N.heldBy moved isOver in (λ e x i. (in-words m o wants x i _ _ _ same, adds-up m o wants x i positive), λ k e. absurd (let z : _≡_ {A = ℕ} 0 1 = cc in omega arith)))
 
-        next-or-end : Ends h (closeTurn (ended (nextSubject fit counts p (w .tally) m rows (stored m o) (w .work) .value) (nextSubject fit counts p (w .tally) m rows (stored m o) (w .work) .work) (stored m o) (written m o)))
+        next-or-end : Ends h (closeTurn (ended (nextSubject fit counts p (w .tally) m rows (stored m o) (w .work) .value)
+            (nextSubject fit counts p (w .tally) m rows (stored m o) (w .work) .work) (stored m o) (written m o)))
         unfolding nextSubject
-        next-or-end = both (λ (x : Worked Turned). Ends h (closeTurn (ended (x .value) (x .work) (stored m o) (written m o)))) (ltb next (length counts)) (begins _ _ (zeros (length (w .work)))) (finishes _)
+        next-or-end = both (λ (x : Worked Turned). Ends h (closeTurn (ended (x .value) (x .work) (stored m o) (written m o)))) (ltb next (length counts))
+            (begins _ _ (zeros (length (w .work)))) (finishes _)
 
     mode-ends : B.wantedBy fit p ≡ Wants.Mode → (c : Closed) → B.closedBy fit p rows ≡ c → Ends h (closeTurn (closing fit counts p (w .tally) rows (w .work) (w .warm) (w .results) c))
     unfolding closing
@@ -445,7 +460,8 @@ module _ (setup : Setup) (counts : List ℕ) (observations : List Observation) (
     roomy = let e = len-is in let l = s .roomy j (s .subject) in omega (arith, e, l)
 
     -- where only the trial block is written, the search with that trial carries its rows
-    module _ (eta : Pair) (sums : Sums) (wants : B.wantedBy fit p ≡ Wants.Point eta) (work : List ℕ) (long-as : AsLong (w .work) work) (untouched : (i : ℕ) → i < block rows 3 → getD work i 0 ≡ getD (w .work) i 0)
+    module _ (eta : Pair) (sums : Sums) (wants : B.wantedBy fit p ≡ Wants.Point eta) (work : List ℕ) (long-as : AsLong (w .work) work)
+        (untouched : (i : ℕ) → i < block rows 3 → getD work i 0 ≡ getD (w .work) i 0)
         (t : Trial (I .rules)) (is : t .point ≡ I .conditionalOf fit eta sums) (own : t .rows ≡ rowsIn rows work 3) where
       abbrev moves : Sources
       moves = B.advanceBy fit p eta sums .sources
@@ -453,18 +469,25 @@ module _ (setup : Setup) (counts : List ℕ) (observations : List Observation) (
       abbrev then : Progress
       then = B.advanceBy fit p eta sums .progress
 
-      carried : (ts : List (Trial (I .rules))) → Carries ts h → X .Carried (I .settingsOf fit then) (ts ++ (t ∷ [])) (I .searchOf then) (rowsIn (rowsOf counts (then .subject)) (moveRows rows moves work))
+      carried : (ts : List (Trial (I .rules))) → Carries ts h → X .Carried (I .settingsOf fit then) (ts ++ (t ∷ [])) (I .searchOf then)
+          (rowsIn (rowsOf counts (then .subject)) (moveRows rows moves work))
       carried ts c =
           let f = X .movable fit p eta sums effects-are in
           let l : rowsLength rows * 4 ≤ length work = subst (λ (n : ℕ). rowsLength rows * 4 ≤ n) (sym long-as) roomy in
-          let n : SameBlocks (rowsIn rows (w .work)) (rowsIn rows work) = record { zero = before-trial rows 0 (w .work) work (omega arith) untouched; best = before-trial rows 1 (w .work) work (omega arith) untouched; latest = before-trial rows 2 (w .work) work (omega arith) untouched } in
+          let n : SameBlocks (rowsIn rows (w .work)) (rowsIn rows work) = record {
+            zero = before-trial rows 0 (w .work) work (omega arith) untouched;
+            best = before-trial rows 1 (w .work) work
+                (omega arith) untouched;
+            latest = before-trial rows 2 (w .work) work (omega arith) untouched;
+          } in
           let d = X .steps fit p eta sums effects-are wants ts (rowsIn rows work) (rowsIn rows (moveRows rows moves work)) t is own (record {
             zero = moved-zero rows moves work l (f .zero) (f .best) (f .latest);
             best = moved-best rows moves work l (f .zero) (f .best) (f .latest);
             latest = moved-latest rows moves work l (f .zero) (f .best) (f .latest);
           }) (X .same (I .settingsOf fit p) ts (I .searchOf p) (rowsIn rows (w .work)) (rowsIn rows work) n c) in
           let e = advanced-alike fit p eta sums in
-          subst (λ (st : I .rules .Settings). X .Carried st (ts ++ (t ∷ [])) (I .searchOf then) (rowsIn (rowsOf counts (then .subject)) (moveRows rows moves work))) (sym (Q .settings fit p then (e .warm)))
+          subst (λ (st : I .rules .Settings). X .Carried st (ts ++ (t ∷ [])) (I .searchOf then) (rowsIn (rowsOf counts (then .subject)) (moveRows rows moves work)))
+          (sym (Q .settings fit p then (e .warm)))
           (subst (λ (i : ℕ). X .Carried (I .settingsOf fit p) (ts ++ (t ∷ [])) (I .searchOf then) (rowsIn (rowsOf counts i) (moveRows rows moves work))) (sym (e .subject)) d)
 
       goes-on-carries : Got h t (closeTurn (ended (On then) (moveRows rows moves work) (w .warm) (w .results)))
@@ -474,8 +497,12 @@ module _ (setup : Setup) (counts : List ℕ) (observations : List Observation) (
     -- a question leaves all as it is
     asked-carries : (eta : Pair) (v : Answer Pair) → Got h (Y .kept h (I .pointOf eta)) (closeTurn (ended (Halt (B.askFor p (B.counted (w .tally)) eta v)) (w .work) (w .warm) (w .results)))
     unfolding Carried N.heldBy moved isOver pick B.askFor B.refusedBy B.isOver B.idle B.withSearch B.awaiting
-    asked-carries eta (given v) t = (refl, λ ts c. subst (λ (st : I .rules .Settings). X .Carried st ts (I .searchOf (B.awaiting p v)) (rowsIn rows (w .work))) (sym (Q .settings fit p (B.awaiting p v) refl))
-        (subst (λ (x : I .rules .Search). X .Carried (I .settingsOf fit p) ts x (rowsIn rows (w .work))) (sym (Q .waits p v)) c))
+    asked-carries eta (given v) t = (
+      refl,
+      λ ts c. subst (λ (st : I .rules .Settings). X .Carried st ts (I .searchOf (B.awaiting p v)) (rowsIn rows (w .work)))
+          (sym (Q .settings fit p (B.awaiting p v) refl))
+          (subst (λ (x : I .rules .Search). X .Carried (I .settingsOf fit p) ts x (rowsIn rows (w .work))) (sym (Q .waits p v)) c),
+    )
     asked-carries eta (refused n) t = absurd (subst T (sym t) tt)
 
     short-carries : (eta : Pair) → Got h (Y .kept h (I .pointOf eta)) (closeTurn (ended (Halt (B.refusedBy p (w .tally) 6 (At.Subject (p .subject)))) (w .work) (w .warm) (w .results)))
@@ -488,20 +515,25 @@ module _ (setup : Setup) (counts : List ℕ) (observations : List Observation) (
     by-recall : (eta : Pair) → B.wantedBy fit p ≡ Wants.Point eta → (v : Option Recalled) → recalledAt eta ≡ v
         → Got h (Y .kept h (I .pointOf eta)) (closeTurn (ended (answered fit rows p (w .tally) eta (w .work) v .value) (answered fit rows p (w .tally) eta (w .work) v .work) (w .warm) (w .results)))
     unfolding answered takes
-    by-recall eta wants none q = unfold B.ask in both (λ (x : Halted). Got h (Y .kept h (I .pointOf eta)) (closeTurn (ended (Halt x) (w .work) (w .warm) (w .results)))) _ (asked-carries eta _) (short-carries eta)
+    by-recall eta wants none q = unfold B.ask in both (λ (x : Halted). Got h (Y .kept h (I .pointOf eta)) (closeTurn (ended (Halt x) (w .work) (w .warm) (w .results)))) _
+        (asked-carries eta _) (short-carries eta)
     by-recall eta wants (some r) q =
         let same-point : recalledAt (I .pairOf (I .pointOf eta)) ≡ some r = ap recalledAt (Q .pairs fit p eta effects-are wants) ∙ q in
-        let is : Y .kept h (I .pointOf eta) .point ≡ I .conditionalOf fit eta (B.sumsOf (r .terms)) = ap (λ (x : Pair). I .conditionalOf fit x (recalledSums (recalledAt x))) (Q .pairs fit p eta effects-are wants) ∙ ap (λ (u : Option Recalled). I .conditionalOf fit eta (recalledSums u)) q in
-        let own : Y .kept h (I .pointOf eta) .rows ≡ rowsIn rows (r .work) 3 = ap (λ (u : Option Recalled). wordsFrom (rowWords * rows) (block rows 3) (recalledWork u)) same-point ∙ ap (λ (n : ℕ). wordsFrom n (block rows 3) (r .work)) (sym len-is) in
+        let is : Y .kept h (I .pointOf eta) .point ≡ I .conditionalOf fit eta (B.sumsOf (r .terms)) = ap (λ (x : Pair). I .conditionalOf fit x (recalledSums (recalledAt x)))
+        (Q .pairs fit p eta effects-are wants) ∙ ap (λ (u : Option Recalled). I .conditionalOf fit eta (recalledSums u)) q in
+        let own : Y .kept h (I .pointOf eta) .rows ≡ rowsIn rows (r .work) 3 = ap (λ (u : Option Recalled). wordsFrom (rowWords * rows) (block rows 3) (recalledWork u)) same-point ∙ ap
+        (λ (n : ℕ). wordsFrom n (block rows 3) (r .work)) (sym len-is) in
         let f = find (w .kept .words) (fit .k) (w .kept .order) (B.keyOf fit j eta) in
         goes-on-carries eta (B.sumsOf (r .terms)) wants (r .work) (recalled-length (w .kept .words) (fit .k) rows (w .work) (block rows 3) f r q)
         (recalled-behind (w .kept .words) (fit .k) rows (w .work) (block rows 3) f r q) (Y .kept h (I .pointOf eta)) is own
 
-    turn-carries : (v : Wanted) → B.wantedBy fit p ≡ v → (y : I .rules .Point) → wantsOf I v ≡ point y → Got h (Y .kept h y) (closeTurn (servedBy words fit counts p (w .tally) (w .kept) (w .work) (w .warm) (w .results) v))
+    turn-carries : (v : Wanted) → B.wantedBy fit p ≡ v → (y : I .rules .Point) → wantsOf I v ≡ point y → Got h (Y .kept h y)
+        (closeTurn (servedBy words fit counts p (w .tally) (w .kept) (w .work) (w .warm) (w .results) v))
     unfolding servedBy atPoint
     turn-carries (Wants.Point eta) q y e =
         let v = answered fit rows p (w .tally) eta (w .work) (recalledAt eta) in
-        subst (λ (z : I .rules .Point). Got h (Y .kept h z) (closeTurn (ended (v .value) (v .work) (w .warm) (w .results)))) (let z : I .pointOf eta ≡ y = cc in z) (by-recall eta q (recalledAt eta) refl)
+        subst (λ (z : I .rules .Point). Got h (Y .kept h z) (closeTurn (ended (v .value) (v .work) (w .warm) (w .results)))) (let z : I .pointOf eta ≡ y = cc in z)
+        (by-recall eta q (recalledAt eta) refl)
     turn-carries Wants.Mode q y e = absurd (let z : _≡_ {A = ℕ} 0 1 = cc in omega arith)
     turn-carries (Wants.Refused n) q y e = absurd (let z : _≡_ {A = ℕ} 0 1 = cc in omega arith)
 
@@ -533,13 +565,15 @@ module _ (setup : Setup) (counts : List ℕ) (observations : List Observation) (
     replied-kept eta work (E.Refused n) = over-kept n _
     replied-kept eta work (E.RefusedAt n i) = over-kept n _
 
-    at-wanted : (n : ℕ) (go : Pair → Moved (Held words) Step) → ((eta : Pair) → After (Kept h) (go eta)) → (v : Wanted) → After (Kept h) (N.atWanted words setup counts n (N.allChecked setup counts observations) h go v)
+    at-wanted : (n : ℕ) (go : Pair → Moved (Held words) Step) → ((eta : Pair) → After (Kept h) (go eta)) → (v : Wanted) → After (Kept h)
+        (N.atWanted words setup counts n (N.allChecked setup counts observations) h go v)
     unfolding N.atWanted
     at-wanted n go f (Wants.Point eta) = when-admitted (go eta) _ (f eta)
     at-wanted n go f Wants.Mode = unaltered-kept 19 _
     at-wanted n go f (Wants.Refused number) = unaltered-kept 19 _
 
-    when-awaited : (n : ℕ) (go : Pair → Moved (Held words) Step) → ((eta : Pair) → After (Kept h) (go eta)) → After (Kept h) (N.whenAwaited words setup counts n (N.allChecked setup counts observations) h go)
+    when-awaited : (n : ℕ) (go : Pair → Moved (Held words) Step) → ((eta : Pair) → After (Kept h) (go eta)) → After (Kept h)
+        (N.whenAwaited words setup counts n (N.allChecked setup counts observations) h go)
     unfolding N.whenAwaited
     when-awaited n go f = both (After (Kept h)) _ (both (After (Kept h)) _ (at-wanted n go f _) (unaltered-kept 19 _)) (unaltered-kept 19 _)
 
@@ -564,13 +598,15 @@ module _ (setup : Setup) (counts : List ℕ) (observations : List Observation) (
     unfolding Carried N.over B.idle B.withSearch
     over-carries u number place t = absurd (subst T (sym t) tt)
 
-    wanted-carries : (u : Trial (I .rules)) (n : ℕ) (go : Pair → Moved (Held words) Step) (v : Wanted) → ((eta : Pair) → v ≡ Wants.Point eta → Got h u (go eta)) → Got h u (N.atWanted words setup counts n (N.allChecked setup counts observations) h go v)
+    wanted-carries : (u : Trial (I .rules)) (n : ℕ) (go : Pair → Moved (Held words) Step) (v : Wanted) → ((eta : Pair) → v ≡ Wants.Point eta → Got h u (go eta)) → Got h u
+        (N.atWanted words setup counts n (N.allChecked setup counts observations) h go v)
     unfolding N.atWanted
     wanted-carries u n go (Wants.Point eta) f = admitted-carries u (go eta) _ (f eta refl)
     wanted-carries u n go Wants.Mode f = unaltered-carries u 19 _
     wanted-carries u n go (Wants.Refused number) f = unaltered-carries u 19 _
 
-    awaited-carries : (u : Trial (I .rules)) (n : ℕ) (go : Pair → Moved (Held words) Step) → ((eta : Pair) → B.wantedBy fit p ≡ Wants.Point eta → Got h u (go eta)) → Got h u (N.whenAwaited words setup counts n (N.allChecked setup counts observations) h go)
+    awaited-carries : (u : Trial (I .rules)) (n : ℕ) (go : Pair → Moved (Held words) Step) → ((eta : Pair) → B.wantedBy fit p ≡ Wants.Point eta → Got h u (go eta)) → Got h u
+        (N.whenAwaited words setup counts n (N.allChecked setup counts observations) h go)
     unfolding N.whenAwaited
     awaited-carries u n go f = both (Got h u) _ (both (Got h u) _ (wanted-carries u n go (B.wantedBy fit p) f) (unaltered-carries u 19 _)) (unaltered-carries u 19 _)
 
@@ -600,7 +636,8 @@ module _ (setup : Setup) (counts : List ℕ) (observations : List Observation) (
       unfolding Carried N.replied receive takes
       replied-carries (E.Running sums) d =
           let t = Y .given (reply said) h in
-          let is : t .point ≡ I .conditionalOf fit eta sums = ap (λ (x : Wanted). I .conditionalOf fit (pointWanted x) (runningSums (finish (end .evaluation)))) wants ∙ ap (λ (x : Evaluation). I .conditionalOf fit eta (runningSums x)) d in
+          let is : t .point ≡ I .conditionalOf fit eta sums = ap (λ (x : Wanted). I .conditionalOf fit (pointWanted x) (runningSums (finish (end .evaluation)))) wants ∙ ap
+          (λ (x : Evaluation). I .conditionalOf fit eta (runningSums x)) d in
           let own : t .rows ≡ rowsIn rows (end .work) 3 = sym (words-are (rowsLength rows) (block rows 3) (end .work) (t .rows)
           (reply-length (setup .width) (setup .effects) said lists ∙ ap (λ (n : ℕ). rowWords * n) all-there ∙ sym len-is)
           (λ i l. ends .rows sums d block-there i (let e = len-is in let n = all-there in omega (arith, l, e, n)))) in (
@@ -647,8 +684,10 @@ module _ (setup : Setup) (counts : List ℕ) (observations : List Observation) (
   holds o acts = shown (I .rules) (I .claims) M Y Stands (lawful words setup counts observations I Q U bound limit lent r₀ a) shows here value Carries (λ (h : Held words). Stands h × Goes h) (record {
     sound = λ h e. e .0;
     inside = λ h e. e .0 .subject;
-    turns-hold = λ h e. after-both Stands Goes _ (after-turn (I .rules) (I .claims) M Y Stands h (turns words setup counts observations I Q U bound (a .most) h (e .0))) (turns-going setup counts observations lent a h (e .1));
-    enters-hold = λ c h e. after-both Stands Goes _ (after-entry (I .rules) (I .claims) M Y Stands c h (e .0) (enters words setup counts observations I Q U bound (omega (arith, limit)) (a .some) (rows-within a) c h (e .0)))
+    turns-hold = λ h e. after-both Stands Goes _ (after-turn (I .rules) (I .claims) M Y Stands h (turns words setup counts observations I Q U bound (a .most) h (e .0)))
+        (turns-going setup counts observations lent a h (e .1));
+    enters-hold = λ c h e. after-both Stands Goes _ (after-entry (I .rules) (I .claims) M Y Stands c h (e .0)
+        (enters words setup counts observations I Q U bound (omega (arith, limit)) (a .some) (rows-within a) c h (e .0)))
         (enters-going setup counts observations lent a h (e .1) c);
     writes-hold = λ warm h e. (sets words setup counts observations I Q U bound limit lent r₀ a warm h (e .0), sets-going setup counts observations lent a h (e .1) warm);
     turns-keep = λ h e. turns-keep h (e .0) (e .1);

@@ -32,7 +32,8 @@ pub record Evaluates (trial : Trial) (budget : ℕ) (reply : List ℕ) (observat
   -- or it ends with 8, 9 or 12, without an observation
   pub numbers : (n : ℕ) → finish (evaluated trial budget reply observations work .evaluation) ≡ Refused n → (n ≡ 8) ⊎ ((n ≡ 9) ⊎ (n ≡ 12))
   -- or with 10, 11 or 12 at one of the observations
-  pub places : (n i : ℕ) → finish (evaluated trial budget reply observations work .evaluation) ≡ RefusedAt n i → ((n ≡ 10) ⊎ ((n ≡ 11) ⊎ (n ≡ 12))) × (i < length observations)
+  pub places : (n i : ℕ) → finish (evaluated trial budget reply observations work .evaluation) ≡ RefusedAt n i
+      → ((n ≡ 10) ⊎ ((n ≡ 11) ⊎ (n ≡ 12))) × (i < length observations)
   -- where it comes to its end, the trial block has the reply's rows
   pub rows : (s : Sums) → finish (evaluated trial budget reply observations work .evaluation) ≡ Running s
       → trial .block + rowWords * length observations ≤ length work → (j : ℕ) → j < rowWords * length observations
@@ -43,4 +44,5 @@ pub record Evaluates (trial : Trial) (budget : ℕ) (reply : List ℕ) (observat
       → getD (evaluated trial budget reply observations work .work) j 0 ≡ getD work j 0
 
 abbrev pub EveryEvaluation : Type 0
-EveryEvaluation = (trial : Trial) (budget : ℕ) (reply : List ℕ) (observations : List Observation) (work : List ℕ) → length observations < 2 ^ 64 → Evaluates trial budget reply observations work
+EveryEvaluation = (trial : Trial) (budget : ℕ) (reply : List ℕ) (observations : List Observation) (work : List ℕ)
+    → length observations < 2 ^ 64 → Evaluates trial budget reply observations work

@@ -62,8 +62,8 @@ setupOf s = record {
 unfoldable pub parametersOf : SessionParameters → Parameters
 parametersOf p = record { theta = record { first = p .theta; second = p .«theta_2» }; omega = p .omega; «additive_sd» = additiveSd (p .«has_additive») (p .additive) }
 
--- ---- the same as it stands in memory: for each float its 64 bits, for max_evaluations 32. `setup_of` and `parameters_of` promise that all that a
--- host can hand over is of this form, so that nothing has to be asked of it.
+-- ---- the same as it stands in memory: for each float its 64 bits, for max_evaluations 32. `setup_of` and `parameters_of` promise that all
+-- that a host can hand over is of this form, so that nothing has to be asked of it.
 
 pub record SetupBits : Type 0 where
   pub effects : ℕ

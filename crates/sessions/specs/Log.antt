@@ -61,14 +61,19 @@ module _ (R : Rules) where
   abbrev pub history : Searched → List (R .Conditional)
   history x = points R (x .trials)
 
-  -- what an entry of the log says of the search under way
+  -- the same search, with what an entry of the log may change
+  abbrev pub toldAs : Searched → List (Trial R) → ℕ → ℕ → End (R .Conditional) → Searched
+  toldAs x trials asked to end =
+      record { subject = x .subject; settings = x .settings; trials = trials; asked = asked; from = x .from; to = to; end = end }
+
+  -- what an entry says of the search under way
   abbrev pub told : Searched → Entry → Searched
   told x (Began i st n) = x
-  told x (Ask p) = record { subject = x .subject; settings = x .settings; trials = x .trials; asked = suc (x .asked); from = x .from; to = x .to; end = x .end }
-  told x (Count n) = record { subject = x .subject; settings = x .settings; trials = x .trials; asked = x .asked; from = x .from; to = n; end = x .end }
-  told x (Got t) = record { subject = x .subject; settings = x .settings; trials = x .trials ++ (t ∷ []); asked = x .asked; from = x .from; to = x .to; end = x .end }
-  told x (Mode m) = record { subject = x .subject; settings = x .settings; trials = x .trials; asked = x .asked; from = x .from; to = x .to; end = in-mode m }
-  told x (Refused n) = record { subject = x .subject; settings = x .settings; trials = x .trials; asked = x .asked; from = x .from; to = x .to; end = stop n (x .end) }
+  told x (Ask p) = toldAs x (x .trials) (suc (x .asked)) (x .to) (x .end)
+  told x (Count n) = toldAs x (x .trials) (x .asked) n (x .end)
+  told x (Got t) = toldAs x (x .trials ++ (t ∷ [])) (x .asked) (x .to) (x .end)
+  told x (Mode m) = toldAs x (x .trials) (x .asked) (x .to) (in-mode m)
+  told x (Refused n) = toldAs x (x .trials) (x .asked) (x .to) (stop n (x .end))
 
   abbrev pub begun : ℕ → R .Settings → ℕ → Searched
   begun i st n = record { subject = i; settings = st; trials = []; asked = 0; from = n; to = n; end = not-yet }
@@ -120,7 +125,9 @@ module _ (R : Rules) where
   -- the newest search waits for an evaluation that its rules ask, and the others have ended
   abbrev pub Waits : List Searched → Type 0
   Waits [] = ⊥
-  Waits (x ∷ xs) = (x .end ≡ not-yet) × (x .asked ≡ suc (length (history x))) × ((p : R .Point) × (wanted R (x .settings) (after R (x .settings) (history x)) ≡ point p)) × Every Ended xs
+  Waits (x ∷ xs) =
+      (x .end ≡ not-yet) × (x .asked ≡ suc (length (history x)))
+      × ((p : R .Point) × (wanted R (x .settings) (after R (x .settings) (history x)) ≡ point p)) × Every Ended xs
 
   -- what demand 3 says of one search, however it ends
   module _ (K : Claims R) where

@@ -56,6 +56,9 @@ module _ (R : Rules) where
 
   -- and proved of its histories, with no session in it
   pub record Proved (K : Claims) : Type 0 where
-    pub few : (st : R .Settings) (h : List (R .Conditional)) (p : R .Point) → K .Domain st → Follows st h → wanted st (after st h) ≡ point p → length h < K .ceiling
-    pub good : (st : R .Settings) (h : List (R .Conditional)) → K .Domain st → Follows st h → wanted st (after st h) ≡ mode → K .Good st h (R .best (after st h))
-    pub means : (st : R .Settings) (h : List (R .Conditional)) (n : ℕ) → K .Domain st → Follows st h → wanted st (after st h) ≡ refusal n → K .Means st h n
+    pub few : (st : R .Settings) (h : List (R .Conditional)) (p : R .Point) → K .Domain st → Follows st h
+        → wanted st (after st h) ≡ point p → length h < K .ceiling
+    pub good : (st : R .Settings) (h : List (R .Conditional)) → K .Domain st → Follows st h → wanted st (after st h) ≡ mode
+        → K .Good st h (R .best (after st h))
+    pub means : (st : R .Settings) (h : List (R .Conditional)) (n : ℕ) → K .Domain st → Follows st h
+        → wanted st (after st h) ≡ refusal n → K .Means st h n
