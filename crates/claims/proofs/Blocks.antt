@@ -13,16 +13,16 @@ use lib.ListN.{getD, set, length, length-set}
 use lib.Seq.{getD-set-same, getD-set-other}
 use Rattle.float64.specs.Pick.{pick, both, pick-yes, pick-no}
 use Rattle.cache.specs.Cache.{rowWords, copyFrom, rowsTo, copied}
+use Rattle.cache.specs.Kept.{wordsFrom}
 use Rattle.cache.specs.declared.Found.{Found}
 use Rattle.cache.specs.declared.Found.the-variants.{At, Nothing}
 use Rattle.work.specs.Work.{rowsLength, block, copyWords, copyBlock, moveRows}
 use Rattle.work.specs.declared.Sources.{Sources}
 use Rattle.population.specs.Kept.{Recalled, recallAt}
-use Rattle.claims.specs.Inner.{wordsFrom}
 use Rattle.claims.proofs.Plain.{split}
 
 -- ---- the words from a place on
-pub words-same : (n a b : ℕ) (w v : List ℕ) → ((d : ℕ) → d < n → getD w (a + d) 0 ≡ getD v (b + d) 0) → wordsFrom n a w ≡ wordsFrom n b v
+pub words-same : (n a b : ℕ) (w v : List ℕ) → ((d : ℕ) → d < n → getD w (a + d) 0 ≡ getD v (b + d) 0) → wordsFrom n w a ≡ wordsFrom n v b
 unfolding wordsFrom
 words-same zero a b w v f = refl
 words-same (suc n) a b w v f = ap₂ (λ (x : ℕ) (l : List ℕ). x ∷ l) head (words-same n (a + 1) (b + 1) w v tail)
@@ -35,14 +35,14 @@ words-same (suc n) a b w v f = ap₂ (λ (x : ℕ) (l : List ℕ). x ∷ l) head
         let p : a + 1 + d ≡ a + suc d = omega arith in let q : b + suc d ≡ b + 1 + d = omega arith in
         ap (λ (i : ℕ). getD w i 0) p ∙ f (suc d) (omega (arith, l)) ∙ ap (λ (i : ℕ). getD v i 0) q
 
-pub words-at : (n a : ℕ) (w : List ℕ) (k : ℕ) → k < n → getD (wordsFrom n a w) k 0 ≡ getD w (a + k) 0
+pub words-at : (n a : ℕ) (w : List ℕ) (k : ℕ) → k < n → getD (wordsFrom n w a) k 0 ≡ getD w (a + k) 0
 unfolding wordsFrom
 words-at zero a w k l = absurd (omega (arith, l))
 words-at (suc n) a w zero l = ap (λ (i : ℕ). getD w i 0) (let p : a ≡ a + 0 = omega arith in p)
 words-at (suc n) a w (suc k) l = words-at n (a + 1) w k (omega (arith, l)) ∙ ap (λ (i : ℕ). getD w i 0) (let p : a + 1 + k ≡ a + suc k = omega arith in p)
 
 -- a list that has these words
-pub words-are : (n a : ℕ) (w l : List ℕ) → length l ≡ n → ((i : ℕ) → i < n → getD w (a + i) 0 ≡ getD l i 0) → wordsFrom n a w ≡ l
+pub words-are : (n a : ℕ) (w l : List ℕ) → length l ≡ n → ((i : ℕ) → i < n → getD w (a + i) 0 ≡ getD l i 0) → wordsFrom n w a ≡ l
 unfolding wordsFrom
 words-are zero a w [] e f = refl
 words-are zero a w (x ∷ l) e f = absurd (omega (arith, e))
@@ -101,7 +101,7 @@ module _ (rows : ℕ) where
 
   -- the words of a block
   abbrev pub rowsIn : List ℕ → ℕ → List ℕ
-  rowsIn w b = wordsFrom len (block rows b) w
+  rowsIn w b = wordsFrom len w (block rows b)
 
   copy-length : (from to : ℕ) (w : List ℕ) → length (copyBlock rows from to w) ≡ length w
   unfolding copyBlock

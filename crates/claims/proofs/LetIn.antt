@@ -118,7 +118,7 @@ module _ (setup : Setup) (counts : List ℕ) (observations : List Observation) (
   Goes = Going setup counts observations lent a
 
   -- ---- a whole session
-  both-hold : (acts : List (Act M)) → Stands (run M (N.opened words setup counts lent results) acts) × Goes (run M (N.opened words setup counts lent results) acts)
+  pub both-hold : (acts : List (Act M)) → Stands (run M (N.opened words setup counts lent results) acts) × Goes (run M (N.opened words setup counts lent results) acts)
   both-hold acts =
       run-keeps M (λ (h : Held words). Stands h × Goes h)
       (λ h p. after-both Stands Goes _ (after-turn (I .rules) (I .claims) M Y Stands h (turns words setup counts observations I Q U bound (a .most) h (p .0))) (turns-going setup counts observations lent a h (p .1)))

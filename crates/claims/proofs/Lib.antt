@@ -1,5 +1,6 @@
 pub mod Accepted
 pub mod Always
+pub mod Asked
 pub mod Blocks
 pub mod Copies
 pub mod Domains
@@ -7,6 +8,7 @@ pub mod Endings
 pub mod Entered
 pub mod Entries
 pub mod Evaluated
+pub mod Evaluations
 pub mod Fitting
 pub mod Formats
 pub mod Formatted

@@ -156,7 +156,7 @@ adds-one setup parameters p rows m e o q =
     one-term fit (p .search .best) rows m (sym (pick-no _ _ _ (one-not-two fit (fit-effects setup parameters ∙ e))) ∙ q)
 
 pub tells1 : Tells inner1 reads1 1
-unfolding warmStored pick B.closedBy
+unfolding warmStored pick B.closedBy B.conditional1
 tells1 = record {
   starts = starts1;
   modes = λ fit p rows m e q. one-mode fit (p .search .best) rows m (sym (pick-no _ _ _ (ap (λ (n : ℕ). eqb n 2) e)) ∙ q);
@@ -286,7 +286,7 @@ unfolding B.advance2
 moves-two s p c = movable2 s (p .«search_2d») (R2.advance s (p .«search_2d») c) c
 
 pub tells2 : Tells inner2 reads2 2
-unfolding warmStored pick B.closedBy B.closed2
+unfolding warmStored pick B.closedBy B.closed2 B.conditional2
 tells2 = record {
   starts = starts2;
   modes = λ fit p rows m e q. with-mode fit (p .«search_2d» .best) rows m (inversePositive (B.curvatureOf fit (p .«search_2d» .best))) (sym (pick-yes _ _ _ (eq-eqb _ _ e)) ∙ q);

@@ -27,6 +27,7 @@ use Rattle.evaluation.specs.declared.Trial as Eval
 use Rattle.evaluation.proofs.Ends.{evaluates}
 use Rattle.cache.specs.Cache.{find, rowWords}
 use Rattle.cache.specs.Claim.{Room}
+use Rattle.cache.specs.Kept.{wordsFrom}
 use Rattle.work.specs.Work.{rowsLength, zeros, block, moveRows, isSameGrid, resultWritten, fittedWritten}
 use Rattle.work.specs.declared.Sources.{Sources}
 use Rattle.admission.specs.Admission.{countObservations}
@@ -60,7 +61,7 @@ use Rattle.population.specs.declared.Turned.{Turned}
 use Rattle.population.specs.declared.Turned.the-variants.{On, Halt}
 use Rattle.session.specs.Session as N
 use Rattle.session.specs.Session.{Held, held, Call, objective, reply, failure, session}
-use Rattle.claims.specs.Inner.{Inner, inner1, inner2, recalledSums, recalledWork, recalled, wordsFrom, runningSums, pointWanted, view}
+use Rattle.claims.specs.Inner.{Inner, inner1, inner2, recalledSums, recalledWork, recalled, runningSums, pointWanted, view}
 use Rattle.claims.specs.Shown.{Words, Objective, before, Reads, reads1, reads2, RunBy, Result, Trials, SameRow, SameRows, Fitted, InWords, Apart, showing, Shown, Shows, EveryWord}
 use Rattle.claims.proofs.Accepted.{Accepts, rows-within, accepts}
 use Rattle.claims.proofs.Always.{After, after-turn, after-entry, after-both}
@@ -521,8 +522,8 @@ module _ (setup : Setup) (counts : List ℕ) (observations : List Observation) (
         let same-point : recalledAt (I .pairOf (I .pointOf eta)) ≡ some r = ap recalledAt (Q .pairs fit p eta effects-are wants) ∙ q in
         let is : Y .kept h (I .pointOf eta) .point ≡ I .conditionalOf fit eta (B.sumsOf (r .terms)) = ap (λ (x : Pair). I .conditionalOf fit x (recalledSums (recalledAt x)))
         (Q .pairs fit p eta effects-are wants) ∙ ap (λ (u : Option Recalled). I .conditionalOf fit eta (recalledSums u)) q in
-        let own : Y .kept h (I .pointOf eta) .rows ≡ rowsIn rows (r .work) 3 = ap (λ (u : Option Recalled). wordsFrom (rowWords * rows) (block rows 3) (recalledWork u)) same-point ∙ ap
-        (λ (n : ℕ). wordsFrom n (block rows 3) (r .work)) (sym len-is) in
+        let own : Y .kept h (I .pointOf eta) .rows ≡ rowsIn rows (r .work) 3 = ap (λ (u : Option Recalled). wordsFrom (rowWords * rows) (recalledWork u) (block rows 3)) same-point ∙ ap
+        (λ (n : ℕ). wordsFrom n (r .work) (block rows 3)) (sym len-is) in
         let f = find (w .kept .words) (fit .k) (w .kept .order) (B.keyOf fit j eta) in
         goes-on-carries eta (B.sumsOf (r .terms)) wants (r .work) (recalled-length (w .kept .words) (fit .k) rows (w .work) (block rows 3) f r q)
         (recalled-behind (w .kept .words) (fit .k) rows (w .work) (block rows 3) f r q) (Y .kept h (I .pointOf eta)) is own

@@ -3,10 +3,10 @@ use mathlib.Core.Path.{_≡_}
 use mathlib.Core.Logic.{_⊎_}
 use mathlib.Core.List.{List, [], _∷_}
 use mathlib.Core.Option.{Option, none, some}
-use Prim.Native.Nat.{ℕ, zero, suc, _+_, _*_}
-use lib.ListN.{length, getD, take, drop}
+use Prim.Native.Nat.{ℕ, _*_}
+use lib.ListN.{length, take, drop}
 use lib.Ieee.{Float}
-use Rattle.float64.specs.Arithmetic.{word}
+use Rattle.float64.specs.Arithmetic.{_+ᶠ_, _/ᶠ_, word}
 use Rattle.matrix.specs.declared.Pair.{Pair}
 use Rattle.mode.specs.Rules.{start, request, advance}
 use Rattle.mode.specs.declared.population_focei.Settings.{Settings}
@@ -32,9 +32,10 @@ use Rattle.evaluation.specs.declared.Sums.{Sums}
 use Rattle.evaluation.specs.declared.Evaluation.{Evaluation}
 use Rattle.evaluation.specs.declared.Evaluation.the-variants as E
 use Rattle.cache.specs.Cache.{rowWords}
+use Rattle.cache.specs.Kept.{wordsFrom}
 use Rattle.work.specs.Work.{block}
 use Rattle.admission.specs.declared.Setup.{Setup}
-use Rattle.subjects.specs.Subjects.{fitOf, settings, settings2, wantedBy, keyOf, sumsOf, conditional1, conditional2}
+use Rattle.subjects.specs.Subjects.{fitOf, settings, settings2, wantedBy, keyOf, sumsOf}
 use Rattle.subjects.specs.declared.Fit.{Fit}
 use Rattle.subjects.specs.declared.Progress.{Progress}
 use Rattle.subjects.specs.declared.Step.{Step}
@@ -135,7 +136,13 @@ inner1 = record {
   searchOf = λ p. p .search;
   pointOf = λ eta. eta .first;
   pairOf = λ x. record { first = x; second = word 0 };
-  conditionalOf = conditional1;
+  -- the prior's eta / omega is added to the score
+  conditionalOf = λ fit eta sums. record {
+    eta = eta .first;
+    nll = sums .nll;
+    score = sums .score .first +ᶠ eta .first /ᶠ fit .omega;
+    information = sums .i00;
+  };
 }
 
 abbrev pub inner2 : Inner
@@ -146,7 +153,15 @@ inner2 = record {
   searchOf = λ p. p .«search_2d»;
   pointOf = λ eta. eta;
   pairOf = λ eta. eta;
-  conditionalOf = λ fit. conditional2;
+  conditionalOf = λ fit eta sums. record {
+    eta = eta;
+    nll = sums .nll;
+    score = sums .score;
+    i00 = sums .i00;
+    i01 = sums .i01;
+    i10 = sums .i10;
+    i11 = sums .i11;
+  };
 }
 
 -- ---- the view: what an observer reads
@@ -160,11 +175,6 @@ recalledSums none = noSums
 abbrev pub recalledWork : Option Recalled → List ℕ
 recalledWork (some r) = r .work
 recalledWork none = []
-
--- n words from `from` on
-unfoldable pub wordsFrom : ℕ → ℕ → List ℕ → List ℕ
-wordsFrom zero from work = []
-wordsFrom (suc n) from work = getD work from 0 ∷ wordsFrom n (from + 1) work
 
 -- the sums of an evaluation that came to its end
 abbrev pub runningSums : Evaluation → Sums
@@ -210,7 +220,7 @@ module _ (S : Store) (setup : Setup) (counts : List ℕ) (observations : List Ob
   abbrev pub keptRows : Held S → Pair → List ℕ
   keptRows h eta =
       let rows = rowsOf counts (h .whole .progress .subject) in
-      wordsFrom (rowWords * rows) (block rows 3) (recalledWork (recalled h eta))
+      wordsFrom (rowWords * rows) (recalledWork (recalled h eta)) (block rows 3)
 
   abbrev pub view : View (I .rules) (session S setup counts observations)
   view = record {
