@@ -53,7 +53,7 @@ use Rattle.claims.proofs.Searches.{Suits, suits1, suits2}
 use Rattle.claims.proofs.Session.{some-room}
 use Rattle.claims.proofs.Standing.{Standing, fit-effects, fit-k}
 use Rattle.claims.proofs.Stores.{words-trusted, kept-few, not-found, cleared-words}
-use Rattle.claims.proofs.Asked.{Given, fit-given, Values, Good, Leaves, Left, over, objectives, failures, unawaited, called}
+use Rattle.claims.proofs.Asked.{fit-given, Values, Good, Leaves, Left, over, objectives, failures, unawaited, called}
 
 -- ---- an awaited reply
 module _ (setup : Setup) (counts : List ℕ) (observations : List Observation) (I : Inner) (Q : Suits I (setup .effects)) (lent : Lent) (many : length observations ≡ lent .observations)

@@ -2,8 +2,8 @@
 use mathlib.Core.Path.{_≡_, refl, sym, ap, subst, _∙_}
 use mathlib.Core.Bool.{Bool, true, false}
 use mathlib.Core.List.{List, [], _∷_, _++_, append-assoc, append-nil}
-use mathlib.Core.Logic.{_⊎_, inl, inr}
-use Prim.Native.Nat.{ℕ, _≤_, _<_, _%_}
+use mathlib.Core.Logic.{inl, inr}
+use Prim.Native.Nat.{ℕ, _≤_, _<_}
 use native.Mathlib.Nat.{mod-lt}
 use native.Mathlib.Omega.{arith}
 use borrow.Author.Tests.{ltb-false}
@@ -11,9 +11,9 @@ use lib.Dec.{T, ltb, eqb}
 use lib.ListN.{length, getD, take, drop}
 use lib.Ieee.{binary64}
 use lib.Ieee.Bits.{ofBits-fits}
-use Rattle.float64.specs.Answer.{Answer, given}
+use Rattle.float64.specs.Answer.{Answer}
 use Rattle.float64.specs.Arithmetic.{word}
-use Rattle.float64.specs.Pick.{pick, both, cases, pick-yes, pick-no}
+use Rattle.float64.specs.Pick.{pick, both, cases, pick-yes}
 use Rattle.likelihood.specs.declared.population_focei.Observation.{Observation}
 use Rattle.admission.specs.Admission.{checks, countObservations}
 use Rattle.admission.specs.declared.Setup.{Setup}
@@ -30,7 +30,7 @@ use Rattle.population.specs.Kept.{words}
 use Rattle.population.specs.Population.{rowsOf}
 use Rattle.session.specs.Session as N
 use Rattle.session.specs.Session.{Held, Call, objective, reply, failure, allChecked}
-use Rattle.session.specs.Calls.{heldOf, lentBy, stateOf, Setting, opening, openedBy}
+use Rattle.session.specs.Calls.{heldOf, stateOf, Setting, opening, openedBy}
 use Rattle.session.specs.declared.Opening.{Opening}
 use Rattle.session.specs.declared.Opening.the-variants as Opens
 use Rattle.session.specs.declared.State.{State}
@@ -48,8 +48,9 @@ use Rattle.claims.specs.Host.{Lends, left, lending, all, own, rewarmed, 
 use Rattle.claims.proofs.Accepted.{Accepts, rows-within, accepts}
 use Rattle.claims.proofs.Always.{After, after-turn, after-entry, onward-keeps, loop-keeps}
 use Rattle.claims.proofs.Endings.{Says}
-use Rattle.claims.proofs.Entered.{Judged, counts-judged, Stays, Answers-with, Done, done, enters as enters-done}
+use Rattle.claims.proofs.Entered.{Judged, counts-judged, Answers-with, Done, done, enters as enters-done}
 use Rattle.claims.proofs.Entries.{enters}
+use Rattle.claims.proofs.Evaluations.{every-evaluation}
 use Rattle.claims.proofs.Fitting.{Fits}
 use Rattle.claims.proofs.Formatted.{FitsSd, FitsParameters, Formatted, FitsCall, begins, turns-fit, enters-fit, sets-fit, state-fits}
 use Rattle.claims.proofs.Opening.{every-setup}
@@ -61,6 +62,7 @@ use Rattle.claims.proofs.Standing.{Standing}
 use Rattle.claims.proofs.Stores.{Trusted, words-trusted}
 use Rattle.claims.proofs.SubjectReply.{in-every-session}
 use Rattle.claims.proofs.Turns.{turns}
+use Rattle.claims.proofs.Unwritten.{every-unwritten}
 use Rattle.claims.proofs.Written.{every-word}
 
 -- two picks by one test
@@ -359,6 +361,8 @@ module _ (l : Lending) (f : FitsSetup (l .setup)) (e : number l opens ≡ 0) whe
           is = d .is;
           demand3 = holds (f .bound) (f .most) (lent l) (l .results) passes (actsOf l ds);
           shows = λ o. words-show (f .bound) (f .most) (lent l) (l .results) refl refl passes o (actsOf l ds);
+          evaluates = every-evaluation (l .setup) (l .counts) (l .observations) (f .bound) (f .most) (lent l) (l .results) refl refl passes .1 (actsOf l ds);
+          unwritten = every-unwritten (l .setup) (l .counts) (l .observations) (f .bound) (f .most) (lent l) (l .results) refl refl passes (actsOf l ds);
           tells = λ c. over-tells l c _ _ (d .is);
           tells-own = λ said. subst (λ (o : Out). Told o (now I L l ds) (call (M l) (reply said) (reached l ds) .answer)) (sym (own-is l I Q f passes _ _ d said))
               (over-tells l (reply said) _ _ (d .is));

@@ -35,5 +35,6 @@ pub mod SubjectChecks
 pub mod SubjectReply
 pub mod Trials
 pub mod Turns
+pub mod Unwritten
 pub mod Words
 pub mod Written

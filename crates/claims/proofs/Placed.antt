@@ -1,7 +1,8 @@
 -- Where a session stands keeps to what is lent: its subject, its first observation and its searches stay in their limits, the lent words as many, and the tally's kept rows those of the kept
 -- evaluations. Every turn, entry and setting of warm starts keeps that, and no turn answers with 19. Assumes nothing.
-use mathlib.Core.Path.{_≡_, refl, sym, ap, subst, _∙_}
+use mathlib.Core.Path.{_≡_, refl, sym, ap, _∙_}
 use mathlib.Core.List.{List, [], _∷_}
+use mathlib.Core.Logic.{⊎-elim}
 use mathlib.Core.Option.{Option, none, some}
 use Prim.Native.Nat.{ℕ, zero, suc, _+_, _-_, _≤_, _<_}
 use native.Mathlib.Nat.{not-suc-le-zero, le-of-suc-le-suc, mod-eq-of-lt}
@@ -57,6 +58,7 @@ use Rattle.claims.proofs.Always.{After, Says}
 use Rattle.claims.proofs.Evaluated.{work-length}
 use Rattle.claims.proofs.Lengths.{AsLong, zeros-length, move-rows-length, recalled-length, warm-stored-length, results-length}
 use Rattle.claims.proofs.Limits.{Within, start-within, advance-within, Within2, start-within2, advance-within2, Small, wanted-small}
+use Rattle.claims.proofs.Plain.{split}
 
 -- ---- the observations of the subjects before one
 before-rest : (count : ℕ) (rest : List ℕ) (i : ℕ) → before (count ∷ rest) (suc i) ≡ count + before rest i
@@ -64,7 +66,8 @@ unfolding before
 before-rest count rest zero = omega arith
 before-rest count rest (suc i) = let e = before-rest count rest i in omega (arith, e)
 
-counted-rest : (count : ℕ) (rest : List ℕ) (total largest : ℕ) {t l : ℕ} → countFrom total largest (count ∷ rest) ≡ CountsWithin t l → countFrom (total + count) (larger largest count) rest ≡ CountsWithin t l
+counted-rest : (count : ℕ) (rest : List ℕ) (total largest : ℕ) {t l : ℕ} → countFrom total largest (count ∷ rest) ≡ CountsWithin t l → countFrom (total + count)
+    (larger largest count) rest ≡ CountsWithin t l
 unfolding countFrom
 counted-rest count rest total largest {t} {l} e =
     let never : Outside ≡ CountsWithin t l → ⊥ = λ q. let z : _≡_ {A = ℕ} 0 1 = cc in omega arith in
@@ -89,6 +92,18 @@ unfolding rowsOf countObservations
 rows-exact {setup} {counts} a i l =
     let m : getD counts i 0 ≤ a .largest = each-count counts 0 0 (a .adds) .1 i l .1 in
     cases (λ (n : ℕ). n ≡ getD counts i 0) (ltb (getD counts i 0) mostRows) (λ t. refl) (λ t. let b : mostRows ≤ getD counts i 0 = ltb-false _ _ t in omega (arith, b, m, a .small))
+
+-- a subject's observations come before those of the later ones
+pub before-later : (counts : List ℕ) (i k : ℕ) → i < k → before counts i + getD counts i 0 ≤ before counts k
+unfolding before
+before-later counts i zero l = absurd (omega (arith, l))
+before-later counts i (suc k) l =
+    ⊎-elim (λ (m : i < k). let h = before-later counts i k m in omega (arith, h)) (λ (m : k ≤ i). let e : i ≡ k = omega (arith, l, m) in rw e (omega arith)) (split i k)
+
+-- and all are lent
+pub all-before : {setup : Setup} {counts : List ℕ} {lent : Lent} → Accepts setup counts lent → (i : ℕ) → i < length counts → before counts i + getD counts i 0 ≤ lent .observations
+unfolding before countObservations
+all-before {setup} {counts} a i l = let m = before-most counts (suc i) 0 0 (a .adds) l in omega (arith, m)
 
 -- the next subject's first observation comes after this one's
 pub first-exact : {setup : Setup} {counts : List ℕ} {lent : Lent} → Accepts setup counts lent → (i : ℕ) → i < length counts → raised (before counts i) (rowsOf counts i) ≡ before counts (suc i)
@@ -181,7 +196,8 @@ module _ (setup : Setup) (counts : List ℕ) (observations : List Observation) (
       warm : AsLong (w .warm) (e .warm)
       results : AsLong (w .results) (e .results)
 
-    goes : (q : Progress) (tally : Tally) (work warm results : List ℕ) → Placed counts q → tally .«cached_rows» ≡ w .tally .«cached_rows» → AsLong (w .work) work → AsLong (w .warm) warm → AsLong (w .results) results
+    goes : (q : Progress) (tally : Tally) (work warm results : List ℕ) → Placed counts q → tally .«cached_rows» ≡ w .tally .«cached_rows» → AsLong (w .work) work → AsLong (w .warm) warm
+        → AsLong (w .results) results
         → Going (held words (h .parameters) (wholeOf words q tally (w .kept) work warm results))
     goes q tally work warm results place same a b c = record { place = place; work = a ∙ g .work; warm = b ∙ g .warm; results = c ∙ g .results; rows = ap (λ x. x .0) same ∙ g .rows }
 
@@ -251,7 +267,8 @@ module _ (setup : Setup) (counts : List ℕ) (observations : List Observation) (
     by-closed NotPositive = refused-ends 16 (omega arith) _ (w .warm) refl
     by-closed (Positive m) =
         let a = warm-stored-length (fit .effects) (p .subject) (m .eta) (w .warm) in
-        both Ends (isSameGrid (w .work) rows) (next-ends m _ _ a (results-length (length counts) (p .first) (w .work) rows (p .subject) (m .eta) (m .nll) (w .results))) (refused-ends 17 (omega arith) _ _ a)
+        both Ends (isSameGrid (w .work) rows) (next-ends m _ _ a (results-length (length counts) (p .first) (w .work) rows (p .subject) (m .eta) (m .nll) (w .results)))
+        (refused-ends 17 (omega arith) _ _ a)
 
     -- ---- every request
     by-wanted : (v : Wanted) → Small v → Ends (servedBy words fit counts p (w .tally) (w .kept) (w .work) (w .warm) (w .results) v)
@@ -309,7 +326,14 @@ module _ (setup : Setup) (counts : List ℕ) (observations : List Observation) (
 
     replied-going : (eta : Pair) (work : List ℕ) → AsLong (w .work) work → (e : Evaluation) → After Going (N.replied words setup counts fit eta h work e)
     unfolding After N.replied receive takes
-    replied-going eta work a (E.Running sums) = record { place = advances counts p (g .place) fit eta sums; work = move-rows-length rows _ work ∙ a ∙ g .work; warm = g .warm; results = g .results; rows = refl }
+    replied-going eta work a (E.Running sums) = record {
+      place = advances counts p (g .place) fit eta sums;
+      work = move-rows-length rows _ work ∙ a
+          ∙ g .work;
+      warm = g .warm;
+      results = g .results;
+      rows = refl;
+    }
     replied-going eta work a (E.Refused n) = over-going n _
     replied-going eta work a (E.RefusedAt n i) = over-going n _
 

@@ -62,7 +62,6 @@ use Rattle.claims.proofs.Always.{After, after-turn, after-entry}
 use Rattle.claims.proofs.Entries.{block-end, enters}
 use Rattle.claims.proofs.Evaluated.{work-length}
 use Rattle.claims.proofs.Fitting.{Fits}
-use Rattle.claims.proofs.Lengths.{zeros-length}
 use Rattle.claims.proofs.Searches.{Suits, suits1, suits2}
 use Rattle.claims.proofs.Session.{sets, opens-standing, some-room}
 use Rattle.admission.proofs.Bounds.{shape-low}

@@ -1,8 +1,8 @@
 -- A subject's results: three words of its own, then two for each of its observations, out of the rows at eta zero and at the mode; and what is compared of these rows. Assumes nothing.
-use mathlib.Core.Path.{_≡_, refl, sym, ap, subst, _∙_}
+use mathlib.Core.Path.{_≡_, refl, sym, subst, _∙_}
 use mathlib.Core.Bool.{Bool, true, false}
 use mathlib.Core.List.{List}
-use mathlib.Core.Logic.{_⊎_, inl, inr, ⊎-elim}
+use mathlib.Core.Logic.{_⊎_, ⊎-elim}
 use Prim.Native.Nat.{ℕ, zero, suc, _+_, _-_, _*_, _≤_, _<_}
 use native.Mathlib.Omega.{arith}
 use borrow.Author.Tests.{eqb-true, eq-eqb}
@@ -13,10 +13,9 @@ use lib.Ieee.{Float, binary64, toBits, eq}
 use Rattle.float64.specs.Arithmetic.{word}
 use Rattle.float64.specs.Pick.{pick, pick-yes}
 use Rattle.matrix.specs.declared.Pair.{Pair}
-use Rattle.admission.proofs.Bounds.{not-first}
 use Rattle.cache.specs.Cache.{rowWords}
-use Rattle.work.specs.Work.{mostRows, smaller, block, isSameRow, sameFrom, isSameGrid, resultWritten, fittedAt, fittedRow, fittedFrom, fittedWritten}
-use Rattle.claims.proofs.Plain.{true-not-false, false-not-true, split}
+use Rattle.work.specs.Work.{mostRows, block, isSameRow, sameFrom, isSameGrid, resultWritten, fittedAt, fittedRow, fittedFrom, fittedWritten}
+use Rattle.claims.proofs.Plain.{true-not-false, false-not-true}
 
 pub past-two : (l : List ℕ) (i k a b x : ℕ) → (x ≡ i → ⊥) → (x ≡ k → ⊥) → getD (set (set l i a) k b) x 0 ≡ getD l x 0
 past-two l i k a b x p q = getD-set-other (set l i a) k x b 0 q ∙ getD-set-other l i x a 0 p
@@ -31,6 +30,13 @@ unfolding fittedFrom fittedRow
 fitted-behind zero at work rows i results x l = refl
 fitted-behind (suc n) at work rows i results x l =
     fitted-behind n at work rows (i + 1) _ x (omega (arith, l))
+    ∙ past-two results (at + 2 * i) (at + 2 * i + 1) (getD work (block rows 0 + rowWords * i) 0) (getD work (block rows 1 + rowWords * i) 0) x (λ e. omega (arith, e, l)) (λ e. omega (arith, e, l))
+
+fitted-past : (n at : ℕ) (work : List ℕ) (rows i : ℕ) (results : List ℕ) (x : ℕ) → at + 2 * (i + n) ≤ x → getD (fittedFrom n at work rows i results) x 0 ≡ getD results x 0
+unfolding fittedFrom fittedRow
+fitted-past zero at work rows i results x l = refl
+fitted-past (suc n) at work rows i results x l =
+    fitted-past n at work rows (i + 1) _ x (omega (arith, l))
     ∙ past-two results (at + 2 * i) (at + 2 * i + 1) (getD work (block rows 0 + rowWords * i) 0) (getD work (block rows 1 + rowWords * i) 0) x (λ e. omega (arith, e, l)) (λ e. omega (arith, e, l))
 
 module _ (at : ℕ) (work : List ℕ) (rows : ℕ) where
@@ -88,6 +94,14 @@ module _ (subjects first : ℕ) (work : List ℕ) (rows : ℕ) (m : subjects ≤
       (λ e. ⊎-elim (λ (c : x < 3 * j). omega (arith, c, e)) (λ (c : 3 * j + 3 ≤ x). omega (arith, c, e)) o)
       ∙ past-two results (3 * j) (3 * j + 1) a b x (λ e. ⊎-elim (λ (c : x < 3 * j). omega (arith, c, e)) (λ (c : 3 * j + 3 ≤ x). omega (arith, c, e)) o)
       (λ e. ⊎-elim (λ (c : x < 3 * j). omega (arith, c, e)) (λ (c : 3 * j + 3 ≤ x). omega (arith, c, e)) o)
+
+  -- and what stands behind it
+  pub result-past : (x : ℕ) → j < subjects → 3 * subjects + 2 * (first + rows) ≤ x → getD after x 0 ≡ getD results x 0
+  unfolding fittedWritten resultWritten
+  result-past x k l =
+      fitted-past _ _ work rows 0 _ x (let e = at-is in let n : mostRows - (mostRows - rows) ≡ rows = omega (arith, small) in omega (arith, e, l, n))
+      ∙ getD-set-other (set (set results (3 * j) a) (3 * j + 1) b) (3 * j + 2) x (toBits binary64 nll) 0 (λ e. omega (arith, e, k, l))
+      ∙ past-two results (3 * j) (3 * j + 1) a b x (λ e. omega (arith, e, k, l)) (λ e. omega (arith, e, k, l))
 
   module _ (inside : j < subjects) (lent : 3 * subjects + 2 * (first + rows) ≤ length results) where
     pub first-written : getD after (3 * j) 0 ≡ a

@@ -3,7 +3,7 @@
 use mathlib.Core.Path.{_≡_, refl, sym, ap, subst, _∙_}
 use mathlib.Core.Bool.{true, false}
 use mathlib.Core.List.{List, [], _∷_, _++_}
-use mathlib.Core.Logic.{_⊎_, inl, inr, ⊎-elim}
+use mathlib.Core.Logic.{_⊎_, inl, inr}
 use mathlib.Core.Option.{Option, none, some}
 use Prim.Native.Nat.{ℕ, zero, suc, _+_, _-_, _*_, _≤_, _<_}
 use native.Mathlib.Nat.{mod-eq-of-lt, mul-le-mul-left, le-trans}
@@ -30,7 +30,6 @@ use Rattle.cache.specs.Claim.{Room}
 use Rattle.cache.specs.Kept.{wordsFrom}
 use Rattle.work.specs.Work.{rowsLength, zeros, block, moveRows, isSameGrid, resultWritten, fittedWritten}
 use Rattle.work.specs.declared.Sources.{Sources}
-use Rattle.admission.specs.Admission.{countObservations}
 use Rattle.admission.specs.declared.Setup.{Setup}
 use Rattle.admission.specs.declared.Parameters.{Parameters}
 use Rattle.admission.specs.declared.Lent.{Lent}
@@ -71,8 +70,7 @@ use Rattle.claims.proofs.Evaluated.{work-length, reply-length}
 use Rattle.claims.proofs.Fitting.{Fits}
 use Rattle.claims.proofs.Lengths.{AsLong, recalled-length}
 use Rattle.claims.proofs.ModeWords.{OfMode, Tells, tells1, tells2}
-use Rattle.claims.proofs.Placed.{before-most, rows-exact, Going, turns-going, enters-going, sets-going, opens-going}
-use Rattle.claims.proofs.Plain.{split}
+use Rattle.claims.proofs.Placed.{before-later, all-before, rows-exact, Going, turns-going, enters-going, sets-going, opens-going}
 use Rattle.claims.proofs.Results.{Predicted, SameAt, result-kept, first-written, second-written, nll-written, fitted-written, grid-same, grid-other}
 use Rattle.claims.proofs.Searches.{Suits, suits1, suits2, wantsOf}
 use Rattle.claims.proofs.Session.{sets, lawful, opens-standing, some-room}
@@ -138,16 +136,6 @@ module _ (setup : Setup) (counts : List ℕ) (observations : List Observation) (
   abbrev In : Searched (I .rules) → I .rules .Conditional → Held words → Type 0
   In = InWords setup counts observations I L
 
-  -- a subject's observations come before those of the later ones
-  before-later : (i k : ℕ) → i < k → before counts i + getD counts i 0 ≤ before counts k
-  unfolding before
-  before-later i zero l = absurd (omega (arith, l))
-  before-later i (suc k) l = ⊎-elim (λ (m : i < k). let h = before-later i k m in omega (arith, h)) (λ (m : k ≤ i). let e : i ≡ k = omega (arith, l, m) in rw e (omega arith)) (split i k)
-
-  all-before : (i : ℕ) → i < length counts → before counts i + getD counts i 0 ≤ lent .observations
-  unfolding before countObservations
-  all-before i l = let m = before-most counts (suc i) 0 0 (a .adds) l in omega (arith, m)
-
   abbrev Results : ℕ → I .rules .Conditional → List ℕ → Type 0
   Results = Result setup counts observations I L
 
@@ -188,7 +176,7 @@ module _ (setup : Setup) (counts : List ℕ) (observations : List Observation) (
     small = rows-within a j (s .subject) .1
 
     few : p .first ≤ 100000
-    few = let e = first-is in let m = all-before j (s .subject) in omega (arith, e, m, a .all)
+    few = let e = first-is in let m = all-before a j (s .subject) in omega (arith, e, m, a .all)
 
     -- what is written, beside the subject's own words
     record Writes (warm results : List ℕ) : Type 0 where
@@ -207,7 +195,7 @@ module _ (setup : Setup) (counts : List ℕ) (observations : List Observation) (
         let c : (y : ℕ) → y < 3 * j → getD results y 0 ≡ getD (w .results) y 0 = λ y z. v .kept y (inl z) in
         let f : (k : ℕ) → k < getD counts i 0 → (y : ℕ) → 3 * length counts + 2 * (before counts i + k) ≤ y → y < 3 * length counts + 2 * (before counts i + k) + 2 → getD results y 0 ≡ getD
         (w .results) y 0 =
-        λ k z y u t. v .kept y (inr (omega (arith, u), let e = before-later i j l in omega (arith, z, t, e))) in
+        λ k z y u t. v .kept y (inr (omega (arith, u), let e = before-later counts i j l in omega (arith, z, t, e))) in
         record {
           warm = v .stays i (λ e. omega (arith, e, l)) m (o .warm);
           result = record {
@@ -256,7 +244,7 @@ module _ (setup : Setup) (counts : List ℕ) (observations : List Observation) (
 
       lent-results : 3 * length counts + 2 * (p .first + rows) ≤ length (w .results)
       lent-results =
-          let e = first-is in let r = rows-are in let m = all-before j (s .subject) in
+          let e = first-is in let r = rows-are in let m = all-before a j (s .subject) in
           subst (λ (n : ℕ). 3 * length counts + 2 * (p .first + rows) ≤ n) (sym (g .results)) (omega (arith, e, r, m, a .results-lent))
 
       result-in : Results j (I .rules .best (I .searchOf p)) written
@@ -624,7 +612,7 @@ module _ (setup : Setup) (counts : List ℕ) (observations : List Observation) (
       -- all of the subject's observations are lent
       all-there : length lists ≡ rows
       all-there =
-          let e = first-is in let r = rows-are in let m = all-before j (s .subject) in let n = there in
+          let e = first-is in let r = rows-are in let m = all-before a j (s .subject) in let n = there in
           length-take-le rows (drop (p .first) observations) (let d = length-drop (p .first) observations in omega (arith, d, e, r, m, n))
 
       ends : Evaluates trial (setup .«output_budget») said lists (w .work)

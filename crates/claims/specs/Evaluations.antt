@@ -1,13 +1,12 @@
 -- What is asked for and what is kept, in every session: a question has the individual values of the objective's own theta, and a reply's
 -- evaluation is kept under its point, without the prior.
 use mathlib.Core.Path.{_≡_}
-use mathlib.Core.Bool.{true}
 use mathlib.Core.List.{List, []}
 use Prim.Native.Nat.{ℕ, _<_}
 use lib.Dec.{T, eqb}
 use lib.ListN.{length, getD, take, drop}
 use lib.Ieee.{binary64, fits, toBits}
-use Rattle.float64.specs.Arithmetic.{_*ᶠ_, word}
+use Rattle.float64.specs.Arithmetic.{_*ᶠ_}
 use Rattle.float64.specs.Pick.{pick}
 use Rattle.libm.specs.Exp.{exp}
 use Rattle.matrix.specs.declared.Pair.{Pair}
@@ -120,4 +119,5 @@ EveryEvaluation = (setup : Setup) (counts : List ℕ) (observations : List Obser
     → length results ≡ lent .results → opens words setup counts observations lent ≡ Accepted
     → let begun = opened words setup counts lent results in
     Keeping setup counts observations begun []
-    × ((acts : List (Act (M setup counts observations))) → Evaluates setup counts observations (run (M setup counts observations) begun acts))
+    × ((acts : List (Act (M setup counts observations)))
+    → Evaluates setup counts observations (run (M setup counts observations) begun acts))

@@ -22,6 +22,8 @@ use Rattle.session_words.specs.SessionWords.{loadedState}
 use Rattle.hosting.specs.Hosting.{SetupBits, setupFrom, ParameterBits, parametersFrom, Out, answered, answerOf, numberOf}
 use Rattle.claims.specs.Inner.{Inner, inner1, inner2, view}
 use Rattle.claims.specs.Refusals.{opens, calls, replies, Lending, does, number}
+use Rattle.claims.specs.Evaluations.{Evaluates}
+use Rattle.claims.specs.Unwritten.{Unwritten}
 use Rattle.claims.specs.Shown.{Objective, before, Reads, reads1, reads2, showing, Shown}
 
 -- ---- what a host has and does
@@ -62,8 +64,8 @@ lending setup counts observations m = record {
   results = m .results;
 }
 
--- after setup: with the same setup and counts, and all the observations or those of the awaited subject alone, whose number is word 8 of the
--- state
+-- after setup: with the same setup and counts, and all the observations or those of the awaited subject alone, whose number is word 8 of
+-- the state
 abbrev pub all : Lending → Lends → Lending
 all l m = lending (l .setup) (l .counts) (l .observations) m
 
@@ -151,7 +153,12 @@ module _ (I : Inner) (L : Reads I) (l : Lending) (ds : List Deed) where
     -- and what these words show of the log
     pub shows : (o : Objective (I .rules) (M l) viewed)
         → Shown (I .rules) (M l) viewed (showing (l .setup) (l .counts) (l .observations) I L) o (first l) (actsOf l ds)
-    -- one call more is told as the machine's answer; and so a reply where one subject's observations are lent
+    -- what is asked for and what is kept
+    pub evaluates : Evaluates (l .setup) (l .counts) (l .observations) (reached l ds)
+    -- one call more leaves the words alone of the subjects whose mode it does not reach
+    pub unwritten : (c : Call) → let r = call (M l) c (reached l ds) in
+        Unwritten (l .setup) (l .counts) (reached l ds) (r .answer) (r .state)
+    -- it is told as the machine's answer; and so a reply where one subject's observations are lent
     pub tells : (c : Call) → Told (does (all l now) (calls c)) now (call (M l) c (reached l ds) .answer)
     pub tells-own : (said : List ℕ) → Told (does (own l now) (replies said)) now (call (M l) (reply said) (reached l ds) .answer)
 

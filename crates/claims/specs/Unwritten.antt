@@ -1,0 +1,47 @@
+-- What a call leaves alone, in every session: the words of the subjects whose mode it does not reach.
+use mathlib.Core.Path.{_≡_}
+use mathlib.Core.List.{List}
+use Prim.Native.Nat.{ℕ, suc, _+_, _*_, _≤_, _<_}
+use lib.Dec.{T, eqb}
+use lib.ListN.{length, getD}
+use lib.Ieee.{binary64, fits}
+use Rattle.float64.specs.Pick.{pick}
+use Rattle.likelihood.specs.declared.population_focei.Observation.{Observation}
+use Rattle.admission.specs.declared.Setup.{Setup}
+use Rattle.admission.specs.declared.Lent.{Lent}
+use Rattle.admission.specs.declared.Admission.the-variants.{Accepted}
+use Rattle.subjects.specs.declared.Place.the-variants.{Nowhere, Subject, Observation as AtObservation}
+use Rattle.subjects.specs.declared.Step.{Step}
+use Rattle.subjects.specs.declared.Step.the-variants.{Asked, Finished, Refused}
+use Rattle.sessions.specs.Machine.{call, Act, run}
+use Rattle.population.specs.Kept.{words}
+use Rattle.session.specs.Session.{Held, Call, session, opened, opens}
+use Rattle.claims.specs.Shown.{before}
+
+module _ (setup : Setup) (counts : List ℕ) where
+  -- the result words of the subjects from i on, with their predictions, and the warm starts of those from k on, are as they were
+  pub record Stays (i k : ℕ) (h t : Held words) : Type 0 where
+    pub results : (x : ℕ) → 3 * i ≤ x → x < 3 * length counts → getD (t .whole .results) x 0 ≡ getD (h .whole .results) x 0
+    pub predictions : (x : ℕ) → 3 * length counts + 2 * before counts i ≤ x → getD (t .whole .results) x 0 ≡ getD (h .whole .results) x 0
+    pub warm : (x : ℕ) → setup .effects * k ≤ x → getD (t .whole .warm) x 0 ≡ getD (h .whole .warm) x 0
+
+  -- a subject that is refused gets no result, and a warm start with 17 alone; the later ones get nothing
+  abbrev pub StaysAt : ℕ → ℕ → Held words → Held words → Type 0
+  StaysAt number i h t = Stays i (pick (eqb number 17) (suc i) i) h t
+
+  -- from the state h to t, with this answer
+  abbrev pub Unwritten : Held words → Step → Held words → Type 0
+  Unwritten h (Asked eta individual) t = let i = t .whole .progress .subject in Stays i i h t
+  Unwritten h (Finished ofv) t = Unit
+  Unwritten h (Refused number Nowhere) t = Unit
+  Unwritten h (Refused number (Subject i)) t = StaysAt number i h t
+  Unwritten h (Refused number (AtObservation i n)) t = StaysAt number i h t
+
+-- one call more, after any list of calls, in the session that an accepted setup opened
+abbrev pub EveryUnwritten : Type 0
+EveryUnwritten = (setup : Setup) (counts : List ℕ) (observations : List Observation) → T (fits binary64 (setup .«eta_bound»))
+    → setup .«max_evaluations» < 4294967296 → (lent : Lent) (results : List ℕ) → length observations ≡ lent .observations
+    → length results ≡ lent .results → opens words setup counts observations lent ≡ Accepted
+    → let M = session words setup counts observations in
+    (acts : List (Act M)) (c : Call) → let h = run M (opened words setup counts lent results) acts in
+    let r = call M c h in Unwritten setup counts h (r .answer) (r .state)
