@@ -5,11 +5,21 @@
  * their own: all that a session has stands in what the host lends. Between the calls of a session the host
  * changes none of it but the reply, and between objectives the warm starts.
  *
- * A slice is a pointer and a number of elements. A pointer of an empty slice is not null either. What is
- * lent to be written overlaps nothing else that is lent to the same call. Floats in words are their bits.
+ * What the caller owes. The functions are proved for calls that keep these rules. Nothing tests them, and of a
+ * call that breaks one nothing is promised:
  *
- * Every call returns, whatever the floats, words, lengths and the order of calls. Its result is 0, or the
- * number of a refusal:
+ *   - A slice is a pointer and a number of elements, and there are as many there. The pointer is aligned as its
+ *     type is, and not null, also where the number is 0. What is lent has been written before, all of it.
+ *   - What is lent to be written overlaps nothing else that is lent to the same call.
+ *   - A bool is 0 or 1, also where its struct is filled in byte by byte.
+ *   - The floating-point environment is that of a C program's beginning: rounding to nearest, no flushing to
+ *     zero, subnormals not taken for zero, no traps. Otherwise questions, counts and results are other ones.
+ *   - While a call runs no other thread writes what is lent to it, or reads what it writes. Calls of which none
+ *     is lent what another writes may run at the same time.
+ *   - 8 KB of stack are left: a call takes some 5.
+ *
+ * Floats in words are their bits. With these rules kept every call returns, whatever the floats, words, lengths
+ * and the order of calls. Its result is 0, or the number of a refusal:
  *
  *   1   effects 1 or 2; subjects 1 to 4,096; observations at least 1 for each subject, at most 100,000 in
  *       all, as many as the counts say

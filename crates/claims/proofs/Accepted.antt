@@ -25,12 +25,12 @@ use Rattle.admission.proofs.Bounds.{not-first, counts-low, cohort-low}
 use Rattle.population.specs.Population.{rowsOf}
 use Rattle.claims.proofs.Plain.{true-not-false, false-not-true, positive, split}
 
-record Cohort (effects subjects total observations : ℕ) : Type 0 where
-  one-or-two : (effects ≡ 1) ⊎ (effects ≡ 2)
-  some : 1 ≤ subjects
-  adds : total ≡ observations
+pub record Cohort (effects subjects total observations : ℕ) : Type 0 where
+  pub one-or-two : (effects ≡ 1) ⊎ (effects ≡ 2)
+  pub some : 1 ≤ subjects
+  pub adds : total ≡ observations
 
-is-cohort : (effects subjects total observations : ℕ) → isCohort effects subjects total observations ≡ true → Cohort effects subjects total observations
+pub is-cohort : (effects subjects total observations : ℕ) → isCohort effects subjects total observations ≡ true → Cohort effects subjects total observations
 unfolding isCohort
 is-cohort effects subjects total observations q =
     let a = not-first _ _ false-not-true q in
@@ -67,6 +67,7 @@ pub record Accepts (setup : Setup) (counts : List ℕ) (lent : Lent) : Type 0 wh
   pub effects : (setup .effects ≡ 1) ⊎ (setup .effects ≡ 2)
   -- the counts add up to the records lent
   pub adds : countObservations counts ≡ Within (lent .observations) largest
+  pub all : lent .observations ≤ 100000
   pub some : 1 ≤ length counts
   pub most : length counts ≤ 4096
   pub small : largest ≤ 100000
@@ -75,6 +76,8 @@ pub record Accepts (setup : Setup) (counts : List ℕ) (lent : Lent) : Type 0 wh
   pub shape-in : isNoShape setup ≡ false
   pub work-lent : 12 * largest ≤ lent .work
   pub cache-lent : 24 * setup .k ≤ lent .cache
+  pub warm-lent : setup .effects * length counts ≤ lent .warm
+  pub results-lent : 2 * lent .observations + 3 * length counts ≤ lent .results
 
 pub rows-within : {setup : Setup} {counts : List ℕ} {lent : Lent} → Accepts setup counts lent → (i : ℕ) → i < length counts → (1 ≤ rowsOf counts i) × (rowsOf counts i ≤ 100000)
 rows-within a i l = let e = a .each i l in (e .0, let f = e .1 in omega (arith, f, a .small))
@@ -84,12 +87,13 @@ module _ (setup : Setup) (counts : List ℕ) (lent : Lent) (check : Check) where
   unfolding rowsOf
   rows-are l m i h = cases (λ (n : ℕ). (1 ≤ n) × (n ≤ l)) (ltb (getD counts i 0) mostRows) (λ u. h) (λ u. let v : mostRows ≤ getD counts i 0 = ltb-false _ _ u in (omega arith, omega (arith, h .1, v)))
 
-  room-lent : (subjects total largest : ℕ) → isShort setup subjects total largest lent ≡ false → (12 * largest ≤ lent .work) × (24 * setup .k ≤ lent .cache)
+  room-lent : (subjects total largest : ℕ) → isShort setup subjects total largest lent ≡ false → (12 * largest ≤ lent .work) × (24 * setup .k ≤ lent .cache) × (setup .effects * subjects ≤ lent .warm) × (2 * total + 3 * subjects ≤ lent .results)
   unfolding isShort
   room-lent subjects total largest e =
       let w = not-first (ltb (lent .work) (12 * largest)) _ true-not-false e in
       let c = not-first (ltb (lent .cache) (24 * setup .k)) _ true-not-false (w .1) in
-      (ltb-false _ _ (w .0), ltb-false _ _ (c .0))
+      let v = not-first (ltb (lent .warm) (setup .effects * subjects)) _ true-not-false (c .1) in
+      (ltb-false _ _ (w .0), ltb-false _ _ (c .0), ltb-false _ _ (v .0), ltb-false _ _ (v .1))
 
   by-check : (total largest : ℕ) (k : Check) → roomy setup (length counts) total largest lent k ≡ A.Accepted → isShort setup (length counts) total largest lent ≡ false
   unfolding roomy
@@ -113,6 +117,7 @@ module _ (setup : Setup) (counts : List ℕ) (lent : Lent) (check : Check) where
         largest = largest;
         effects = g .one-or-two;
         adds = subst (λ (n : ℕ). countObservations counts ≡ Within n largest) (g .adds) c;
+        all = subst (λ (n : ℕ). n ≤ 100000) (g .adds) (low .0);
         some = g .some;
         most = cohort .1;
         small = low .1;
@@ -121,6 +126,8 @@ module _ (setup : Setup) (counts : List ℕ) (lent : Lent) (check : Check) where
         shape-in = s .0;
         work-lent = r .0;
         cache-lent = r .1;
+        warm-lent = r .2;
+        results-lent = subst (λ (n : ℕ). 2 * n + 3 * length counts ≤ lent .results) (g .adds) (r .3);
       }
 
   by-counts : (c : Counts) → countObservations counts ≡ c → checksOf setup (length counts) lent check c ≡ A.Accepted → Accepts setup counts lent

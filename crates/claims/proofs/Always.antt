@@ -29,8 +29,8 @@ module _ (R : Rules) (K : Claims R) (M : Machine) (Y : View R M) (Sound : M .Sta
   pub after-turn : (s : M .State) {m : Move M} → Turn R K M Y Sound s m → After Sound m
   unfolding After
   after-turn s (hit e r v) = v .kept .sound
-  after-turn s (short e m o) = o .sound
-  after-turn s (wild e m o) = o .sound
+  after-turn s (short e m n o) = o .sound
+  after-turn s (wild e m n o) = o .sound
   after-turn s (miss e m q f t n) = q .sound
   after-turn s (next e b) = b .sound
   after-turn s (barred e m o) = o .sound
@@ -42,15 +42,15 @@ module _ (R : Rules) (K : Claims R) (M : Machine) (Y : View R M) (Sound : M .Sta
   after-entry c s h (same e) = h
   after-entry c s h (begins i b) = b .sound
   after-entry c s h (replied t r v) = v .kept .sound
-  after-entry c s h (failed t e o) = o .sound
+  after-entry c s h (failed t e n o) = o .sound
 
 -- ---- a call, a session
-onward-keeps : {State Answer : Type 0} (P : State → Type 0) (m : Moved State Answer) (k : State → Ran State Answer) → After P m → ((s : State) → P s → P (k s .state)) → P (onward m k .state)
+pub onward-keeps : {State Answer : Type 0} (P : State → Type 0) (m : Moved State Answer) (k : State → Ran State Answer) → After P m → ((s : State) → P s → P (k s .state)) → P (onward m k .state)
 unfolding After onward
 onward-keeps P (on s) k p f = f s p
 onward-keeps P (halt a s) k p f = p
 
-loop-keeps : {State Answer : Type 0} (P : State → Type 0) (turn : State → Moved State Answer) (spent : Answer) → ((s : State) → P s → After P (turn s)) → (n : ℕ) (s : State) → P s → P (loop turn spent n s .state)
+pub loop-keeps : {State Answer : Type 0} (P : State → Type 0) (turn : State → Moved State Answer) (spent : Answer) → ((s : State) → P s → After P (turn s)) → (n : ℕ) (s : State) → P s → P (loop turn spent n s .state)
 unfolding loop
 loop-keeps P turn spent keeps zero s p = p
 loop-keeps P turn spent keeps (suc n) s p = onward-keeps P (turn s) _ (keeps s p) (loop-keeps P turn spent keeps n)

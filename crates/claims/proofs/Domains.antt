@@ -85,7 +85,7 @@ some-is m i det e =
     let f = not-first _ _ never (d .1) .1 in
     cc
 
-two-omega : (setup : Setup) → setup .effects ≡ 2 → isNoOmega setup ≡ false
+pub two-omega : (setup : Setup) → setup .effects ≡ 2 → isNoOmega setup ≡ false
     → (isNoVariance (setup .omega11) ≡ false) × ((ne (setup .omega01) (setup .omega10) ≡ false) × (isNone (inversePositive (omegaOf setup)) ≡ false))
 unfolding isNoOmega
 two-omega setup e o =

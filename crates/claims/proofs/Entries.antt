@@ -2,11 +2,12 @@
 use mathlib.Core.Path.{_≡_, refl, sym, ap, subst, _∙_}
 use mathlib.Core.Bool.{true, false}
 use mathlib.Core.List.{List}
+use mathlib.Core.Logic.{_⊎_, inl, inr}
 use mathlib.Core.Option.{none}
 use Prim.Native.Nat.{ℕ, suc, _+_, _-_, _*_, _≤_, _<_}
 use native.Mathlib.Omega.{arith}
 use lib.Dec.{T}
-use lib.ListN.{length, take, drop}
+use lib.ListN.{length, take, drop, length-take}
 use Rattle.float64.specs.Pick.{both, cases}
 use Rattle.matrix.specs.declared.Pair.{Pair}
 use Rattle.likelihood.specs.declared.population_focei.Observation.{Observation}
@@ -15,7 +16,8 @@ use Rattle.evaluation.specs.declared.Trial.{Trial}
 use Rattle.evaluation.specs.declared.Sums.{Sums}
 use Rattle.evaluation.specs.declared.Evaluation.{Evaluation}
 use Rattle.evaluation.specs.declared.Evaluation.the-variants as E
-use Rattle.evaluation.proofs.Ends.{finite-sums}
+use Rattle.evaluation.specs.Claim.{Evaluates}
+use Rattle.evaluation.proofs.Ends.{finite-sums, evaluates}
 use Rattle.work.specs.Work.{zeros, block, moveRows}
 use Rattle.cache.specs.Cache.{rowWords}
 use Rattle.admission.specs.Admission.{withParameters}
@@ -33,6 +35,7 @@ use Rattle.subjects.specs.declared.Wanted.{Wanted}
 use Rattle.subjects.specs.declared.Wanted.the-variants as Wants
 use Rattle.sessions.specs.Lawful.{Enters}
 use Rattle.sessions.specs.Lawful.Enters.{same, begins, replied, failed}
+use Rattle.sessions.specs.Log.{OfEvaluation}
 use Rattle.sessions.specs.Machine.{Moved, on, Machine}
 use Rattle.sessions.specs.Observed.{View}
 use Rattle.population.specs.Kept.{Store}
@@ -90,9 +93,9 @@ module _ (S : Store) (setup : Setup) (counts : List ℕ) (observations : List Ob
     when-admitted go (A.Unsound place) f = unaltered 4 _
 
     -- a refusal that ends the objective
-    over : p .awaits ≡ true → (number : ℕ) (place : Place) → Goes c h (N.over S setup counts number place h)
+    over : p .awaits ≡ true → (number : ℕ) → OfEvaluation number → (place : Place) → Goes c h (N.over S setup counts number place h)
     unfolding N.over B.idle B.withSearch
-    over t number place = failed t refl (record {
+    over t number b place = failed t refl b (record {
       sound = still S setup counts observations I Q U h s (B.idle p) (w .tally) (zeros (length (w .work))) (w .warm) (w .results) (s .subject) refl (s .warm-fits) (Q .pointed-idle p (s .pointed)) (omega arith) (s .limit) (zeros-length (length (w .work)));
       idle = refl;
       tally = refl;
@@ -196,7 +199,7 @@ module _ (S : Store) (setup : Setup) (counts : List ℕ) (observations : List Ob
           let k = key-fine own (r .subject) eta (setup .effects) effects-are eta-fits .1 passed in
           record { first = k .0; second = k .1; finite = terms-finite sums (sums-fit trial words (setup .width) (setup .effects) (setup .«output_budget») lists (v .work) sums d) finite }
 
-      given-is : Y .given (reply words) h ≡ I .conditionalOf own eta sums
+      given-is : Y .given (reply words) h .point ≡ I .conditionalOf own eta sums
       given-is = ap (λ (x : Wanted). I .conditionalOf own (pointWanted x) (runningSums (finish (ended .evaluation)))) e ∙ ap (λ (x : Evaluation). I .conditionalOf own eta (runningSums x)) d
 
       abbrev after : Progress
@@ -250,10 +253,24 @@ module _ (S : Store) (setup : Setup) (counts : List ℕ) (observations : List Ob
             tally = refl;
           })
 
+    ends : Evaluates trial (setup .«output_budget») words lists (v .work)
+    ends = evaluates trial (setup .«output_budget») words lists (v .work)
+        (let l = length-take rows (drop (r .first) observations) in let m = each (r .subject) (s .subject) .1 in omega (arith, l, m))
+
+    numbered : {n : ℕ} → (n ≡ 8) ⊎ ((n ≡ 9) ⊎ (n ≡ 12)) → OfEvaluation n
+    numbered (inl e) = (omega (arith, e), omega (arith, e))
+    numbered (inr (inl e)) = (omega (arith, e), omega (arith, e))
+    numbered (inr (inr e)) = (omega (arith, e), omega (arith, e))
+
+    placed : {n : ℕ} → (n ≡ 10) ⊎ ((n ≡ 11) ⊎ (n ≡ 12)) → OfEvaluation n
+    placed (inl e) = (omega (arith, e), omega (arith, e))
+    placed (inr (inl e)) = (omega (arith, e), omega (arith, e))
+    placed (inr (inr e)) = (omega (arith, e), omega (arith, e))
+
     by-end : (x : Evaluation) → finish (ended .evaluation) ≡ x → Goes (reply words) h (N.replied S setup counts own eta h (ended .work) x)
     by-end (E.Running sums) d = goes sums d
-    by-end (E.Refused n) d = unfold N.replied in over (reply words) h s t n _
-    by-end (E.RefusedAt n i) d = unfold N.replied in over (reply words) h s t n _
+    by-end (E.Refused n) d = unfold N.replied in over (reply words) h s t n (numbered (ends .numbers n d)) _
+    by-end (E.RefusedAt n i) d = unfold N.replied in over (reply words) h s t n (placed (ends .places n i d .0)) _
 
     pub answers : Goes (reply words) h (N.answered S setup counts observations words eta h)
     unfolding N.answered
@@ -263,4 +280,4 @@ module _ (S : Store) (setup : Setup) (counts : List ℕ) (observations : List Ob
   unfolding N.enter N.enterReply N.enterFailure
   enters (objective parameters) h s = at-objective (objective parameters) h s parameters
   enters (reply words) h s = when-awaited (reply words) h s _ (λ t eta e. answers words h s t eta e)
-  enters failure h s = when-awaited failure h s _ (λ t eta e. over failure h s t 8 _)
+  enters failure h s = when-awaited failure h s _ (λ t eta e. over failure h s t 8 (omega arith, omega arith) _)

@@ -4,7 +4,7 @@ use mathlib.Core.Bool.{false}
 use mathlib.Core.List.{List, [], _∷_}
 use Prim.Native.Nat.{ℕ, _+_, _*_}
 use native.Mathlib.Omega.{arith}
-use lib.ListN.{set, length-set}
+use lib.ListN.{set, length, length-set}
 use lib.Ieee.{Float, binary64}
 use lib.Ieee.Bits.{ofBits-fits, ofBits-toBits}
 use lib.Ieee.Fits.{add-fits}
@@ -15,6 +15,7 @@ use Rattle.likelihood_2d.specs.Row2.{addNll, addScore, addInformation}
 use Rattle.likelihood.specs.declared.population_focei.Observation.{Observation}
 use Rattle.likelihood.specs.declared.population_focei.RowTerms.{RowTerms}
 use Rattle.likelihood_2d.specs.declared.population_focei_2d.Row2.{Row2}
+use Rattle.evaluation.specs.Claim.{replyRows}
 use Rattle.evaluation.specs.Reply.{written}
 use Rattle.evaluation.specs.Subject.{begin, atObservation, withTerms, addRow, withRow, addRow2, addRowAt, Evaluating, evaluating, addAt, addTo, addAfter, addObservation, addObservations, hasNonfiniteSum, finish}
 use Rattle.evaluation.specs.declared.Trial.{Trial}
@@ -131,3 +132,9 @@ module _ (trial : Trial) (reply : List ℕ) (width effects budget : ℕ) (os : L
 pub terms-finite : (s : Sums) → FitsSums s → hasNonfiniteSum s ≡ false → hasNonfiniteSum (sumsOf (termsOf s)) ≡ false
 unfolding hasNonfiniteSum sumsOf termsOf
 terms-finite s f h = simp (ofBits-toBits binary64 (s .nll) (f .nll), ofBits-toBits binary64 (s .score .first) (f .first), ofBits-toBits binary64 (s .score .second) (f .second), ofBits-toBits binary64 (s .i00) (f .i00), ofBits-toBits binary64 (s .i01) (f .i01), ofBits-toBits binary64 (s .i10) (f .i10), ofBits-toBits binary64 (s .i11) (f .i11)) h
+
+-- three words for each observation
+pub reply-length : (width effects : ℕ) (reply : List ℕ) (os : List Observation) → length (replyRows width effects reply os) ≡ rowWords * length os
+unfolding replyRows
+reply-length width effects reply [] = refl
+reply-length width effects reply (o ∷ os) = let e = reply-length width effects reply os in omega (arith, e)

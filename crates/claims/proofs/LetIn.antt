@@ -115,18 +115,18 @@ module _ (setup : Setup) (counts : List ℕ) (observations : List Observation) (
   Stands = Standing words setup counts observations I Q U
 
   abbrev Goes : Held words → Type 0
-  Goes = Going setup counts observations lent (a .some) (a .most)
+  Goes = Going setup counts observations lent a
 
   -- ---- a whole session
-  both-hold : (acts : List (Act M)) → Stands (run M (N.opened words setup counts lent results) acts) × Goes (run M (N.opened words setup counts lent results) acts)
+  pub both-hold : (acts : List (Act M)) → Stands (run M (N.opened words setup counts lent results) acts) × Goes (run M (N.opened words setup counts lent results) acts)
   both-hold acts =
       run-keeps M (λ (h : Held words). Stands h × Goes h)
-      (λ h p. after-both Stands Goes _ (after-turn (I .rules) (I .claims) M Y Stands h (turns words setup counts observations I Q U bound (a .most) h (p .0))) (turns-going setup counts observations lent (a .some) (a .most) h (p .1)))
+      (λ h p. after-both Stands Goes _ (after-turn (I .rules) (I .claims) M Y Stands h (turns words setup counts observations I Q U bound (a .most) h (p .0))) (turns-going setup counts observations lent a h (p .1)))
       (λ c h p. after-both Stands Goes _ (after-entry (I .rules) (I .claims) M Y Stands c h (p .0) (enters words setup counts observations I Q U bound (omega (arith, limit)) (a .some) (rows-within a) c h (p .0)))
-      (enters-going setup counts observations lent (a .some) (a .most) h (p .1) c))
-      (λ warm h p. (sets words setup counts observations I Q U bound limit lent results a warm h (p .0), sets-going setup counts observations lent (a .some) (a .most) h (p .1) warm))
+      (enters-going setup counts observations lent a h (p .1) c))
+      (λ warm h p. (sets words setup counts observations I Q U bound limit lent results a warm h (p .0), sets-going setup counts observations lent a h (p .1) warm))
       acts (N.opened words setup counts lent results)
-      (opens-standing words setup counts observations I Q U bound limit lent results a, opens-going setup counts observations lent (a .some) (a .most) results long)
+      (opens-standing words setup counts observations I Q U bound limit lent results a, opens-going setup counts observations lent a results long)
 
   -- ---- wherever it stands
   module _ (h : Held words) (s : Stands h) (g : Goes h) where
@@ -140,7 +140,7 @@ module _ (setup : Setup) (counts : List ℕ) (observations : List Observation) (
     few-rows = subst (λ (m : ℕ). m ≤ setup .k) (sym (g .rows)) (kept-rows (setup .k) (room .some) (room .most) (s .count) (h .whole .kept) (s .trust))
 
     rows-lent : h .whole .progress .first + rowsOf counts (h .whole .progress .subject) ≤ n
-    rows-lent = let l = observations-lent setup counts observations lent (a .some) (a .most) (lent .observations) (a .largest) (a .adds) h g in omega (arith, l, many)
+    rows-lent = let l = observations-lent setup counts observations lent a (lent .observations) (a .largest) (a .adds) h g in omega (arith, l, many)
 
     placed : N.isStanding setup counts n (h .whole .tally) (h .whole .progress) ≡ true
     unfolding N.isStanding N.isPlaced
@@ -236,9 +236,9 @@ module _ (setup : Setup) (counts : List ℕ) (observations : List Observation) (
       let b = both-hold acts in
       lets-in _ (b .0) (b .1)
       (λ c t. answers (I .rules) (I .claims) (Q .proved) M Y Stands (lawful words setup counts observations I Q U bound limit lent results a) (λ h s. s .subject)
-      Goes (λ h g. turns-going setup counts observations lent (a .some) (a .most) h g) Below (λ h g. turns-say setup counts observations lent (a .some) (a .most) h g)
+      Goes (λ h g. turns-going setup counts observations lent a h g) Below (λ h g. turns-say setup counts observations lent a h g)
       (N.opened words setup counts lent results) (opens-standing words setup counts observations I Q U bound limit lent results a) refl refl acts c
-      (enters-going setup counts observations lent (a .some) (a .most) _ (b .1) c) (enters-say _ (b .0) (b .1) c t))
+      (enters-going setup counts observations lent a _ (b .1) c) (enters-say _ (b .0) (b .1) c t))
 
 pub let-in : EveryCall
 let-in setup counts observations bound limit lent results many long e acts =

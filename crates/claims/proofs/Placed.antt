@@ -4,7 +4,7 @@ use mathlib.Core.Path.{_≡_, refl, sym, ap, subst, _∙_}
 use mathlib.Core.List.{List, [], _∷_}
 use mathlib.Core.Option.{Option, none, some}
 use Prim.Native.Nat.{ℕ, zero, suc, _+_, _-_, _≤_, _<_}
-use native.Mathlib.Nat.{not-suc-le-zero, le-of-suc-le-suc, mod-eq-of-lt, mod-le}
+use native.Mathlib.Nat.{not-suc-le-zero, le-of-suc-le-suc, mod-eq-of-lt}
 use native.Mathlib.Omega.{arith}
 use borrow.Author.Tests.{ltb-true, ltb-false, eqb-true}
 use lib.Dec.{ltb, eqb}
@@ -51,16 +51,14 @@ use Rattle.population.specs.declared.Turned.{Turned}
 use Rattle.population.specs.declared.Turned.the-variants.{On, Halt}
 use Rattle.session.specs.Session as N
 use Rattle.session.specs.Session.{Held, held, Call, objective, reply, failure}
+use Rattle.claims.specs.Shown.{before}
+use Rattle.claims.proofs.Accepted.{Accepts, each-count}
 use Rattle.claims.proofs.Always.{After, Says}
 use Rattle.claims.proofs.Evaluated.{work-length}
 use Rattle.claims.proofs.Lengths.{AsLong, zeros-length, move-rows-length, recalled-length, warm-stored-length, results-length}
 use Rattle.claims.proofs.Limits.{Within, start-within, advance-within, Within2, start-within2, advance-within2, Small, wanted-small}
 
 -- ---- the observations of the subjects before one
-unfoldable pub before : List ℕ → ℕ → ℕ
-before counts zero = 0
-before counts (suc i) = before counts i + getD counts i 0
-
 before-rest : (count : ℕ) (rest : List ℕ) (i : ℕ) → before (count ∷ rest) (suc i) ≡ count + before rest i
 unfolding before
 before-rest count rest zero = omega arith
@@ -73,7 +71,7 @@ counted-rest count rest total largest {t} {l} e =
     not-first (ltb (mostRows - total) count) _ never (not-first (eqb count 0) _ never e .1) .1
 
 -- are no more than there are in all
-before-most : (counts : List ℕ) (i total largest : ℕ) {t l : ℕ} → countFrom total largest counts ≡ CountsWithin t l → i ≤ length counts → total + before counts i ≤ t
+pub before-most : (counts : List ℕ) (i total largest : ℕ) {t l : ℕ} → countFrom total largest counts ≡ CountsWithin t l → i ≤ length counts → total + before counts i ≤ t
 unfolding countFrom before
 before-most [] zero total largest {t} {l} e m = let q : total ≡ t = cc in omega arith
 before-most [] (suc i) total largest e m = absurd (not-suc-le-zero m)
@@ -85,6 +83,20 @@ before-most (count ∷ rest) (suc i) total largest e m =
 rows-most : (counts : List ℕ) (i : ℕ) → rowsOf counts i ≤ getD counts i 0
 unfolding rowsOf
 rows-most counts i = cases (λ (n : ℕ). n ≤ getD counts i 0) (ltb (getD counts i 0) mostRows) (λ t. omega arith) (λ t. ltb-false _ _ t)
+
+pub rows-exact : {setup : Setup} {counts : List ℕ} {lent : Lent} → Accepts setup counts lent → (i : ℕ) → i < length counts → rowsOf counts i ≡ getD counts i 0
+unfolding rowsOf countObservations
+rows-exact {setup} {counts} a i l =
+    let m : getD counts i 0 ≤ a .largest = each-count counts 0 0 (a .adds) .1 i l .1 in
+    cases (λ (n : ℕ). n ≡ getD counts i 0) (ltb (getD counts i 0) mostRows) (λ t. refl) (λ t. let b : mostRows ≤ getD counts i 0 = ltb-false _ _ t in omega (arith, b, m, a .small))
+
+-- the next subject's first observation comes after this one's
+pub first-exact : {setup : Setup} {counts : List ℕ} {lent : Lent} → Accepts setup counts lent → (i : ℕ) → i < length counts → raised (before counts i) (rowsOf counts i) ≡ before counts (suc i)
+unfolding before countObservations
+first-exact {setup} {counts} {lent} a i l =
+    let m = before-most counts (suc i) 0 0 (a .adds) l in
+    let r = rows-exact a i l in
+    ap (λ (n : ℕ). raised (before counts i) n) r ∙ mod-eq-of-lt (omega (arith, m, a .all))
 
 -- ---- refusals with numbers below 19
 unfoldable pub Below : Step → Type 0
@@ -104,11 +116,11 @@ values-below theta eta effects = both BelowIf _ (omega arith) (both BelowIf _ (b
 module _ (counts : List ℕ) where
   pub record Placed (p : Progress) : Type 0 where
     pub subject : p .subject < length counts
-    pub first : p .first ≤ before counts (p .subject)
+    pub first : p .first ≡ before counts (p .subject)
     pub one : Within (p .search)
     pub two : Within2 (p .«search_2d»)
 
-  begins : (subject first : ℕ) (warm : Pair) (ofv squares : Float) → subject < length counts → first ≤ before counts subject → Placed (B.beginSubject subject first warm ofv squares)
+  begins : (subject first : ℕ) (warm : Pair) (ofv squares : Float) → subject < length counts → first ≡ before counts subject → Placed (B.beginSubject subject first warm ofv squares)
   unfolding B.beginSubject
   begins subject first warm ofv squares l m = record { subject = l; first = m; one = start-within; two = start-within2 }
 
@@ -132,7 +144,7 @@ module _ (counts : List ℕ) where
         (record { subject = s .subject; first = s .first; one = advance-within _ _ _ (s .one); two = s .two })
 
 -- ---- a session's place
-module _ (setup : Setup) (counts : List ℕ) (observations : List Observation) (lent : Lent) (some-subject : 1 ≤ length counts) (most-subjects : length counts ≤ 4096) where
+module _ (setup : Setup) (counts : List ℕ) (observations : List Observation) (lent : Lent) (accepted : Accepts setup counts lent) where
   pub record Going (h : Held words) : Type 0 where
     pub place : Placed counts (h .whole .progress)
     pub work : length (h .whole .work) ≡ lent .work
@@ -229,12 +241,10 @@ module _ (setup : Setup) (counts : List ℕ) (observations : List Observation) (
         (λ t. record { turned = begins counts (raised (p .subject) 1) (raised (p .first) rows) _ _ _ (ltb-true _ _ t) next-first; work = zeros-length _; warm = a; results = b })
         (λ t. record { turned = objective-ends _ _; work = refl; warm = a; results = b })
       where
-        next-first : raised (p .first) rows ≤ before counts (raised (p .subject) 1)
+        next-first : raised (p .first) rows ≡ before counts (raised (p .subject) 1)
         next-first =
-            let a : raised (p .subject) 1 ≡ suc (p .subject) = mod-eq-of-lt (omega (arith, g .place .subject, most-subjects)) ∙ omega arith in
-            let b : raised (p .first) rows ≤ p .first + rows = mod-le _ _ in
-            let c : before counts (suc (p .subject)) ≡ before counts (p .subject) + getD counts (p .subject) 0 = unfold before in refl in
-            subst (λ (i : ℕ). raised (p .first) rows ≤ before counts i) (sym a) (omega (arith, b, c, g .place .first, rows-most counts (p .subject)))
+            let a : raised (p .subject) 1 ≡ suc (p .subject) = mod-eq-of-lt (omega (arith, g .place .subject, accepted .most)) ∙ omega arith in
+            ap (λ (i : ℕ). raised i rows) (g .place .first) ∙ first-exact accepted (p .subject) (g .place .subject) ∙ ap (before counts) (sym a)
 
     by-closed : (c : Closed) → Ends (closing fit counts p (w .tally) rows (w .work) (w .warm) (w .results) c)
     unfolding closing
@@ -280,7 +290,7 @@ module _ (setup : Setup) (counts : List ℕ) (observations : List Observation) (
 
     begun-going : (parameters : Parameters) → Going (N.begun words setup counts parameters w)
     unfolding N.begun
-    begun-going parameters = record { place = begins counts 0 0 _ _ _ some-subject (omega arith); work = g .work; warm = g .warm; results = g .results; rows = g .rows }
+    begun-going parameters = record { place = begins counts 0 0 _ _ _ (accepted .some) (unfold before in refl); work = g .work; warm = g .warm; results = g .results; rows = g .rows }
 
     objective-going : (n : ℕ) (check : Check) (parameters : Parameters) → After Going (N.enterObjective words setup counts n check parameters h)
     unfolding After N.enterObjective
@@ -322,7 +332,7 @@ module _ (setup : Setup) (counts : List ℕ) (observations : List Observation) (
   -- ---- setup
   pub opens-going : (results : List ℕ) → length results ≡ lent .results → Going (N.opened words setup counts lent results)
   unfolding orderRows
-  opens-going results e = record { place = begins counts 0 0 _ _ _ some-subject (omega arith); work = zeros-length _; warm = zeros-length _; results = e; rows = refl }
+  opens-going results e = record { place = begins counts 0 0 _ _ _ (accepted .some) (unfold before in refl); work = zeros-length _; warm = zeros-length _; results = e; rows = refl }
 
   -- ---- the subject's observations are lent
   pub observations-lent : (n largest : ℕ) → countObservations counts ≡ CountsWithin n largest → (h : Held words) → Going h → h .whole .progress .first + rowsOf counts (h .whole .progress .subject) ≤ n

@@ -6,12 +6,17 @@ use Prim.Native.Nat.{ℕ, zero, suc, _≤_, _<_}
 use native.Mathlib.Omega.{arith}
 use borrow.Author.Tests.{ltb-true, ltb-false}
 use lib.Dec.{T, ltb, eqb}
+use Rattle.float64.specs.Pick.{pick, cases}
 
 pub true-not-false : true ≡ false → ⊥
 true-not-false e = subst T e tt
 
 pub false-not-true : false ≡ true → ⊥
 false-not-true e = subst T (sym e) tt
+
+-- both tests hold
+pub only-first : (b y : Bool) → pick b y false ≡ true → (b ≡ true) × (y ≡ true)
+only-first b y = cases (λ (v : Bool). v ≡ true → (b ≡ true) × (y ≡ true)) b (λ t e. (t, e)) (λ f e. absurd (false-not-true e))
 
 pub not-not : (b : Bool) → not b ≡ false → T b
 not-not true e = tt

@@ -67,7 +67,7 @@ use Rattle.claims.proofs.Searches.{Suits, suits1, suits2}
 use Rattle.claims.proofs.Session.{sets, opens-standing, some-room}
 use Rattle.admission.proofs.Bounds.{shape-low}
 use Rattle.claims.proofs.Standing.{Standing, Waiting, fit-k}
-use Rattle.claims.proofs.Stores.{every-append, every-drop, Trusted, words-trusted, kept-few, not-found, zeros-are}
+use Rattle.claims.proofs.Stores.{every-append, every-drop, Trusted, words-trusted, kept-few, not-found, cleared-words}
 use Rattle.claims.proofs.Turns.{turns}
 
 -- ---- one key, one entry
@@ -418,7 +418,7 @@ module _ (setup : Setup) (counts : List ℕ) (observations : List Observation) (
 
   opened-link : (results : List ℕ) → Link (N.opened words setup counts lent results) (N.opened entries setup counts lent results)
   opened-link results = record {
-    is = alike _ _ _ _ [] _ _ results (refinement .cleared (zeros (lent .cache)) (setup .k) room (subst (λ (m : ℕ). 24 * setup .k ≤ m) (sym (zeros-length (lent .cache))) (a .cache-lent)) (λ j h. zeros-are (setup .k) (room .some) (room .most) (lent .cache) j));
+    is = alike _ _ _ _ [] _ _ results (cleared-words (setup .k) (room .some) (room .most) (lent .cache) (a .cache-lent));
     own = no-entry;
   }
 

@@ -9,25 +9,25 @@ use lib.ListN.{length, length-append}
 use Rattle.sessions.specs.Lawful.{Turn, Enters, Lawful}
 use Rattle.sessions.specs.Lawful.Enters.{same, begins, replied, failed}
 use Rattle.sessions.specs.Lawful.Turn.{hit, short, wild, miss, next, barred, last, fails}
-use Rattle.sessions.specs.Log.{not-yet, Every, more, Searched, told, begun, read, searches, Ended, Waits}
+use Rattle.sessions.specs.Log.{not-yet, Every, more, Searched, history, told, begun, read, searches, Ended, Waits}
 use Rattle.sessions.specs.Log.Event.{Ask, Got}
 use Rattle.sessions.specs.Machine.{Machine, Outcome, Move, requests, onward, loop, call, Act, calls, sets, set, run}
 use Rattle.sessions.specs.Observed.{goes-on, View, turn-log, enter-log, loop-log, call-log, log}
-use Rattle.sessions.specs.Rules.{Rules, Claims, Proved}
-use Rattle.sessions.proofs.Session.{read-append, demand3}
+use Rattle.sessions.specs.Rules.{Rules, Trial, points, Claims, Proved}
+use Rattle.sessions.proofs.Session.{points-more, read-append, demand3}
 use Rattle.claims.proofs.Always.{After, Says, after-turn, after-entry, run-keeps}
 
 -- the newest search goes on, and each of its questions has an answer
 module _ (R : Rules) where
   abbrev Goes : Searched R → Type 0
-  Goes x = (x .end ≡ not-yet) × (x .asked ≡ length (x .history))
+  Goes x = (x .end ≡ not-yet) × (x .asked ≡ length (history R x))
 
   Newest : List (Searched R) → Type 0
   Newest [] = ⊥
   Newest (x ∷ xs) = Goes x
 
-  goes-got : (x : Searched R) (c : R .Conditional) → x .end ≡ not-yet → x .asked ≡ suc (length (x .history)) → Goes (told R x (Got c))
-  goes-got x c e a = (e, a ∙ sym (simp length-append (omega arith)))
+  goes-got : (x : Searched R) (c : Trial R) → x .end ≡ not-yet → x .asked ≡ suc (length (history R x)) → Goes (told R x (Got c))
+  goes-got x c e a = (e, a ∙ sym (ap length (points-more R (x .trials) c) ∙ simp length-append (omega arith)))
 
   -- then it neither has ended nor waits
   not-between : (xs : List (Searched R)) → Newest xs → (Every (Ended R) xs) ⊎ (Waits R xs) → ⊥
@@ -41,10 +41,10 @@ module _ (R : Rules) (K : Claims R) (P : Proved R K) (M : Machine) (Y : View R M
   module _ (k : M .State → Outcome M) (l : M .State → List _) (go : (t : M .State) (x : Searched R) (xs : List (Searched R)) → Sound t → E t → Goes R x → G (k t .answer) ⊎ Newest R (read R (x ∷ xs) (l t)))
       (s : M .State) (x : Searched R) (xs : List (Searched R)) (g : Goes R x) where
     turned : {m : Move M} → Turn R K M Y Sound s m → After E m → Says G m → G (onward m k .answer) ⊎ Newest R (read R (x ∷ xs) (turn-log R M Y s m ++ goes-on m l))
-    unfolding After Says read onward goes-on turn-log
+    unfolding After Says points read onward goes-on turn-log
     turned (hit {p} {t} e h a) i w = rw e (go t _ xs (a .kept .sound) i (goes-got R (told R x (Ask p)) _ (g .0) (ap suc (g .1))))
-    turned (short e m o) i w = inl w
-    turned (wild e m o) i w = inl w
+    turned (short e m n o) i w = inl w
+    turned (wild e m n o) i w = inl w
     turned (miss e m q f t n) i w = inl w
     turned (next {t} e b) i w = rw e (go t _ _ (b .sound) i (refl, refl))
     turned (barred e m o) i w = inl w
@@ -56,7 +56,7 @@ module _ (R : Rules) (K : Claims R) (P : Proved R K) (M : Machine) (Y : View R M
   loops zero t x xs so i g = inr g
   loops (suc n) t x xs so i g = turned (λ u. loop (M .turn) (M .spent) n u) (λ u. loop-log R M Y n u) (loops n) t x xs g (W .turns t so (inside t so)) (keeps t i) (says t i)
 
-  replies : (c : R .Conditional) (t : M .State) (xs : List (Searched R)) → Waits R xs → Sound t → E t → G (requests M t .answer) ⊎ Newest R (read R xs (Got c ∷ loop-log R M Y (M .fuel) t))
+  replies : (c : Trial R) (t : M .State) (xs : List (Searched R)) → Waits R xs → Sound t → E t → G (requests M t .answer) ⊎ Newest R (read R xs (Got c ∷ loop-log R M Y (M .fuel) t))
   unfolding read
   replies c t [] w so i = absurd w
   replies c t (x ∷ xs) w so i = loops (M .fuel) t _ xs so i (goes-got R x c (w .0) (w .1))
@@ -64,11 +64,11 @@ module _ (R : Rules) (K : Claims R) (P : Proved R K) (M : Machine) (Y : View R M
   -- ---- a call, after the searches xs
   module _ (c : M .Call) (s : M .State) (xs : List (Searched R)) (waits : M .awaits s ≡ true → Waits R xs) where
     entered : {m : Move M} → Enters R K M Y Sound c s m → After E m → Says G m → (Newest R (read R xs (enter-log R M Y c s m ++ goes-on m (λ t. loop-log R M Y (M .fuel) t))) → ⊥) → G (onward m (λ t. requests M t) .answer)
-    unfolding After Says onward goes-on enter-log read
+    unfolding After Says points onward goes-on enter-log read
     entered (same e) i w never = w
     entered (begins {t} e b) i w never = ⊎-elim (λ g. g) (λ n. absurd (never (rw e n))) (loops (M .fuel) t (begun R (Y .subject t) (Y .settings t) (Y .evaluations t)) xs (b .sound) i (refl, refl))
     entered (replied {t} e h a) i w never = ⊎-elim (λ g. g) (λ n. absurd (never (rw e n))) (replies (Y .given c s) t xs (waits e) (a .kept .sound) i)
-    entered (failed e m o) i w never = w
+    entered (failed e m n o) i w never = w
 
   -- ---- one call more
   abbrev one-more : List (Act M) → M .Call → List (Act M)

@@ -87,10 +87,10 @@ all-finite sums h =
 
 -- ---- one effect
 module _ (fit : Fit) (e : fit .effects ≡ 1) where
-  one-not-two : eqb (fit .effects) 2 ≡ false
+  pub one-not-two : eqb (fit .effects) 2 ≡ false
   one-not-two = ap (λ (n : ℕ). eqb n 2) e
 
-  wanted-one : (p : Progress) → B.wantedBy fit p ≡ B.wants1 (request (B.settings fit p) (p .search))
+  pub wanted-one : (p : Progress) → B.wantedBy fit p ≡ B.wants1 (request (B.settings fit p) (p .search))
   unfolding B.wantedBy B.wanted1
   wanted-one p = pick-no _ _ _ one-not-two
 
@@ -99,7 +99,7 @@ wants-one (One.Point eta) = refl
 wants-one One.Mode = refl
 wants-one (One.Refused n) = refl
 
-point-one : (q : Request) (eta : Pair) → B.wants1 q ≡ Wants.Point eta → (q ≡ One.Point (eta .first)) × (record { first = eta .first; second = word 0 } ≡ eta)
+pub point-one : (q : Request) (eta : Pair) → B.wants1 q ≡ Wants.Point eta → (q ≡ One.Point (eta .first)) × (record { first = eta .first; second = word 0 } ≡ eta)
 point-one (One.Point x) eta e = (cc, cc)
 point-one One.Mode eta e = no-number cc
 point-one (One.Refused n) eta e = no-number cc
@@ -109,12 +109,23 @@ unfolding H1.asks
 proved1 = record {
   few = λ st h p d f w. few-by (request st (H1.after st h)) p w (one-search st d h f .atMost);
   good = λ st h d f w. one-search st d h f .found (mode-by (request st (H1.after st h)) w);
+  means = λ st h n d f w. let e = refusal-by (request st (H1.after st h)) n w in let t = one-search st d h f in record {
+    atBound = λ q. t .atBound (e ∙ ap One.Refused q);
+    several = λ q. t .several (e ∙ ap One.Refused q);
+    unsettled = λ q. (H1.after st h .best, t .unsettled (e ∙ ap One.Refused q));
+    numbers = t .numbers n e;
+  };
 }
   where
     few-by : (q : Request) (p : Float) → wants1 q ≡ point p → {n : ℕ} → n + H1.asks q ≤ 82 → n < 82
     few-by (One.Point x) p w l = omega (arith, l)
     few-by One.Mode p w l = no-number cc
     few-by (One.Refused k) p w l = no-number cc
+
+    refusal-by : (q : Request) (n : ℕ) → wants1 q ≡ refusal n → q ≡ One.Refused n
+    refusal-by (One.Point x) n w = no-number cc
+    refusal-by One.Mode n w = no-number cc
+    refusal-by (One.Refused k) n w = cc
 
     mode-by : (q : Request) → wants1 q ≡ mode → q ≡ One.Mode
     mode-by (One.Point x) w = no-number cc
@@ -151,10 +162,10 @@ suits1 = record {
 
 -- ---- two effects
 module _ (fit : Fit) (e : fit .effects ≡ 2) where
-  is-two : eqb (fit .effects) 2 ≡ true
+  pub is-two : eqb (fit .effects) 2 ≡ true
   is-two = eq-eqb _ _ e
 
-  wanted-two : (p : Progress) → B.wantedBy fit p ≡ B.wants2 (R2.request (B.settings2 fit p) (p .«search_2d»))
+  pub wanted-two : (p : Progress) → B.wantedBy fit p ≡ B.wants2 (R2.request (B.settings2 fit p) (p .«search_2d»))
   unfolding B.wantedBy B.wanted2
   wanted-two p = pick-yes _ _ _ is-two
 
@@ -163,7 +174,7 @@ wants-two (Two.Point eta) = refl
 wants-two Two.Mode = refl
 wants-two (Two.Refused n) = refl
 
-point-two : (q : Request2) (eta : Pair) → B.wants2 q ≡ Wants.Point eta → q ≡ Two.Point eta
+pub point-two : (q : Request2) (eta : Pair) → B.wants2 q ≡ Wants.Point eta → q ≡ Two.Point eta
 point-two (Two.Point x) eta e = cc
 point-two Two.Mode eta e = no-number cc
 point-two (Two.Refused n) eta e = no-number cc
@@ -173,12 +184,23 @@ unfolding H2.asks
 proved2 = record {
   few = λ st h p d f w. few-by (R2.request st (H2.after st h)) p w (two-search (d .0) st (d .1) h f .atMost);
   good = λ st h d f w. two-search (d .0) st (d .1) h f .found (mode-by (R2.request st (H2.after st h)) w);
+  means = λ st h n d f w. let e = refusal-by (R2.request st (H2.after st h)) n w in let t = two-search (d .0) st (d .1) h f in record {
+    unresolved = λ q. t .unresolved (e ∙ ap Two.Refused q);
+    several = λ q. t .several (e ∙ ap Two.Refused q);
+    noInverse = λ q. t .noInverse (e ∙ ap Two.Refused q);
+    numbers = t .numbers n e;
+  };
 }
   where
     few-by : (q : Request2) (p : Pair) → wants2 q ≡ point p → {n : ℕ} → n + H2.asks q ≤ 6343 → n < 6343
     few-by (Two.Point x) p w l = omega (arith, l)
     few-by Two.Mode p w l = no-number cc
     few-by (Two.Refused k) p w l = no-number cc
+
+    refusal-by : (q : Request2) (n : ℕ) → wants2 q ≡ refusal n → q ≡ Two.Refused n
+    refusal-by (Two.Point x) n w = no-number cc
+    refusal-by Two.Mode n w = no-number cc
+    refusal-by (Two.Refused k) n w = cc
 
     mode-by : (q : Request2) → wants2 q ≡ mode → q ≡ Two.Mode
     mode-by (Two.Point x) w = no-number cc

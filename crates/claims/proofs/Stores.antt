@@ -75,7 +75,7 @@ module _ (k : ℕ) (some-room : 1 ≤ k) (most : k ≤ 100000) where
     pub few : c .order .next ≤ n + 1
     pub fine : Every FineEntry list
 
-  pub zeros-are : (n i : ℕ) → getD (zeros n) i 0 ≡ 0
+  zeros-are : (n i : ℕ) → getD (zeros n) i 0 ≡ 0
   unfolding zeros
   zeros-are zero i = refl
   zeros-are (suc n) zero = refl
@@ -116,10 +116,14 @@ module _ (k : ℕ) (some-room : 1 ≤ k) (most : k ≤ 100000) where
       })
       (split k rows)
 
+  -- words that were cleared keep nothing
+  pub cleared-words : (n : ℕ) → 24 * k ≤ n → Stands (zeros n) k (order 1 1 0 0) []
+  cleared-words n l = refinement .cleared (zeros n) k room (subst (λ (m : ℕ). 24 * k ≤ m) (sym (zeros-length n)) l) (λ i h. zeros-are n i)
+
   pub words-trusted : Trusted words k
   words-trusted = record {
     Holds = Stood;
-    opens = λ n l. record { list = []; stands = refinement .cleared (zeros n) k room (subst (λ (m : ℕ). 24 * k ≤ m) (sym (zeros-length n)) l) (λ i h. zeros-are n i); few = omega arith; fine = no-entry };
+    opens = λ n l. record { list = []; stands = cleared-words n l; few = omega arith; fine = no-entry };
     wider = λ n c s. record { list = s .list; stands = s .stands; few = omega (arith, s .few); fine = s .fine };
     recalls = λ n c s key rows work to r e. recalled c (s .list) (s .stands) (s .fine) key rows work to r _ refl e;
     keeps = kept;

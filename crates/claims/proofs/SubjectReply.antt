@@ -43,38 +43,27 @@ use Rattle.hosting.specs.Hosting.{Out, admitWith, finishWith, callOver}
 use Rattle.hosting.proofs.Whole.{reply-over}
 use Rattle.word_replies.specs.SubjectReplies.{subjectFirst, subjectChecked, admitSubjectWith, subjectReplyOver}
 use Rattle.claims.specs.SubjectReply.{ownOf, EverySubjectReply, InEverySession}
+use Rattle.claims.proofs.Accepted.{is-cohort}
 use Rattle.claims.proofs.Evaluated.{work-length}
 use Rattle.claims.proofs.LetIn.{let-in}
-use Rattle.claims.proofs.Plain.{true-not-false, false-not-true}
+use Rattle.claims.proofs.Plain.{true-not-false, false-not-true, only-first}
 use Rattle.claims.proofs.SubjectChecks.{IsSound, part-sound, Passed, passed, count-in, subject-passes}
 
 -- where the answer is not that of a test that fails, the test held
-only-first : {b : Bool} {y : Bool} → pick b y false ≡ true → (b ≡ true) × (y ≡ true)
-only-first {b} {y} = cases (λ (v : Bool). v ≡ true → (b ≡ true) × (y ≡ true)) b (λ t e. (t, e)) (λ f e. absurd (false-not-true e))
-
--- all records are counted
-adds-up : (effects subjects total observations : ℕ) → isCohort effects subjects total observations ≡ true → total ≡ observations
-unfolding isCohort
-adds-up effects subjects total observations e =
-    let some = not-first _ _ false-not-true e in
-    let effect = not-first _ _ false-not-true (some .1) in
-    let subject = not-first _ _ false-not-true (effect .1) in
-    eqb-true _ _ (not-first _ _ false-not-true (subject .1) .1)
-
 -- ---- 19: the positions are right among all observations, and so among the most that there can be
 module _ (setup : Setup) (counts : List ℕ) (n : ℕ) (tally : Tally) (p : Progress) (e : isStanding setup counts n tally p ≡ true) where
   pub placed : (p .subject < length counts) × (p .first + rowsOf counts (p .subject) ≤ n)
   unfolding isStanding isPlaced
   placed =
       let kept = not-first _ _ false-not-true e in
-      let inside = only-first (kept .1) in
+      let inside = only-first _ _ (kept .1) in
       (ltb-true _ _ (inside .0), ltb-false _ _ (not-first _ _ false-not-true (inside .1) .0))
 
   stands-for-most : n ≤ mostRows → isStanding setup counts mostRows tally p ≡ true
   unfolding isStanding isPlaced
   stands-for-most h =
       let kept = not-first _ _ false-not-true e in
-      let inside = only-first (kept .1) in
+      let inside = only-first _ _ (kept .1) in
       let among = not-first _ _ false-not-true (inside .1) in
       let m : p .first + rowsOf counts (p .subject) ≤ n = ltb-false _ _ (among .0) in
       let low : p .first + rowsOf counts (p .subject) ≤ mostRows = omega (arith, m, h) in
@@ -123,7 +112,7 @@ module _ (setup : Setup) (counts : List ℕ) (observations : List Observation) (
   own-length = length-take-le rows (drop (s .progress .first) observations) (let d = length-drop (s .progress .first) observations in omega (arith, d, inside .1))
 
   total-is : all .total ≡ length observations
-  total-is = adds-up (set .effects) (length counts) (all .total) (length observations) (all .cohort)
+  total-is = is-cohort (set .effects) (length counts) (all .total) (length observations) (all .cohort) .adds
 
   own-sound : IsSound (subjectChecked setup counts own state)
   unfolding subjectFirst

@@ -17,7 +17,7 @@ use Rattle.float64.specs.Float64.{nonfinite}
 use Rattle.float64.specs.Pick.{pick, both, cases}
 use Rattle.matrix.specs.declared.Pair.{Pair}
 use Rattle.likelihood.specs.declared.population_focei.Observation.{Observation}
-use Rattle.evaluation.specs.Subject.{individualValues}
+use Rattle.evaluation.specs.Subject.{individual, individualValues}
 use Rattle.evaluation.specs.declared.Sums.{Sums}
 use Rattle.work.specs.Work.{zeros, block, moveRows, isSameGrid}
 use Rattle.admission.specs.declared.Setup.{Setup}
@@ -38,6 +38,7 @@ use Rattle.subjects.specs.declared.Closed.the-variants.{Positive, NotPositive}
 use Rattle.cache.specs.declared.CacheKey.{CacheKey}
 use Rattle.sessions.specs.Lawful.{Over, Turn}
 use Rattle.sessions.specs.Lawful.Turn.{hit, short, wild, miss, next, barred, last, fails}
+use Rattle.sessions.specs.Log.{OfEvaluation}
 use Rattle.sessions.specs.Machine.{Moved, on, halt, Machine}
 use Rattle.sessions.specs.Observed.{View, wantedAt}
 use Rattle.sessions.specs.Observed as Observed
@@ -75,6 +76,23 @@ words-fit a b = record { first = ofBits-fits binary64 a; second = ofBits-fits bi
 pub warm-of-fits : (warm : List ℕ) (effects subject : ℕ) → FitsBoth (warmOf warm effects subject)
 unfolding warmOf
 warm-of-fits warm effects subject = both FitsBoth _ (words-fit _ _) (words-fit _ 0)
+
+-- 7 is the only number of a point that is not asked for
+seven : (theta eta : Pair) (effects n : ℕ) → individualValues theta eta effects ≡ refused n → OfEvaluation n
+unfolding individualValues
+seven theta eta effects n =
+    both Only _ is-seven
+    (both Only _ (both Only _ is-seven (is-given (record { first = individual (theta .first) (eta .first); second = individual (theta .second) (eta .second) })))
+    (is-given (record { first = individual (theta .first) (eta .first); second = word 0 })))
+  where
+    Only : Answer Pair → Type 0
+    Only a = a ≡ refused n → OfEvaluation n
+
+    is-seven : Only (refused 7)
+    is-seven e = let q : 7 ≡ n = cc in (omega (arith, q), omega (arith, q))
+
+    is-given : (v : Pair) → Only (given v)
+    is-given v e = let z : _≡_ {A = ℕ} 0 1 = cc in absurd (omega (arith, z))
 
 module _ (S : Store) (setup : Setup) (counts : List ℕ) (observations : List Observation) (I : Inner) (Q : Suits I (setup .effects)) (U : Trusted S (setup .k)) (bound : Fits (setup .«eta_bound»)) (most-subjects : length counts ≤ 4096) where
   abbrev M : Machine
@@ -171,7 +189,7 @@ module _ (S : Store) (setup : Setup) (counts : List ℕ) (observations : List Ob
         abbrev sums : Sums
         sums = B.sumsOf (r .terms)
 
-        kept-is : Y .kept h (I .pointOf eta) ≡ I .conditionalOf fit eta sums
+        kept-is : Y .kept h (I .pointOf eta) .point ≡ I .conditionalOf fit eta sums
         kept-is =
             ap (λ (x : Pair). I .conditionalOf fit x (recalledSums (recallOf S setup counts observations I Q U h x))) (Q .pairs fit p eta effects-are e)
             ∙ ap (λ (o : Option Recalled). I .conditionalOf fit eta (recalledSums o)) q
@@ -235,13 +253,13 @@ module _ (S : Store) (setup : Setup) (counts : List ℕ) (observations : List Ob
         unfolding B.askFor B.counted B.isOver pick
         by-values l (given v) d = subst (Goes h) (sym (halts (B.askFor p (B.counted (w .tally)) eta (given v)) (w .work) (w .warm) (w .results))) (asks v l d)
         by-values l (refused n) d =
-            refuses-with (B.counted (w .tally)) n (At.Subject (p .subject)) (w .work) (w .warm) (w .results) (suc (w .tally .calls .0)) (omega arith) (λ a t m o. wild point-is m o) (omega arith) (omega (arith, l)) refl
+            refuses-with (B.counted (w .tally)) n (At.Subject (p .subject)) (w .work) (w .warm) (w .results) (suc (w .tally .calls .0)) (omega arith) (λ a t m o. wild point-is m (seven (fit .theta) eta (fit .effects) n d) o) (omega arith) (omega (arith, l)) refl
 
         by-limit : Goes h (closeTurn (ended (Halt (B.ask fit p (w .tally) eta)) (w .work) (w .warm) (w .results)))
         unfolding B.ask
         by-limit = cases (λ (x : Halted). Goes h (closeTurn (ended (Halt x) (w .work) (w .warm) (w .results)))) (ltb (w .tally .calls .0) (fit .«max_evaluations»))
             (λ l. by-values (subst (λ (m : ℕ). w .tally .calls .0 < m) (fit-most setup (h .parameters)) (ltb-true _ _ l)) (individualValues (fit .theta) eta (fit .effects)) refl)
-            (λ l. refuses-with (w .tally) 6 (At.Subject (p .subject)) (w .work) (w .warm) (w .results) (w .tally .calls .0) refl (λ a t m o. short point-is m o) (omega arith) (s .limit) refl)
+            (λ l. refuses-with (w .tally) 6 (At.Subject (p .subject)) (w .work) (w .warm) (w .results) (w .tally .calls .0) refl (λ a t m o. short point-is m (omega arith, omega arith) o) (omega arith) (s .limit) refl)
 
       by-recall : (o : Option Recalled) → recallOf S setup counts observations I Q U h eta ≡ o
           → Goes h (closeTurn (ended (answered fit rows p (w .tally) eta (w .work) o .value) (answered fit rows p (w .tally) eta (w .work) o .work) (w .warm) (w .results)))

@@ -1,10 +1,12 @@
 -- How a session's state is read as a search of the rules, with one effect and with two.
-use mathlib.Core.List.{List}
+use mathlib.Core.Path.{_≡_}
+use mathlib.Core.Logic.{_⊎_}
+use mathlib.Core.List.{List, [], _∷_}
 use mathlib.Core.Option.{Option, none, some}
-use Prim.Native.Nat.{ℕ}
-use lib.ListN.{length}
+use Prim.Native.Nat.{ℕ, _*_}
+use lib.ListN.{length, take, drop}
 use lib.Ieee.{Float}
-use Rattle.float64.specs.Arithmetic.{word}
+use Rattle.float64.specs.Arithmetic.{_+ᶠ_, _/ᶠ_, word}
 use Rattle.matrix.specs.declared.Pair.{Pair}
 use Rattle.mode.specs.Rules.{start, request, advance}
 use Rattle.mode.specs.declared.population_focei.Settings.{Settings}
@@ -19,17 +21,21 @@ use Rattle.mode_2d.specs.declared.population_focei_2d.Search2.{Search2}
 use Rattle.mode_2d.specs.declared.population_focei_2d.Request2.{Request2}
 use Rattle.mode_2d.specs.declared.population_focei_2d.Request2.the-variants as Two
 use Rattle.histories.specs.History as H1
-use Rattle.histories.specs.Claim.{Found}
+use Rattle.histories.specs.Claim.{Found, AtBound, Several, Unsettled}
 use Rattle.histories.specs.History2 as H2
-use Rattle.histories.specs.Claim2.{Found2}
+use Rattle.histories.specs.Claim2.{Found2, Unresolved, NoInverse}
+use Rattle.histories.specs.Claim2 as C2
 use Rattle.likelihood.specs.declared.population_focei.Observation.{Observation}
+use Rattle.evaluation.specs.Claim.{replyRows}
 use Rattle.evaluation.specs.Subject.{noSums, finish}
 use Rattle.evaluation.specs.declared.Sums.{Sums}
 use Rattle.evaluation.specs.declared.Evaluation.{Evaluation}
 use Rattle.evaluation.specs.declared.Evaluation.the-variants as E
+use Rattle.cache.specs.Cache.{rowWords}
+use Rattle.cache.specs.Kept.{wordsFrom}
 use Rattle.work.specs.Work.{block}
 use Rattle.admission.specs.declared.Setup.{Setup}
-use Rattle.subjects.specs.Subjects.{fitOf, settings, settings2, wantedBy, keyOf, sumsOf, conditional1, conditional2}
+use Rattle.subjects.specs.Subjects.{fitOf, settings, settings2, wantedBy, keyOf, sumsOf}
 use Rattle.subjects.specs.declared.Fit.{Fit}
 use Rattle.subjects.specs.declared.Progress.{Progress}
 use Rattle.subjects.specs.declared.Step.{Step}
@@ -65,9 +71,17 @@ rules1 = record {
   Answers = H1.Answers;
 }
 
+-- what the rules' own refusals mean
+pub record Refusal1 (s : Settings) (h : List Conditional) (n : ℕ) : Type 0 where
+  pub atBound : n ≡ 13 → AtBound s h
+  pub several : n ≡ 14 → Several s h
+  pub unsettled : n ≡ 15 → (m : Conditional) × Unsettled s h m
+  -- there is no other number
+  pub numbers : (n ≡ 13) ⊎ ((n ≡ 14) ⊎ (n ≡ 15))
+
 -- document 01's domain; 82; and what a mode is
 abbrev pub claims1 : Claims rules1
-claims1 = record { Domain = H1.Domain; ceiling = 82; Good = Found }
+claims1 = record { Domain = H1.Domain; ceiling = 82; Good = Found; Means = Refusal1 }
 
 -- ---- two effects
 
@@ -91,9 +105,16 @@ rules2 = record {
   Answers = H2.Answers;
 }
 
+pub record Refusal2 (s : Settings2) (h : List Conditional2) (n : ℕ) : Type 0 where
+  pub unresolved : n ≡ 13 → Unresolved s h
+  pub several : n ≡ 14 → C2.Several h
+  pub noInverse : n ≡ 16 → NoInverse s h
+  -- there is no other number
+  pub numbers : (n ≡ 13) ⊎ ((n ≡ 14) ⊎ (n ≡ 16))
+
 -- an accepted omega; 6,343; and what a mode is
 abbrev pub claims2 : Claims rules2
-claims2 = record { Domain = λ s. (omega : List (List Float)) × H2.Accepted omega s; ceiling = 6343; Good = Found2 }
+claims2 = record { Domain = λ s. (omega : List (List Float)) × H2.Accepted omega s; ceiling = 6343; Good = Found2; Means = Refusal2 }
 
 -- ---- a subject's search within an objective, for either
 
@@ -115,7 +136,13 @@ inner1 = record {
   searchOf = λ p. p .search;
   pointOf = λ eta. eta .first;
   pairOf = λ x. record { first = x; second = word 0 };
-  conditionalOf = conditional1;
+  -- the prior's eta / omega is added to the score
+  conditionalOf = λ fit eta sums. record {
+    eta = eta .first;
+    nll = sums .nll;
+    score = sums .score .first +ᶠ eta .first /ᶠ fit .omega;
+    information = sums .i00;
+  };
 }
 
 abbrev pub inner2 : Inner
@@ -126,7 +153,15 @@ inner2 = record {
   searchOf = λ p. p .«search_2d»;
   pointOf = λ eta. eta;
   pairOf = λ eta. eta;
-  conditionalOf = λ fit. conditional2;
+  conditionalOf = λ fit eta sums. record {
+    eta = eta;
+    nll = sums .nll;
+    score = sums .score;
+    i00 = sums .i00;
+    i01 = sums .i01;
+    i10 = sums .i10;
+    i11 = sums .i11;
+  };
 }
 
 -- ---- the view: what an observer reads
@@ -135,6 +170,11 @@ inner2 = record {
 abbrev pub recalledSums : Option Recalled → Sums
 recalledSums (some r) = sumsOf (r .terms)
 recalledSums none = noSums
+
+-- the work words with its rows
+abbrev pub recalledWork : Option Recalled → List ℕ
+recalledWork (some r) = r .work
+recalledWork none = []
 
 -- the sums of an evaluation that came to its end
 abbrev pub runningSums : Evaluation → Sums
@@ -159,13 +199,28 @@ module _ (S : Store) (setup : Setup) (counts : List ℕ) (observations : List Ob
   -- the sums of a reply
   abbrev pub sumsOfCall : Call → Held S → Sums
   sumsOfCall (objective parameters) h = noSums
-  sumsOfCall (reply words) h = runningSums (finish (evaluated S setup counts observations (fitAt h) words (h .whole .progress) (h .whole .work) .evaluation))
+  sumsOfCall (reply words) h =
+      runningSums (finish (evaluated S setup counts observations (fitAt h) words (h .whole .progress) (h .whole .work) .evaluation))
   sumsOfCall failure h = noSums
 
-  abbrev pub keptSums : Held S → Pair → Sums
-  keptSums h eta =
+  -- and its rows: the words that it has for the observations of the awaited subject
+  abbrev pub rowsOfCall : Call → Held S → List ℕ
+  rowsOfCall (objective parameters) h = []
+  rowsOfCall (reply words) h =
+      let p = h .whole .progress in
+      replyRows (setup .width) (setup .effects) words (take (rowsOf counts (p .subject)) (drop (p .first) observations))
+  rowsOfCall failure h = []
+
+  -- what is kept for a point: its terms, and its rows where they come to stand, in the trial block
+  abbrev pub recalled : Held S → Pair → Option Recalled
+  recalled h eta =
       let rows = rowsOf counts (h .whole .progress .subject) in
-      recalledSums (S .recall (h .whole .kept) (fitAt h .k) (keyOf (fitAt h) (h .whole .progress .subject) eta) rows (h .whole .work) (block rows 3))
+      S .recall (h .whole .kept) (fitAt h .k) (keyOf (fitAt h) (h .whole .progress .subject) eta) rows (h .whole .work) (block rows 3)
+
+  abbrev pub keptRows : Held S → Pair → List ℕ
+  keptRows h eta =
+      let rows = rowsOf counts (h .whole .progress .subject) in
+      wordsFrom (rowWords * rows) (recalledWork (recalled h eta)) (block rows 3)
 
   abbrev pub view : View (I .rules) (session S setup counts observations)
   view = record {
@@ -176,6 +231,12 @@ module _ (S : Store) (setup : Setup) (counts : List ℕ) (observations : List Ob
     search = λ h. I .searchOf (h .whole .progress);
     evaluations = λ h. h .whole .tally .calls .0;
     limit = setup .«max_evaluations»;
-    kept = λ h p. I .conditionalOf (fitAt h) (I .pairOf p) (keptSums h (I .pairOf p));
-    given = λ c h. let eta = pointWanted (wantedBy (fitAt h) (h .whole .progress)) in I .conditionalOf (fitAt h) eta (sumsOfCall c h);
+    kept = λ h p. record {
+      point = I .conditionalOf (fitAt h) (I .pairOf p) (recalledSums (recalled h (I .pairOf p)));
+      rows = keptRows h (I .pairOf p);
+    };
+    given = λ c h. record {
+      point = I .conditionalOf (fitAt h) (pointWanted (wantedBy (fitAt h) (h .whole .progress))) (sumsOfCall c h);
+      rows = rowsOfCall c h;
+    };
   }

@@ -1,8 +1,8 @@
--- A search asks for at most 82 points. Assumes nothing.
-use mathlib.Core.Path.{_≡_, refl}
+-- A search asks for at most 82 points, and one that is refused with 15 has tried every point past the grid. Assumes nothing.
+use mathlib.Core.Path.{_≡_, refl, sym, ap, _∙_, subst}
 use mathlib.Core.Bool.{Bool, true, false, not}
-use mathlib.Core.List.{List}
-use Prim.Native.Nat.{ℕ, _+_, _-_, _≤_, _<_}
+use mathlib.Core.List.{List, [], _∷_}
+use Prim.Native.Nat.{ℕ, suc, _+_, _-_, _≤_, _<_}
 use native.Mathlib.Omega.{arith}
 use lib.ListN.{length}
 use lib.Dec.{T, T-not, ltb, lit≤}
@@ -16,9 +16,12 @@ use Rattle.mode.specs.declared.population_focei.Stage.the-variants.{Grid, Warm,
 use Rattle.mode.specs.declared.population_focei.Search.{Search}
 use Rattle.mode.specs.declared.population_focei.Request.{Request}
 use Rattle.mode.specs.declared.population_focei.Request.the-variants.{Point, Mode, Refused}
-use Rattle.mode.specs.Rules.{nought, requestAt, request, advanceAt, advance, tried, screened, chosen, entered, firstStage, start, midpoint, gridPoint, settled, isAbove, isUnder}
-use Rattle.histories.specs.History.{Answers, Follows, after, asks}
+use Rattle.mode.specs.Rules.{nought, requestAt, request, advanceAt, advance, tried, screened, chosen, entered, firstStage, start, secantPoint, midpoint, gridPoint, settled, isAbove, isUnder}
+use Rattle.histories.specs.Histories.{ledFrom, Answered}
+use Rattle.histories.specs.Terms.{warmTrials}
+use Rattle.histories.specs.History.{Answers, FollowsFrom, Follows, afterFrom, after, asks}
 use Rattle.histories.proofs.Ceiling.{Fewer, at-most}
+use Rattle.histories.proofs.Words.{cellIn, warm-is}
 use Rattle.histories.proofs.Trials.{isPoint, point-true}
 
 -- at this stage and count at most n more are asked
@@ -28,7 +31,7 @@ Room Warm i n = 65 ≤ n
 Room Secant i n = (64 ≤ i + n) × (i ≤ 15)
 Room Halving i n = 48 ≤ i + n
 
-abbrev RoomOf : ℕ → Search → Type 0
+abbrev pub RoomOf : ℕ → Search → Type 0
 RoomOf n x = Room (x .stage) (x .count) n
 
 -- ---- which requests are points
@@ -64,7 +67,7 @@ past : (i n : ℕ) → i < n → n ≤ i → ⊥
 past i n h k = omega arith
 
 -- ---- one more is asked
-room-pos : (st : Stage) (s : Settings) (x : Search) (n : ℕ) → Room st (x .count) n → T (isPoint (requestAt st s x)) → 1 ≤ n
+pub room-pos : (st : Stage) (s : Settings) (x : Search) (n : ℕ) → Room st (x .count) n → T (isPoint (requestAt st s x)) → 1 ≤ n
 room-pos Grid s x n r h = omega arith
 room-pos Warm s x n r h = omega arith
 room-pos Secant s x n r h = omega arith
@@ -76,7 +79,7 @@ entered-room true true n h = h
 entered-room true false n h = omega arith
 entered-room false u n h = omega arith
 
-room-step : (st : Stage) (s : Settings) (x : Search) (c : Conditional) (n : ℕ) → Room st (x .count) n → T (isPoint (requestAt st s x)) → RoomOf (n - 1) (advanceAt st s x c)
+pub room-step : (st : Stage) (s : Settings) (x : Search) (c : Conditional) (n : ℕ) → Room st (x .count) n → T (isPoint (requestAt st s x)) → RoomOf (n - 1) (advanceAt st s x c)
 unfolding advanceAt tried screened entered chosen firstStage
 room-step Grid s x c n r h =
     let k = on-grid s x h in
@@ -118,3 +121,73 @@ room-next s n x c r a =
 pub at-most-82 : (s : Settings) (h : List Conditional) → Follows s h → length h + asks (request s (after s h)) ≤ 82
 unfolding start
 at-most-82 s h f = at-most Answers (request s) (advance s) asks RoomOf (λ n x r. asks-none (request s x) n (room-pos (x .stage) s x n r)) (room-next s) h start 82 (lit≤ tt, lit≤ tt) f
+
+-- ---- 15: every trial was made
+-- past the grid this many points are left
+abbrev left : Stage → ℕ → ℕ
+left Grid i = 0
+left Warm i = 65
+left Secant i = 64 - i
+left Halving i = 48 - i
+
+abbrev PastGrid : Stage → ℕ → Type 0
+PastGrid Grid i = ⊥
+PastGrid Warm i = Unit
+PastGrid Secant i = i ≤ 15
+PastGrid Halving i = i ≤ 48
+
+abbrev Past : Search → Type 0
+Past x = PastGrid (x .stage) (x .count)
+
+abbrev leftOf : Search → ℕ
+leftOf x = left (x .stage) (x .count)
+
+abbrev isUnsettled : Request → Bool
+isUnsettled (Point p) = false
+isUnsettled Mode = false
+isUnsettled (Refused n) = true
+
+none-left : (st : Stage) (s : Settings) (x : Search) → PastGrid st (x .count) → T (isUnsettled (requestAt st s x)) → left st (x .count) ≡ 0
+unfolding requestAt pick
+none-left Grid s x r h = absurd r
+none-left Warm s x r h = absurd h
+none-left Secant s x r h = absurd (go (settled s (x .best) (x .left) (x .right)) h)
+  where
+    go : (t : Bool) → T (isUnsettled (pick t Mode (Point (secantPoint (x .left) (x .right))))) → ⊥
+    go true h = h
+    go false h = h
+none-left Halving s x r h = let k = ltb-false (x .count) 48 (go (settled s (x .best) (x .left) (x .right)) (ltb (x .count) 48) h) in omega arith
+  where
+    go : (t u : Bool) → T (isUnsettled (pick t Mode (pick u (Point (midpoint (x .left) (x .right))) (Refused 15)))) → u ≡ false
+    go true u h = absurd h
+    go false true h = absurd h
+    go false false h = refl
+
+-- one more is tried
+abbrev OneLess : ℕ → Search → Type 0
+OneLess n y = Past y × (n ≡ suc (leftOf y))
+
+one-less : (st : Stage) (s : Settings) (x : Search) (c : Conditional) → PastGrid st (x .count) → T (isPoint (requestAt st s x)) → OneLess (left st (x .count)) (advanceAt st s x c)
+unfolding advanceAt tried
+one-less Grid s x c r h = absurd r
+one-less Warm s x c r h = (lit≤ tt, refl)
+one-less Secant s x c r h =
+    cases (OneLess (64 - x .count)) (ltb (x .count) 15)
+    (λ e. let k = ltb-true (x .count) 15 e in (omega arith, omega arith)) (λ e. let k = ltb-false (x .count) 15 e in (lit≤ tt, omega arith))
+one-less Halving s x c r h =
+    let k = in-halving s x h in
+    cases (OneLess (48 - x .count)) (ltb (x .count) 48)
+    (λ _. (omega arith, omega arith)) (λ e. absurd (past (x .count) 48 k (ltb-false (x .count) 48 e)))
+
+spent : (s : Settings) (h : List Conditional) (x : Search) → Past x → FollowsFrom s x h → T (isUnsettled (request s (afterFrom s x h))) → length h ≡ leftOf x
+unfolding Answered ledFrom
+spent s [] x r f q = sym (none-left (x .stage) s x r q)
+spent s (c ∷ h) x r f q =
+    let w = one-less (x .stage) s x c r (point-true (request s x) (c .eta) (f .0 .asked)) in
+    ap suc (spent s h (advance s x c) (w .0) (f .1) q) ∙ sym (w .1)
+
+pub all-tried : (s : Settings) (h : List Conditional) (y : Search) → FollowsFrom s (entered s y) h → request s (afterFrom s (entered s y) h) ≡ Refused 15 → length h ≡ warmTrials s (cellIn y) + 16 + 48
+unfolding entered
+all-tried s h y f q =
+    spent s h (entered s y) (warm-is (λ st n. PastGrid st 0) s (cellIn y) tt (lit≤ tt)) f (subst (λ (r : Request). T (isUnsettled r)) (sym q) tt)
+    ∙ warm-is (λ st n. left st 0 ≡ n + 16 + 48) s (cellIn y) refl refl

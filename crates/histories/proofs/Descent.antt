@@ -2,7 +2,7 @@
 use mathlib.Core.Path.{_≡_, refl, sym, ap, _∙_, subst}
 use mathlib.Core.Logic.{_⊎_, inl, inr}
 use mathlib.Core.Bool.{Bool, true, false, not, true≢false}
-use mathlib.Core.List.{List, [], _∷_}
+use mathlib.Core.List.{List, [], _∷_, _++_, List·Memᴰ, List·Memᴰ·head, List·Memᴰ·tail}
 use Prim.Native.Nat.{ℕ, zero, suc, _+_, _-_, _≤_, _<_}
 use native.Mathlib.Omega.{arith}
 use lib.ListN.{length}
@@ -11,7 +11,7 @@ use lib.Ieee.{Float, binary64, ofBits, lt, le, isNan}
 use lib.Ieee.Positive.{positive}
 use borrow.Author.Tests.{ltb-true, ltb-false}
 use Rattle.float64.specs.Arithmetic.{word}
-use Rattle.float64.specs.Pick.{pick, cases}
+use Rattle.float64.specs.Pick.{pick, both, cases}
 use Rattle.float64.proofs.Order.{num?, le-trans, le-refl-num, lt→le, total, le-or-gt, of-true}
 use Rattle.float64.proofs.Monotone.{descent}
 use Rattle.matrix.specs.Matrix.{Inverse, some, none, inversePositive}
@@ -21,9 +21,12 @@ use Rattle.mode_2d.specs.declared.population_focei_2d.NewtonStep.{NewtonStep}
 use Rattle.mode_2d.specs.declared.population_focei_2d.Stage2.{Stage2}
 use Rattle.mode_2d.specs.declared.population_focei_2d.Stage2.the-variants.{Zero, Start, Trial, Found, Halted}
 use Rattle.mode_2d.specs.declared.population_focei_2d.Search2.{Search2}
-use Rattle.mode_2d.specs.Rules.{nought, between, trying, finish, tryFrom, descendBy, descend, beginRound, take, leave, nextReduction, trialPoint, decrease, isSame, isPassedOver, isUnresolved, isFar, better, norm, curvature, stepBy, isTaken, joint}
-use Rattle.histories.specs.History2.{etas, startPointsFrom, withCandidate}
-use Rattle.histories.specs.Claim2.{NoHigher, EachNoHigher, Pass}
+use Rattle.mode_2d.specs.Rules.{nought, between, trying, finish, tryFrom, descendBy, descend, beginRound, take, leave, nextReduction, trialPoint, decrease, isSame, isPassedOver, isUnresolved, isFar, better, norm, curvature, stepBy, isTaken}
+use Rattle.histories.specs.Terms2 as W
+use Rattle.histories.specs.Terms2.{etas, joint, NoHigher}
+use Rattle.histories.specs.History2.{withCandidate}
+use Rattle.histories.specs.Claim2.{EachNoHigher, Runs, Divided}
+use Rattle.histories.proofs.Words2.{startPointsFrom, taken-is, better-by}
 use Rattle.histories.proofs.Joint.{joint-fits}
 
 -- ---- a taken trial
@@ -43,8 +46,10 @@ unfolding ofBits
 rate-positive = tt
 
 pub taken-no-higher : (s : Settings2) (x : Search2) (c : Conditional2) → le (x .decrease) nought ≡ false → isTaken s x c ≡ true → NoHigher s c (x .current)
-unfolding isTaken ofBits
-taken-no-higher s x c p q = descent binary64 (word 0x3f1a_36e2_eb1c_432d) (joint s c) (joint s (x .current)) (x .decrease) rate-positive (joint-fits s (x .current)) (above-or-nan (x .decrease) p) (of-true _ q)
+unfolding ofBits
+taken-no-higher s x c p q =
+    descent binary64 (word 0x3f1a_36e2_eb1c_432d) (joint s c) (joint s (x .current)) (x .decrease) rate-positive (joint-fits s (x .current))
+    (above-or-nan (x .decrease) p) (of-true _ (sym (taken-is s x c) ∙ q))
 
 -- ---- the trial that is asked for is not passed over
 not-passed : (l : Float) (step : NewtonStep) (j : ℕ) → isPassedOver l step j ≡ false → le (decrease step (trialPoint l step j)) nought ≡ false
@@ -70,8 +75,8 @@ reduction-stops l step (suc n) j h = go (isPassedOver l step j) refl (λ i. redu
 
 -- ---- the better of two
 better-than-new : (s : Settings2) (k : ℕ) (c b : Conditional2) → T (num? (joint s c)) → T (num? (joint s b)) → NoHigher s (better s k c b) c
-unfolding better pick
-better-than-new s k c b p q = go (eqb k 0) (lt (joint s c) (joint s b)) (total (joint s c) (joint s b) p q)
+unfolding W.better pick
+better-than-new s k c b p q = subst (λ (z : Conditional2). NoHigher s z c) (sym (better-by s k c b)) (go (eqb k 0) (lt (joint s c) (joint s b)) (total (joint s c) (joint s b) p q))
   where
     go : (t u : Bool) → (T (not u) → T (le (joint s b) (joint s c))) → T (le (joint s (pick t c (pick u c b))) (joint s c))
     go true u h = le-refl-num (joint s c) p
@@ -79,8 +84,10 @@ better-than-new s k c b p q = go (eqb k 0) (lt (joint s c) (joint s b)) (total (
     go false false h = h tt
 
 better-than-old : (s : Settings2) (k : ℕ) (c b : Conditional2) → 0 < k → T (num? (joint s b)) → NoHigher s (better s k c b) b
-unfolding better pick
-better-than-old s k c b z q = go (eqb k 0) (lt (joint s c) (joint s b)) (λ (h : T (eqb k 0)). none (eqb→eq k 0 h)) (lt→le (joint s c) (joint s b))
+unfolding W.better pick
+better-than-old s k c b z q =
+    subst (λ (z : Conditional2). NoHigher s z b) (sym (better-by s k c b))
+    (go (eqb k 0) (lt (joint s c) (joint s b)) (λ (h : T (eqb k 0)). none (eqb→eq k 0 h)) (lt→le (joint s c) (joint s b)))
   where
     none : k ≡ 0 → ⊥
     none e = omega (arith, z, e)
@@ -93,7 +100,7 @@ better-than-old s k c b z q = go (eqb k 0) (lt (joint s c) (joint s b)) (λ (h :
 -- what holds of both holds of the better
 better-has : (P : Conditional2 → Type 0) (s : Settings2) (k : ℕ) (c b : Conditional2) → P c → P b → P (better s k c b)
 unfolding better
-better-has P s k c b p q = cases P (eqb k 0) {x = c} {y = pick (lt (joint s c) (joint s b)) c b} (λ _. p) (λ _. cases P (lt (joint s c) (joint s b)) {x = c} {y = b} (λ _. p) (λ _. q))
+better-has P s k c b p q = both P (eqb k 0) p (both P _ p q)
 
 -- ---- what holds of a search on its way
 pub record OnTrial (s : Settings2) (x : Search2) : Type 0 where
@@ -165,42 +172,89 @@ module _ (s : Settings2) (x : Search2) (i : OnTrial s x) where
       cases (OnWay s) (ltb (x .reduction) 21) {x = descend s (x .seed) (x .round) (x .reduction + 1) (x .current) (x .best)} {y = finish s (x .seed) (x .current) (x .best)}
       (λ _. descend-way s (x .seed) (x .current) (x .best) (i .seed) (i .current) (i .best) (x .round) (x .reduction + 1)) (λ _. finish-way s (x .seed) (x .current) (x .best) (i .seed) (i .current) (i .best))
 
--- ---- what is to come from a search on: m the mode, l the starts, q the candidates. n starts are left, from the i-th on.
+-- ---- each candidate, the k-th first, passes 13, and 14 against the best so far, b; and the best of all is m
+unfoldable pub Passes : Settings2 → ℕ → Conditional2 → List Conditional2 → Conditional2 → Type 0
+Passes s k b [] m = m ≡ b
+Passes s k b (c ∷ q) m = (isUnresolved s c ≡ false) × ((isFar k c b ≡ false) × Passes s (k + 1) (better s k c b) q m)
+
+-- ---- what is to come from a search on: m the mode, l the starts, q the candidates, h the history. n starts are left, from the i-th on.
 pub record Rest (s : Settings2) (k : ℕ) (b m : Conditional2) (l q : List Conditional2) (n i : ℕ) : Type 0 where
   pub points : etas l ≡ startPointsFrom s n i
   pub best : 0 < k → NoHigher s m b
-  pub pass : Pass s k b q m
+  pub pass : Passes s k b q m
   pub total : length q ≡ 6 - k
 
-pub record Begin (s : Settings2) (m : Conditional2) (l q : List Conditional2) : Type 0 where
+-- the rest of a run that stands at c, and the runs after it: its candidate is c, or is tried in h
+pub record InRun (c : Conditional2) (l q h : List Conditional2) : Type 0 where
+  pub candidate : Conditional2
+  pub others : List Conditional2
+  pub trials : List Conditional2
+  pub rest : List Conditional2
+  pub isFirst : q ≡ candidate ∷ others
+  pub split : h ≡ trials ++ rest
+  pub member : (candidate ≡ c) ⊎ List·Memᴰ candidate trials
+  pub runs : Runs l others rest
+
+-- it is over at c
+run-over : (c : Conditional2) (l q h : List Conditional2) → Runs l q h → InRun c l (c ∷ q) h
+run-over c l q h r = record { candidate = c; others = q; trials = []; rest = h; isFirst = refl; split = refl; member = inl refl; runs = r }
+
+-- one point earlier, at o: then c was tried, and the run stood at a
+run-on : (a o c : Conditional2) (l q h : List Conditional2) → (a ≡ c) ⊎ (a ≡ o) → InRun a l q h → InRun o l q (c ∷ h)
+run-on a o c l q h w r = record {
+  candidate = r .candidate;
+  others = r .others;
+  trials = c ∷ r .trials;
+  rest = r .rest;
+  isFirst = r .isFirst;
+  split = ap (λ (z : List Conditional2). c ∷ z) (r .split);
+  member = elim (r .member) [
+    | inl e ↦ elim w [ inl f ↦ inr (List·Memᴰ·head (e ∙ f)) | inr f ↦ inl (e ∙ f) ]
+    | inr p ↦ inr (List·Memᴰ·tail p)
+  ];
+  runs = r .runs;
+}
+
+-- the whole run, from its start c on
+pub run-whole : (c : Conditional2) (l q h : List Conditional2) → InRun c l q h → Runs (c ∷ l) q (c ∷ h)
+unfolding Runs
+run-whole c l q h r =
+    subst (λ (z : List Conditional2). Runs (c ∷ l) z (c ∷ h)) (sym (r .isFirst))
+    (r .trials, (r .rest, (ap (λ (z : List Conditional2). c ∷ z) (r .split), (elim (r .member) [ inl e ↦ List·Memᴰ·head e | inr p ↦ List·Memᴰ·tail p ], r .runs))))
+
+pub record Begin (s : Settings2) (m : Conditional2) (l q h : List Conditional2) : Type 0 where
   pub held : Conditional2
   pub rest : Rest s 0 held m l q 6 0
   pub each : EachNoHigher s q l
+  pub divided : Divided l q h
 
-pub record AtStart (s : Settings2) (k : ℕ) (b m : Conditional2) (l q : List Conditional2) : Type 0 where
+pub record AtStart (s : Settings2) (k : ℕ) (b m : Conditional2) (l q h : List Conditional2) : Type 0 where
   pub rest : Rest s k b m l q (6 - k) k
   pub each : EachNoHigher s q l
+  pub runs : Runs l q h
 
 -- the first candidate to come is that of the rounds that stand at c
-pub record InRound (s : Settings2) (k : ℕ) (c b m : Conditional2) (l q : List Conditional2) : Type 0 where
+pub record InRound (s : Settings2) (k : ℕ) (c b m : Conditional2) (l q h : List Conditional2) : Type 0 where
   pub rest : Rest s k b m l q (5 - k) (k + 1)
   pub current : NoHigher s m c
   pub each : EachNoHigher s q (c ∷ l)
+  pub run : InRun c l q h
 
-pub record Done (b m : Conditional2) (l q : List Conditional2) : Type 0 where
+pub record Done (b m : Conditional2) (l q h : List Conditional2) : Type 0 where
   pub starts : l ≡ []
   pub candidates : q ≡ []
   pub mode : m ≡ b
+  pub over : h ≡ []
 
-abbrev pub Ahead : Stage2 → Settings2 → Search2 → Conditional2 → List Conditional2 → List Conditional2 → Type 0
-Ahead Zero s x m l q = Begin s m l q
-Ahead Start s x m l q = AtStart s (x .seed) (x .best) m l q
-Ahead Trial s x m l q = InRound s (x .seed) (x .current) (x .best) m l q
-Ahead Found s x m l q = Done (x .best) m l q
-Ahead (Halted n) s x m l q = ⊥
+abbrev pub Ahead : Stage2 → Settings2 → Search2 → Conditional2 → List Conditional2 → List Conditional2 → List Conditional2 → Type 0
+Ahead Zero s x m l q h = Begin s m l q h
+Ahead Start s x m l q h = AtStart s (x .seed) (x .best) m l q h
+Ahead Trial s x m l q h = InRound s (x .seed) (x .current) (x .best) m l q h
+Ahead Found s x m l q h = Done (x .best) m l q h
+Ahead (Halted n) s x m l q h = ⊥
 
-abbrev pub AheadOf : Settings2 → Search2 → Conditional2 → List Conditional2 → List Conditional2 → Type 0
-AheadOf s x m l q = Ahead (x .stage) s x m l q
+abbrev pub AheadOf : Settings2 → Search2 → Conditional2 → List Conditional2 → List Conditional2 → List Conditional2 → Type 0
+AheadOf s x m l q h = Ahead (x .stage) s x m l q h
 
 -- ---- a candidate is read where the seed has risen
 risen : (k i : ℕ) → k < i → ltb k i ≡ true
@@ -228,18 +282,18 @@ pick-second : (k : ℕ) (a d : List Conditional2) → pick (ltb k k) a d ≡ d
 unfolding pick
 pick-second k a d = ap (λ (t : Bool). pick t a d) (stayed k)
 
-module _ (s : Settings2) (k : ℕ) (c b m : Conditional2) (l q : List Conditional2) (K : k < 6) (pc : T (num? (joint s c))) (pb : T (num? (joint s b))) where
+module _ (s : Settings2) (k : ℕ) (c b m : Conditional2) (l q hs : List Conditional2) (K : k < 6) (pc : T (num? (joint s c))) (pb : T (num? (joint s b))) where
   abbrev pub Back : Search2 → Type 0
-  Back y = AheadOf s y m l q → InRound s k c b m l (withCandidate k y q)
+  Back y = AheadOf s y m l q hs → InRound s k c b m l (withCandidate k y q) hs
 
   halts : (n : ℕ) → Back (between (Halted n) k c b)
   unfolding between
   halts n g = absurd g
 
   to-start : k < 5 → isUnresolved s c ≡ false → isFar k c b ≡ false → Back (between Start (k + 1) c (better s k c b))
-  unfolding between Pass EachNoHigher
+  unfolding between Passes EachNoHigher
   to-start h e f g =
-      subst (λ (z : List Conditional2). InRound s k c b m l z) (sym (pick-first k (k + 1) (c ∷ q) q (up k)))
+      subst (λ (z : List Conditional2). InRound s k c b m l z hs) (sym (pick-first k (k + 1) (c ∷ q) q (up k)))
       (record {
         rest = record {
           points = subst (λ (z : ℕ). etas l ≡ startPointsFrom s z (k + 1)) (fewer k) (g .rest .points);
@@ -249,6 +303,7 @@ module _ (s : Settings2) (k : ℕ) (c b m : Conditional2) (l q : List Conditiona
         };
         current = le-trans (joint s m) (joint s (better s k c b)) (joint s c) (g .rest .best (after k)) (better-than-new s k c b pc pb);
         each = (le-refl-num (joint s c) pc, g .each);
+        run = run-over c l q hs (g .runs);
       })
     where
       up : (k : ℕ) → k < k + 1
@@ -264,11 +319,11 @@ module _ (s : Settings2) (k : ℕ) (c b m : Conditional2) (l q : List Conditiona
       count k n a e = omega arith
 
   to-mode : 5 ≤ k → isUnresolved s c ≡ false → isFar k c b ≡ false → Back (between Found 6 c (better s k c b))
-  unfolding between Pass EachNoHigher startPointsFrom etas
+  unfolding between Passes EachNoHigher Runs startPointsFrom etas
   to-mode h e f g =
-      subst (λ (z : List Conditional2). InRound s k c b m l z) (sym (pick-first k 6 (c ∷ q) q K ∙ ap (λ (z : List Conditional2). c ∷ z) (g .candidates)))
-      (subst (λ (z : Conditional2). InRound s k c b z l (c ∷ [])) (sym (g .mode))
-      (subst (λ (z : List Conditional2). InRound s k c b (better s k c b) z (c ∷ [])) (sym (g .starts))
+      subst (λ (z : List Conditional2). InRound s k c b m l z hs) (sym (pick-first k 6 (c ∷ q) q K ∙ ap (λ (z : List Conditional2). c ∷ z) (g .candidates)))
+      (subst (λ (z : Conditional2). InRound s k c b z l (c ∷ []) hs) (sym (g .mode))
+      (subst (λ (z : List Conditional2). InRound s k c b (better s k c b) z (c ∷ []) hs) (sym (g .starts))
       (record {
         rest = record {
           points = ap (λ (z : ℕ). startPointsFrom s z (k + 1)) (none k h);
@@ -278,6 +333,7 @@ module _ (s : Settings2) (k : ℕ) (c b m : Conditional2) (l q : List Conditiona
         };
         current = better-than-new s k c b pc pb;
         each = (le-refl-num (joint s c) pc, tt);
+        run = run-over c [] [] hs (g .over);
       })))
     where
       none : (k : ℕ) → 5 ≤ k → 0 ≡ 5 - k
@@ -298,7 +354,7 @@ module _ (s : Settings2) (k : ℕ) (c b m : Conditional2) (l q : List Conditiona
   try-back r j step =
       let i = nextReduction (s .«eta_bound») step (22 - j) j in
       cases Back (ltb i 22) {x = trying k r i c b step (trialPoint (s .«eta_bound») step i)} {y = finish s k c b}
-      (λ _. λ g. subst (λ (z : List Conditional2). InRound s k c b m l z) (sym (pick-second k (c ∷ q) q)) g) (λ _. finish-back)
+      (λ _. λ g. subst (λ (z : List Conditional2). InRound s k c b m l z hs) (sym (pick-second k (c ∷ q) q)) g) (λ _. finish-back)
 
   pub descend-back : (r j : ℕ) → Back (descend s k r j c b)
   unfolding descend descendBy
@@ -312,29 +368,39 @@ module _ (s : Settings2) (k : ℕ) (c b m : Conditional2) (l q : List Conditiona
   unfolding beginRound
   round-back r = cases Back (le (norm s c) (word 0x3ee4_f8b5_88e3_68f1)) {x = finish s k c b} {y = descend s k r 0 c b} (λ _. finish-back) (λ _. descend-back r 0)
 
-module _ (s : Settings2) (x : Search2) (m : Conditional2) (l q : List Conditional2) (i : OnTrial s x) where
-  -- a point no higher than the current one takes its place
-  lower : (c : Conditional2) (r : List Conditional2) → NoHigher s c (x .current) → InRound s (x .seed) c (x .best) m l r → InRound s (x .seed) (x .current) (x .best) m l r
+module _ (s : Settings2) (x : Search2) (m : Conditional2) (l q hs : List Conditional2) (i : OnTrial s x) (c : Conditional2) where
+  -- c was tried
+  abbrev Tried : Search2 → Type 0
+  Tried y = AheadOf s y m l q hs → InRound s (x .seed) (x .current) (x .best) m l (withCandidate (x .seed) y q) (c ∷ hs)
+
+  -- no higher than the current point, it takes its place
+  lower : (r : List Conditional2) → NoHigher s c (x .current) → InRound s (x .seed) c (x .best) m l r hs → InRound s (x .seed) (x .current) (x .best) m l r (c ∷ hs)
   unfolding EachNoHigher
-  lower c [] h g = absurd (g .each)
-  lower c (d ∷ r) h g = record {
+  lower [] h g = absurd (g .each)
+  lower (d ∷ r) h g = record {
     rest = g .rest;
     current = le-trans (joint s m) (joint s c) (joint s (x .current)) (g .current) h;
     each = (le-trans (joint s d) (joint s c) (joint s (x .current)) (g .each .0) h, g .each .1);
+    run = run-on c (x .current) c l (d ∷ r) hs (inl refl) (g .run);
   }
 
-  pub take-back : (c : Conditional2) → T (num? (joint s c)) → NoHigher s c (x .current) → Back s (x .seed) (x .current) (x .best) m l q (i .seed) (i .current) (i .best) (take s x c)
+  pub take-back : T (num? (joint s c)) → NoHigher s c (x .current) → Tried (take s x c)
   unfolding take
-  take-back c n h =
-      cases (Back s (x .seed) (x .current) (x .best) m l q (i .seed) (i .current) (i .best)) (ltb (x .round) 47) {x = beginRound s (x .seed) (x .round + 1) c (x .best)} {y = finish s (x .seed) c (x .best)}
-      (λ _. λ g. lower c _ h (round-back s (x .seed) c (x .best) m l q (i .seed) n (i .best) (x .round + 1) g)) (λ _. λ g. lower c _ h (finish-back s (x .seed) c (x .best) m l q (i .seed) n (i .best) g))
+  take-back n h =
+      cases Tried (ltb (x .round) 47) {x = beginRound s (x .seed) (x .round + 1) c (x .best)} {y = finish s (x .seed) c (x .best)}
+      (λ _. λ g. lower _ h (round-back s (x .seed) c (x .best) m l q hs (i .seed) n (i .best) (x .round + 1) g))
+      (λ _. λ g. lower _ h (finish-back s (x .seed) c (x .best) m l q hs (i .seed) n (i .best) g))
 
-  pub leave-back : Back s (x .seed) (x .current) (x .best) m l q (i .seed) (i .current) (i .best) (leave s x)
+  -- or the current point stays
+  stay : (r : List Conditional2) → InRound s (x .seed) (x .current) (x .best) m l r hs → InRound s (x .seed) (x .current) (x .best) m l r (c ∷ hs)
+  stay r g = record { rest = g .rest; current = g .current; each = g .each; run = run-on (x .current) (x .current) c l r hs (inr refl) (g .run) }
+
+  pub leave-back : Tried (leave s x)
   unfolding leave
   leave-back =
-      cases (Back s (x .seed) (x .current) (x .best) m l q (i .seed) (i .current) (i .best)) (ltb (x .reduction) 21) {x = descend s (x .seed) (x .round) (x .reduction + 1) (x .current) (x .best)}
-      {y = finish s (x .seed) (x .current) (x .best)}
-      (λ _. descend-back s (x .seed) (x .current) (x .best) m l q (i .seed) (i .current) (i .best) (x .round) (x .reduction + 1)) (λ _. finish-back s (x .seed) (x .current) (x .best) m l q (i .seed) (i .current) (i .best))
+      cases Tried (ltb (x .reduction) 21) {x = descend s (x .seed) (x .round) (x .reduction + 1) (x .current) (x .best)} {y = finish s (x .seed) (x .current) (x .best)}
+      (λ _. λ g. stay _ (descend-back s (x .seed) (x .current) (x .best) m l q hs (i .seed) (i .current) (i .best) (x .round) (x .reduction + 1) g))
+      (λ _. λ g. stay _ (finish-back s (x .seed) (x .current) (x .best) m l q hs (i .seed) (i .current) (i .best) g))
 
 -- ---- where the points of a search come from: its current point is c, and its best c or b
 pub record Of (c b : Conditional2) (y : Search2) : Type 0 where

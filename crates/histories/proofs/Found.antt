@@ -3,8 +3,8 @@ use mathlib.Core.Path.{_≡_, refl, sym, ap, _∙_, subst}
 use mathlib.Core.Logic.{_⊎_, inl, inr}
 use mathlib.Core.Bool.{Bool, true, false, true≢false}
 use mathlib.Core.List.{List, [], _∷_, List·Memᴰ, List·Memᴰ·head, List·Memᴰ·tail, List·Memᴰ·cases-cons, List·Memᴰ·not-nil, Memᴰ·append-left, Memᴰ·append-right, Memᴰ·cast}
-use Prim.Native.Nat.{ℕ, _≤_}
-use lib.ListN.{take, drop, take-append-drop}
+use Prim.Native.Nat.{ℕ, _+_, _≤_}
+use lib.ListN.{take, drop, length, take-append-drop}
 use lib.Dec.{T, lit≤}
 use lib.Ieee.{Float, ofBits, lt, le}
 use Rattle.float64.specs.Pick.{pick}
@@ -13,35 +13,30 @@ use Rattle.mode.specs.declared.population_focei.Settings.{Settings}
 use Rattle.mode.specs.declared.population_focei.Conditional.{Conditional}
 use Rattle.mode.specs.declared.population_focei.Stage.the-variants.{Grid}
 use Rattle.mode.specs.declared.population_focei.Search.{Search}
-use Rattle.mode.specs.Rules.{nought, request, advance, screened, firstScore, fell, start, gridPoint, isAbove, isUnder, isCloser}
+use Rattle.mode.specs.declared.population_focei.Request.the-variants.{Mode, Refused}
+use Rattle.mode.specs.Rules.{nought, request, advance, screened, firstScore, fell, start, gridPoint, settled, isAbove, isUnder, isCloser}
 use Rattle.histories.specs.Histories.{ledFrom, Answered}
-use Rattle.histories.specs.History.{Domain, Answers, Follows, afterFrom, after, Cell, gridFrom, etas, upwardFrom, upward}
-use Rattle.histories.specs.Claim.{Found, OneSearch}
-use Rattle.histories.proofs.Trials.{isMode, mode-true}
+use Rattle.histories.specs.Terms.{etas, scoreAt, Cell, neighboursFrom, neighbours, isUpward, upward, warmTrials}
+use Rattle.histories.specs.History.{Domain, Answers, Follows, afterFrom, after}
+use Rattle.histories.specs.Claim.{grid, trials, finalBracket, Screened, Best, Found, Unsettled, OneSearch}
+use Rattle.histories.proofs.Words.{grid-next, under-is, above-is, settled-is, settled-not, filter-in, lastFrom, last-is, grid-length, over}
+use Rattle.histories.proofs.Trials.{nought-num, isMode, isEnd, mode-end, unsettled-end}
 use Rattle.histories.proofs.Count.{at-most-82}
-use Rattle.histories.proofs.Refusals.{at-bound, several}
+use Rattle.histories.proofs.Refusals.{at-bound, several, numbers}
 use Rattle.histories.proofs.Screen.{or-not, true-of, side, grid-no-mode, grid-asked, next, stays-bad, stays-under, Bad, doomed, Below, climbing, Rest, nearer}
 
 -- ---- the ends of a cell are points of the list
 EndsIn : Cell → List Conditional → Type 0
 EndsIn k l = List·Memᴰ (k .left) l × List·Memᴰ (k .right) l
 
-ends-in : (k : Cell) (a : Conditional) (t : List Conditional) → List·Memᴰ k (upwardFrom a t) → EndsIn k (a ∷ t)
-unfolding upwardFrom EndsIn
+ends-in : (k : Cell) (a : Conditional) (t : List Conditional) → List·Memᴰ k (neighboursFrom a t) → EndsIn k (a ∷ t)
+unfolding neighboursFrom EndsIn
 ends-in k a [] p = absurd (List·Memᴰ·not-nil p)
-ends-in k a (b ∷ t) p = go (isUnder a) (isAbove b) (ends-in k b t) p
-  where
-    on : EndsIn k (b ∷ t) → EndsIn k (a ∷ b ∷ t)
-    on r = (List·Memᴰ·tail (r .0), List·Memᴰ·tail (r .1))
-
-    here : (k ≡ record { left = a; right = b }) ⊎ List·Memᴰ k (upwardFrom b t) → (List·Memᴰ k (upwardFrom b t) → EndsIn k (b ∷ t)) → EndsIn k (a ∷ b ∷ t)
-    here (inl e) f = (List·Memᴰ·head (ap (λ (v : Cell). v .left) e), List·Memᴰ·tail (List·Memᴰ·head (ap (λ (v : Cell). v .right) e)))
-    here (inr q) f = on (f q)
-
-    go : (t1 t2 : Bool) → (List·Memᴰ k (upwardFrom b t) → EndsIn k (b ∷ t)) → List·Memᴰ k (pick t1 (pick t2 (record { left = a; right = b } ∷ upwardFrom b t) (upwardFrom b t)) (upwardFrom b t)) → EndsIn k (a ∷ b ∷ t)
-    go true true f q = here (List·Memᴰ·cases-cons (unfold pick in q)) f
-    go true false f q = on (f (unfold pick in q))
-    go false t2 f q = on (f (unfold pick in q))
+ends-in k a (b ∷ t) p =
+    elim (List·Memᴰ·cases-cons p) [
+      | inl e ↦ (List·Memᴰ·head (ap (λ (v : Cell). v .left) e), List·Memᴰ·tail (List·Memᴰ·head (ap (λ (v : Cell). v .right) e)))
+      | inr q ↦ let r = ends-in k b t q in (List·Memᴰ·tail (r .0), List·Memᴰ·tail (r .1))
+    ]
 
 in-take : (m : Conditional) (n : ℕ) (h : List Conditional) → List·Memᴰ m (take n h) → List·Memᴰ m h
 in-take m n h p = subst (λ (l : List Conditional). List·Memᴰ m l) (take-append-drop n h) (Memᴰ·append-left (drop n h) p)
@@ -58,13 +53,13 @@ nearer-in k m l e p = go (isCloser (k .left) (k .right)) e
     go false e = Memᴰ·cast e (p .1)
 
 member : (k : Cell) (m : Conditional) (n : ℕ) (h : List Conditional) → upward (take n h) ≡ k ∷ [] → (m ≡ nearer k) ⊎ List·Memᴰ m (drop n h) → List·Memᴰ m h
-unfolding upward
+unfolding neighbours
 member k m n h e (inr p) = in-drop m n h p
-member k m n h e (inl p) = in-take m n h (nearer-in k m (take n h) p (go (take n h) e))
+member k m n h e (inl p) = in-take m n h (nearer-in k m (take n h) p (go (take n h) (filter-in isUpward k _ (subst (λ (v : List Cell). List·Memᴰ k v) (sym e) (List·Memᴰ·head refl)))))
   where
-    go : (l : List Conditional) → upward l ≡ k ∷ [] → EndsIn k l
-    go [] e = absurd (List·Memᴰ·not-nil (subst (λ (v : List Cell). List·Memᴰ k v) (sym e) (List·Memᴰ·head refl)))
-    go (a ∷ t) e = ends-in k a t (subst (λ (v : List Cell). List·Memᴰ k v) (sym e) (List·Memᴰ·head refl))
+    go : (l : List Conditional) → List·Memᴰ k (neighbours l) → EndsIn k l
+    go [] p = absurd (List·Memᴰ·not-nil p)
+    go (a ∷ t) p = ends-in k a t p
 
 -- ---- the first point
 pub first-below : (s : Settings) (c : Conditional) → Answers (request s start) c → le nought (c .score) ≡ false → Below s 16 (screened start c) × (isUnder c ≡ true)
@@ -93,13 +88,20 @@ pub first-bad : (c : Conditional) → le nought (c .score) ≡ true → Bad (scr
 unfolding Bad screened firstScore start pick
 first-bad c e = inl e
 
--- ---- the claim
-found : (s : Settings) (d : Domain s) (h : List Conditional) → Follows s h → T (isMode (request s (after s h))) → Found s h (after s h .best)
-unfolding Answered ledFrom etas gridFrom upward screened start
-found s d [] f m = absurd (grid-no-mode s start refl m)
-found s d (c ∷ h) f m =
+-- ---- past the grid: what holds at a mode and at 15
+record Past (s : Settings) (h : List Conditional) (e : Search) : Type 0 where
+  pub cell : Cell
+  pub screened : Screened s (grid h) cell
+  pub best : Best cell h (e .best)
+  pub isSettled : settled s (e .best) (finalBracket cell h .left) (finalBracket cell h .right) ≡ isMode (request s e)
+  pub allTried : request s e ≡ Refused 15 → length (trials h) ≡ warmTrials s cell + 16 + 48
+
+past-grid : (s : Settings) (d : Domain s) (h : List Conditional) → Follows s h → T (isEnd (request s (after s h))) → Past s h (after s h)
+unfolding Answered ledFrom etas scoreAt neighbours screened start
+past-grid s d [] f m = absurd (grid-no-mode s start refl m)
+past-grid s d (c ∷ h) f m =
     let y = advance s start c in
-    let best = afterFrom s y h .best in
+    let z = afterFrom s y h in
     elim (or-not (le nought (c .score))) [
       | inl e ↦
           let bad : Bad (screened start c) = first-bad c e in
@@ -109,25 +111,51 @@ found s d (c ∷ h) f m =
           let b = first-below s c (f .0) e in
           let g : y ≡ screened start c = next s start c refl (grid-asked s start c refl (f .0) .0) ∙ stays-under s (screened start c) (b .1) in
           let r = climbing s d 16 h y (subst (λ (v : Search). Below s 16 v) (sym g) (b .0)) (f .1) m in
-          let w : Rest s 16 1 c (r .0 ∷ []) (r .0) h best = subst (λ (v : Search). Rest s 16 (v .count) (v .latest) (r .0 ∷ []) (r .0) h best) g (r .1) in
+          let w : Rest s 16 1 c (r .0 ∷ []) (r .0) h z = subst (λ (v : Search). Rest s 16 (v .count) (v .latest) (r .0 ∷ []) (r .0) h z) g (r .1) in
+          let first : etas (c ∷ take 16 h) ≡ gridPoint (s .«eta_bound») 0 ∷ etas (take 16 h) = ap (λ (v : Float). v ∷ etas (take 16 h)) (grid-asked s start c refl (f .0) .1) in
+          let last : lastFrom c (take 16 h) .score ≡ scoreAt (c ∷ take 16 h) 16 =
+          last-is c (take 16 h) ∙ ap (λ (i : ℕ). scoreAt (c ∷ take 16 h) i) (grid-length (s .«eta_bound») 16 1 (take 16 h) (w .grid)) in
           record {
             cell = r .0;
-            isGrid = ap (λ (v : Float). v ∷ etas (take 16 h)) (grid-asked s start c refl (f .0) .1) ∙ ap (λ (l : List Float). gridPoint (s .«eta_bound») 0 ∷ l) (w .grid);
-            single = w .rising;
-            inLeft = w .ends .inLeft;
-            inRight = w .ends .inRight;
+            screened = record {
+              isGrid = first ∙ ap (λ (l : List Float). gridPoint (s .«eta_bound») 0 ∷ l) (w .grid) ∙ grid-next (s .«eta_bound») 16 0;
+              firstBelow = over nought (c .score) nought-num (f .0 .scoreNumber) e;
+              lastAbove = subst (λ (v : Float). T (lt nought v)) last (subst T (sym (w .lastAbove) ∙ above-is (lastFrom c (take 16 h))) tt);
+              noFall = w .noFall;
+              single = w .rising;
+            };
+            best = record {
+              member = member (r .0) (z .best) 17 (c ∷ h) (w .rising) (w .ends .source);
+              inLeft = w .ends .inLeft;
+              inRight = w .ends .inRight;
+              leastLeft = w .ends .leastLeft;
+              leastRight = w .ends .leastRight;
+              least = w .ends .least;
+              bestLeft = w .ends .bestLeft;
+              bestRight = w .ends .bestRight;
+              bracketLow = w .ends .bracketLow;
+              bracketOrder = w .ends .bracketOrder;
+              bracketHigh = w .ends .bracketHigh;
+              leftUnder = subst T (under-is _) (w .ends .leftUnder);
+              rightAbove = subst T (above-is _) (w .ends .rightAbove);
+              inBracket = w .ends .inBracket;
+            };
             isSettled = w .ends .isSettled;
-            bestLeft = w .ends .bestLeft;
-            bestRight = w .ends .bestRight;
-            bracketLow = w .ends .bracketLow;
-            bracketOrder = w .ends .bracketOrder;
-            bracketHigh = w .ends .bracketHigh;
-            leftUnder = w .ends .leftUnder;
-            rightAbove = w .ends .rightAbove;
-            inBracket = w .ends .inBracket;
-            member = member (r .0) best 17 (c ∷ h) (w .rising) (w .ends .source);
+            allTried = w .allTried;
           }
     ]
 
+-- ---- the claim
+module _ (s : Settings) (d : Domain s) (h : List Conditional) (f : Follows s h) where
+  found : request s (after s h) ≡ Mode → Found s h (after s h .best)
+  found e =
+      let p = past-grid s d h f (mode-end (request s (after s h)) e) in
+      record { cell = p .cell; screened = p .screened; best = p .best; isSettled = settled-is s (finalBracket (p .cell) h) (after s h .best) (p .isSettled ∙ ap isMode e) }
+
+  unsettled : request s (after s h) ≡ Refused 15 → Unsettled s h (after s h .best)
+  unsettled e =
+      let p = past-grid s d h f (unsettled-end (request s (after s h)) e) in
+      record { cell = p .cell; screened = p .screened; best = p .best; allTried = p .allTried e; notSettled = settled-not s (finalBracket (p .cell) h) (after s h .best) (p .isSettled ∙ ap isMode e) }
+
 pub one-search : OneSearch
-one-search s d h f = record { atMost = at-most-82 s h f; found = λ e. found s d h f (mode-true (request s (after s h)) e); atBound = at-bound s h f; several = several s h f }
+one-search s d h f = record { atMost = at-most-82 s h f; found = found s d h f; atBound = at-bound s h f; several = several s h f; unsettled = unsettled s d h f; numbers = numbers s (after s h) }

@@ -3,10 +3,11 @@ use mathlib.Core.Path.{_≡_, refl, sym, ap, _∙_, subst}
 use mathlib.Core.Logic.{_⊎_, inl, inr}
 use mathlib.Core.Bool.{Bool, true, false, true≢false}
 use mathlib.Core.List.{List, [], _∷_, List·Memᴰ, List·Memᴰ·head, List·Memᴰ·tail, List·Memᴰ·cases-cons, List·Memᴰ·not-nil}
-use Prim.Native.Nat.{ℕ, suc, _-_, _<_}
+use Prim.Native.Nat.{ℕ, suc, _+_, _-_, _<_}
 use native.Mathlib.Omega.{arith}
 use lib.ListN.{length}
-use lib.Dec.{T, ltb, eqb, lit<}
+use lib.Dec.{T, ltb, lit<}
+use lib.Ieee.{lt}
 use Rattle.float64.specs.Pick.{pick, cases}
 use Rattle.float64.proofs.Order.{num?}
 use Rattle.matrix.specs.declared.Pair.{Pair}
@@ -17,14 +18,17 @@ use Rattle.mode_2d.specs.declared.population_focei_2d.Stage2.the-variants.{Zero
 use Rattle.mode_2d.specs.declared.population_focei_2d.Search2.{Search2}
 use Rattle.mode_2d.specs.declared.population_focei_2d.Request2.{Request2}
 use Rattle.mode_2d.specs.declared.population_focei_2d.Request2.the-variants.{Point, Mode, Refused}
-use Rattle.mode_2d.specs.Rules.{requestAt, request, advanceAt, advance, between, beginRound, take, leave, startPoint, isFar, better, isTaken, joint, start, nowhere}
+use Rattle.mode_2d.specs.Rules.{requestAt, request, advanceAt, advance, between, beginRound, take, leave, startPoint, better, isTaken, start}
 use Rattle.histories.specs.Histories.{ledFrom, Answered}
-use Rattle.histories.specs.History2.{FollowsFrom, Follows, afterFrom, after, etas, isStart, startPointsFrom, startsFrom, withCandidate, candidatesFrom}
-use Rattle.histories.specs.Claim2.{NoHigher, Pass, Found2, Unresolved, Several, NoInverse, TwoSearch, Bounded}
+use Rattle.histories.specs.Terms2 as W
+use Rattle.histories.specs.Terms2.{etas, joint, NoHigher}
+use Rattle.histories.specs.History2.{FollowsFrom, Follows, afterFrom, after, isStart, startsFrom, starts, withCandidate, candidatesFrom, candidates}
+use Rattle.histories.specs.Claim2.{Divided, PassAfter, Pass, Found2, Unresolved, Several, NoInverse, TwoSearch, Bounded}
+use Rattle.histories.proofs.Words2.{startPointsFrom, starts-are, resolved-is, unresolved-is, far-is, near-is, better-is, flat-is}
 use Rattle.histories.proofs.Count2.{isMode, mode-true, isPoint, point-true, pointOf, at-most-6343}
 use Rattle.histories.proofs.Joint.{joint-num}
 use Rattle.histories.proofs.Precision.{precision-bound}
-use Rattle.histories.proofs.Descent.{taken-no-higher, Why, Way, OnWay, round-way, take-way, leave-way, Begin, AtStart, InRound, Ahead, AheadOf, round-back, take-back, leave-back, Of, round-of, take-of, leave-of}
+use Rattle.histories.proofs.Descent.{taken-no-higher, Passes, run-whole, Why, Way, OnWay, round-way, take-way, leave-way, Begin, AtStart, InRound, Ahead, AheadOf, round-back, take-back, leave-back, Of, round-of, take-of, leave-of}
 
 -- ---- forward: what holds on the way is kept
 way-step : (st : Stage2) (s : Settings2) (x : Search2) (c : Conditional2) → Way st s x → T (num? (joint s c)) → T (isPoint (requestAt st s x)) → OnWay s (advanceAt st s x c)
@@ -41,9 +45,9 @@ ways s d [] x i f = i
 ways s d (c ∷ h) x i f = ways s d h (advance s x c) (way-step (x .stage) s x c i (joint-num s d (request s x) c (f .0)) (point-true (request s x) (c .eta) (f .0 .asked))) (f .1)
 
 -- ---- backward: what is to come from the next search on is to come from this one on
-add-start : (s : Settings2) (k : ℕ) (c b m : Conditional2) (l q : List Conditional2) → k < 6 → startPoint s k ≡ c .eta → InRound s k c b m l q → AtStart s k b m (c ∷ l) q
+add-start : (s : Settings2) (k : ℕ) (c b m : Conditional2) (l q h : List Conditional2) → k < 6 → startPoint s k ≡ c .eta → InRound s k c b m l q h → AtStart s k b m (c ∷ l) q (c ∷ h)
 unfolding etas startPointsFrom
-add-start s k c b m l q K e g = record {
+add-start s k c b m l q h K e g = record {
   rest = record {
     points = ap (λ (z : Pair). z ∷ etas l) (sym e) ∙ ap (λ (z : List Pair). startPoint s k ∷ z) (g .rest .points) ∙ ap (λ (n : ℕ). startPointsFrom s n k) (more k K);
     best = g .rest .best;
@@ -51,6 +55,7 @@ add-start s k c b m l q K e g = record {
     total = g .rest .total;
   };
   each = g .each;
+  runs = run-whole c l q h (g .run);
 }
   where
     more : (k : ℕ) → k < 6 → suc (5 - k) ≡ 6 - k
@@ -64,20 +69,23 @@ Came Trial s c m = Unit
 Came Found s c m = Unit
 Came (Halted n) s c m = Unit
 
-abbrev Step : Stage2 → Settings2 → Search2 → Conditional2 → Conditional2 → List Conditional2 → List Conditional2 → Search2 → Type 0
-Step st s x c m l q y = AheadOf s y m l q → Ahead st s x m (pick (isStart st) (c ∷ l) l) (withCandidate (x .seed) y q) × Came st s c m
+abbrev Step : Stage2 → Settings2 → Search2 → Conditional2 → Conditional2 → List Conditional2 → List Conditional2 → List Conditional2 → Search2 → Type 0
+Step st s x c m l q h y = AheadOf s y m l q h → Ahead st s x m (pick (isStart st) (c ∷ l) l) (withCandidate (x .seed) y q) (c ∷ h) × Came st s c m
 
-ahead-step : (st : Stage2) (s : Settings2) (x : Search2) (c m : Conditional2) (l q : List Conditional2) → Way st s x → T (num? (joint s c)) → requestAt st s x ≡ Point (c .eta) → Step st s x c m l q (advanceAt st s x c)
-unfolding requestAt advanceAt pick between
-ahead-step Zero s x c m l q i n h = λ g. (subst (λ (k : ℕ). Begin s m l (pick (ltb k 0) (c ∷ q) q)) (sym i) (record { held = c; rest = g .rest; each = g .each }), tt)
-ahead-step Start s x c m l q i n h = λ g.
-    let w = round-back s (x .seed) c (x .best) m l q (i .1) n (i .0) 0 g in
-    (add-start s (x .seed) c (x .best) m l (withCandidate (x .seed) (beginRound s (x .seed) 0 c (x .best)) q) (i .1) (ap (pointOf (c .eta)) h) w, w .current)
-ahead-step Trial s x c m l q i n h =
-    cases (Step Trial s x c m l q) (isTaken s x c) {x = take s x c} {y = leave s x}
-    (λ e. λ g. (take-back s x m l q i c n (taken-no-higher s x c (i .falls) e) g, tt)) (λ _. λ g. (leave-back s x m l q i g, tt))
-ahead-step Found s x c m l q i n h = absurd (point-true Mode (c .eta) h)
-ahead-step (Halted k) s x c m l q i n h = absurd (point-true (Refused k) (c .eta) h)
+ahead-step : (st : Stage2) (s : Settings2) (x : Search2) (c m : Conditional2) (l q h : List Conditional2) → Way st s x → T (num? (joint s c)) → requestAt st s x ≡ Point (c .eta)
+    → Step st s x c m l q h (advanceAt st s x c)
+unfolding requestAt advanceAt pick between Divided
+ahead-step Zero s x c m l q h i n e = λ g.
+    let w : Begin s m l q (c ∷ h) = record { held = c; rest = g .rest; each = g .each; divided = (sym (ap (pointOf (c .eta)) e), g .runs) } in
+    (subst (λ (k : ℕ). Begin s m l (pick (ltb k 0) (c ∷ q) q) (c ∷ h)) (sym i) w, tt)
+ahead-step Start s x c m l q h i n e = λ g.
+    let w = round-back s (x .seed) c (x .best) m l q h (i .1) n (i .0) 0 g in
+    (add-start s (x .seed) c (x .best) m l (withCandidate (x .seed) (beginRound s (x .seed) 0 c (x .best)) q) h (i .1) (ap (pointOf (c .eta)) e) w, w .current)
+ahead-step Trial s x c m l q h i n e =
+    cases (Step Trial s x c m l q h) (isTaken s x c) {x = take s x c} {y = leave s x}
+    (λ t. λ g. (take-back s x m l q h i c n (taken-no-higher s x c (i .falls) t) g, tt)) (λ _. λ g. (leave-back s x m l q h i c g, tt))
+ahead-step Found s x c m l q h i n e = absurd (point-true Mode (c .eta) e)
+ahead-step (Halted k) s x c m l q h i n e = absurd (point-true (Refused k) (c .eta) e)
 
 -- ---- where a point of the last search comes from
 Source : Conditional2 → Conditional2 → Conditional2 → List Conditional2 → Type 0
@@ -137,15 +145,15 @@ member s (c ∷ h) m z f w = first-point c m h (sources s h (between Start 0 c c
 
 -- ---- to the end
 record Ends (s : Settings2) (x : Search2) (h : List Conditional2) (m : Conditional2) : Type 0 where
-  pub ahead : AheadOf s x m (startsFrom s x h) (candidatesFrom s x h)
+  pub ahead : AheadOf s x m (startsFrom s x h) (candidatesFrom s x h) h
   pub lowest : (t : Conditional2) → List·Memᴰ t (startsFrom s x h) → NoHigher s m t
 
-at-end : (st : Stage2) (s : Settings2) (x : Search2) → T (isMode (requestAt st s x)) → Ahead st s x (x .best) [] []
+at-end : (st : Stage2) (s : Settings2) (x : Search2) → T (isMode (requestAt st s x)) → Ahead st s x (x .best) [] [] []
 unfolding requestAt
 at-end Zero s x h = absurd h
 at-end Start s x h = absurd h
 at-end Trial s x h = absurd h
-at-end Found s x h = record { starts = refl; candidates = refl; mode = refl }
+at-end Found s x h = record { starts = refl; candidates = refl; mode = refl; over = refl }
 at-end (Halted n) s x h = absurd h
 
 lowest-step : (st : Stage2) (s : Settings2) (c m : Conditional2) (l : List Conditional2) → Came st s c m → ((t : Conditional2) → List·Memᴰ t l → NoHigher s m t) → (t : Conditional2) → List·Memᴰ t (pick (isStart st) (c ∷ l) l) → NoHigher s m t
@@ -168,24 +176,38 @@ ends s d (c ∷ h) x i f w =
     let m = afterFrom s y h .best in
     let n = joint-num s d (request s x) c (f .0) in
     let e = ends s d h y (way-step (x .stage) s x c i n (point-true (request s x) (c .eta) (f .0 .asked))) (f .1) w in
-    let g = ahead-step (x .stage) s x c m (startsFrom s y h) (candidatesFrom s y h) i n (f .0 .asked) (e .ahead) in
+    let g = ahead-step (x .stage) s x c m (startsFrom s y h) (candidatesFrom s y h) h i n (f .0 .asked) (e .ahead) in
     record { ahead = g .0; lowest = lowest-step (x .stage) s c m (startsFrom s y h) (g .1) (e .lowest) }
 
 -- ---- the theorem
--- the first candidate is compared with nothing
-any-held : (s : Settings2) (b d m : Conditional2) (q : List Conditional2) → length q ≡ 6 → Pass s 0 b q m → Pass s 0 d q m
-unfolding Pass isFar better pick
-any-held s b d m [] e p = absurd (omega (arith, e))
-any-held s b d m (c ∷ q) e p = p
+-- in the claim's words: the first candidate is compared with nothing
+pass-after : (s : Settings2) (k : ℕ) (b m : Conditional2) (q : List Conditional2) → 0 < k → Passes s k b q m → PassAfter s b q m
+unfolding Passes PassAfter
+pass-after s k b m [] h p = p
+pass-after s k b m (c ∷ q) h p =
+    let r : Passes s (k + 1) (W.better s c b) q m = subst (λ (z : Conditional2). Passes s (k + 1) z q m) (better-is s k c b h) (p .1 .1) in
+    (resolved-is s c (p .0), (near-is k c b h (p .1 .0), pass-after s (k + 1) (W.better s c b) m q (omega arith) r))
 
--- a far candidate is not the first
-not-first : (k : ℕ) (c b : Conditional2) → isFar k c b ≡ true → isFar 1 c b ≡ true
-unfolding isFar pick
-not-first k c b e = go (eqb k 0) _ e
+pass-all : (s : Settings2) (b m : Conditional2) (q : List Conditional2) → length q ≡ 6 → Passes s 0 b q m → Pass s q m
+unfolding Passes Pass better pick
+pass-all s b m [] e p = absurd (omega (arith, e))
+pass-all s b m (c ∷ q) e p = (resolved-is s c (p .0), pass-after s 1 c m q (lit< tt) (p .1 .1))
+
+-- the best is one of the candidates
+best-after : (s : Settings2) (b m : Conditional2) (q : List Conditional2) → PassAfter s b q m → (m ≡ b) ⊎ List·Memᴰ m q
+unfolding PassAfter W.better pick
+best-after s b m [] p = inl p
+best-after s b m (c ∷ q) p = go (lt (joint s c) (joint s b)) (best-after s (W.better s c b) m q (p .1 .1))
   where
-    go : (t u : Bool) → pick t false u ≡ true → u ≡ true
-    go true u e = absurd (true≢false (sym e))
-    go false u e = e
+    go : (t : Bool) → (m ≡ pick t c b) ⊎ List·Memᴰ m q → (m ≡ b) ⊎ List·Memᴰ m (c ∷ q)
+    go true (inl e) = inr (List·Memᴰ·head e)
+    go false (inl e) = inl e
+    go t (inr h) = inr (List·Memᴰ·tail h)
+
+best-in : (s : Settings2) (m : Conditional2) (q : List Conditional2) → Pass s q m → List·Memᴰ m q
+unfolding Pass
+best-in s m [] p = absurd p
+best-in s m (c ∷ q) p = elim (best-after s c m q (p .1)) [ inl e ↦ List·Memᴰ·head e | inr h ↦ List·Memᴰ·tail h ]
 
 number : Request2 → ℕ
 number (Point p) = 0
@@ -218,11 +240,13 @@ module _ (s : Settings2) (d : Bounded s) (h : List Conditional2) (f : Follows s 
   found2 w =
       let e = ends s d h start refl f (mode-true (request s (after s h)) w) in
       let g = e .ahead .rest in
+      let p : Pass s (candidates s h) (after s h .best) = pass-all s (e .ahead .held) (after s h .best) (candidates s h) (g .total) (g .pass) in
       record {
-        isStarts = g .points;
+        isStarts = g .points ∙ starts-are s;
         six = g .total;
-        pass = any-held s (e .ahead .held) nowhere _ _ (g .total) (g .pass);
-        member = best-member (ap isPoint w);
+        divided = e .ahead .divided;
+        pass = p;
+        member = best-in s (after s h .best) (candidates s h) p;
         lowest = e .lowest;
         each = e .ahead .each;
       }
@@ -234,7 +258,7 @@ module _ (s : Settings2) (d : Bounded s) (h : List Conditional2) (f : Follows s 
   found-unresolved : (e : request s (after s h) ≡ Refused 13) → Unresolved s h
   found-unresolved e =
       elim (why 13 e) [
-        | inl w ↦ record { candidate = after s h .current; member = current-member (ap isPoint e); isSo = w .1 }
+        | inl w ↦ record { candidate = after s h .current; member = current-member (ap isPoint e); isSo = unresolved-is s (after s h .current) (w .1) }
         | inr (inl w) ↦ absurd (omega (arith, w .0))
         | inr (inr w) ↦ absurd (omega (arith, w .0))
       ]
@@ -247,7 +271,7 @@ module _ (s : Settings2) (d : Bounded s) (h : List Conditional2) (f : Follows s 
           candidate = after s h .current;
           best = after s h .best;
           members = (current-member (ap isPoint e), best-member (ap isPoint e));
-          isSo = not-first (after s h .seed) (after s h .current) (after s h .best) (w .1);
+          isSo = far-is (after s h .seed) (after s h .current) (after s h .best) (w .1);
         }
         | inr (inr w) ↦ absurd (omega (arith, w .0))
       ]
@@ -257,7 +281,7 @@ module _ (s : Settings2) (d : Bounded s) (h : List Conditional2) (f : Follows s 
       elim (why 16 e) [
         | inl w ↦ absurd (omega (arith, w .0))
         | inr (inl w) ↦ absurd (omega (arith, w .0))
-        | inr (inr w) ↦ record { point = after s h .current; member = current-member (ap isPoint e); isSo = w .1 }
+        | inr (inr w) ↦ record { point = after s h .current; member = current-member (ap isPoint e); isSo = flat-is s (after s h .current) (w .1) }
       ]
 
   found-number : (n : ℕ) → request s (after s h) ≡ Refused n → (n ≡ 13) ⊎ ((n ≡ 14) ⊎ (n ≡ 16))

@@ -5,11 +5,10 @@ use lib.Ieee.Fits.{add-fits}
 use Rattle.float64.specs.Arithmetic.{_+ᶠ_, _*ᶠ_, word, half}
 use Rattle.float64.proofs.Order.{num?}
 use Rattle.float64.proofs.Powers.{InPower, within-finite, add-within, mul-within, finite-add-num}
-use Rattle.matrix.specs.Matrix.{product, dot}
 use Rattle.mode_2d.specs.declared.population_focei_2d.Settings2.{Settings2}
 use Rattle.mode_2d.specs.declared.population_focei_2d.Conditional2.{Conditional2}
 use Rattle.mode_2d.specs.declared.population_focei_2d.Request2.{Request2}
-use Rattle.mode_2d.specs.Rules.{priorScore, joint}
+use Rattle.histories.specs.Terms2.{prior0, prior1, joint}
 use Rattle.histories.specs.History2.{Within, Answers}
 use Rattle.histories.specs.Claim2.{Bounded}
 
@@ -38,7 +37,7 @@ penalty e g v w we wg wv ww =
     (add-within 110 (e *ᶠ v) (g *ᶠ w) (record { high = tt; low = tt }) (mul-within 4 106 e v (record { high = tt; low = tt }) we wv) (mul-within 4 106 g w (record { high = tt; low = tt }) wg ww))
 
 pub joint-num : (s : Settings2) → Bounded s → (q : Request2) (c : Conditional2) → Answers q c → T (num? (joint s c))
-unfolding joint dot priorScore product
+unfolding joint prior0 prior1
 joint-num s d q c a =
     let v = in-16 (c .eta .first) (a .within0) in
     let w = in-16 (c .eta .second) (a .within1) in

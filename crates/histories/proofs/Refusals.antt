@@ -1,8 +1,8 @@
--- What 13 and 14 say of the history: the whole grid was asked, and nothing more. Assumes nothing.
+-- What 13 and 14 say of the history: the whole grid was asked, and nothing more. There is no number but these and 15. Assumes nothing.
 use mathlib.Core.Path.{_≡_, refl, sym, ap, _∙_, subst}
 use mathlib.Core.Logic.{_⊎_, inl, inr}
 use mathlib.Core.Bool.{Bool, true, false, not, true≢false}
-use mathlib.Core.List.{List, [], _∷_}
+use mathlib.Core.List.{List, [], _∷_, List·Memᴰ, List·Memᴰ·head, List·Memᴰ·tail}
 use Prim.Native.Nat.{ℕ, zero, suc, _+_, _≤_, _<_}
 use native.Mathlib.Omega.{arith}
 use lib.Dec.{T, T-not, ltb, eqb, lit<, lit≤}
@@ -16,11 +16,14 @@ use Rattle.mode.specs.declared.population_focei.Stage.the-variants.{Grid, Warm,
 use Rattle.mode.specs.declared.population_focei.Search.{Search}
 use Rattle.mode.specs.declared.population_focei.Request.{Request}
 use Rattle.mode.specs.declared.population_focei.Request.the-variants.{Point, Mode, Refused}
-use Rattle.mode.specs.Rules.{nought, nowhere, requestAt, request, advanceAt, advance, screened, fell, firstScore, firstStage, entered, chosen, tried, start, gridPoint, isAbove, isUnder}
+use Rattle.mode.specs.Rules.{nought, requestAt, request, advanceAt, advance, screened, fell, firstScore, firstStage, entered, chosen, tried, start, gridPoint, settled, isAbove, isUnder}
 use Rattle.histories.specs.Histories.{ledFrom, Answered}
-use Rattle.histories.specs.History.{FollowsFrom, Follows, afterFrom, after, etas, gridFrom}
-use Rattle.histories.specs.Claim.{firstOf, lastFrom, fallsFrom, AtBound, Several}
+use Rattle.histories.specs.Terms.{etas, gridFrom, scoreAt, Cell, neighboursFrom, neighbours, filter, isFall}
+use Rattle.histories.specs.History.{FollowsFrom, Follows, afterFrom, after}
+use Rattle.histories.specs.Claim.{AtBound, Several}
 use Rattle.float64.proofs.Order.{num?, lt→le, of-true}
+use Rattle.histories.proofs.Words.{cell, grid-next, under-is, fall-is, and-yes, filter-yes, lastFrom, last-is, grid-length, over}
+use Rattle.histories.proofs.Trials.{nought-num, isMode, isPoint}
 use Rattle.histories.proofs.Screen.{next, grid-asked, keeps-first, side, or-not, true-of}
 
 -- ---- 13 or 14
@@ -104,6 +107,40 @@ rose-step x c k n r =
       ]
     ]
 
+-- between two neighbours the score falls from above 0 to 0 or below
+unfoldable fallsFrom : Conditional → List Conditional → Bool
+fallsFrom a [] = false
+fallsFrom a (b ∷ t) = pick (isAbove a) (pick (isUnder b) true (fallsFrom b t)) (fallsFrom b t)
+
+unfoldable fallsIn : List Conditional → Bool
+fallsIn [] = false
+fallsIn (a ∷ t) = fallsFrom a t
+
+-- such a fall is one of the claim's
+Fall : List Cell → Type 0
+Fall l = (k : Cell) × List·Memᴰ k (filter isFall l)
+
+fall-from : (a : Conditional) (t : List Conditional) → T (fallsFrom a t) → Fall (neighboursFrom a t)
+unfolding fallsFrom neighboursFrom Fall filter pick
+fall-from a [] h = absurd h
+fall-from a (b ∷ t) h = go (isAbove a) (isUnder b) refl refl (fall-from b t) h
+  where
+    later : Fall (neighboursFrom b t) → Fall (cell a b ∷ neighboursFrom b t)
+    later w = (w .0, both (λ (l : List Cell). List·Memᴰ (w .0) l) (isFall (cell a b)) (List·Memᴰ·tail (w .1)) (w .1))
+
+    go : (p q : Bool) → isAbove a ≡ p → isUnder b ≡ q → (T (fallsFrom b t) → Fall (neighboursFrom b t))
+        → T (pick p (pick q true (fallsFrom b t)) (fallsFrom b t)) → Fall (cell a b ∷ neighboursFrom b t)
+    go true true u v f h =
+        let e = filter-yes isFall (cell a b) (neighboursFrom b t) (fall-is a b ∙ and-yes _ _ u v) in
+        (cell a b, subst (λ (l : List Cell). List·Memᴰ (cell a b) l) (sym e) (List·Memᴰ·head refl))
+    go true false u v f h = later (f h)
+    go false q u v f h = later (f h)
+
+fall-in : (h : List Conditional) → T (fallsIn h) → Fall (neighbours h)
+unfolding fallsIn neighbours
+fall-in [] h = absurd h
+fall-in (a ∷ t) h = fall-from a t h
+
 -- ---- the rest of the grid, from a search x that has some points of it: n more points, to y
 record Run (s : Settings) (n : ℕ) (x : Search) (h : List Conditional) (y : Search) : Type 0 where
   pub grid : etas h ≡ gridFrom (s .«eta_bound») n (x .count)
@@ -114,6 +151,7 @@ record Run (s : Settings) (n : ℕ) (x : Search) (h : List Conditional) (y : Sea
   pub fall : y .fall ≡ pick (fallsFrom (x .latest) h) true (x .fall)
   pub why : Why y
   pub rose : Rose y
+  pub latestNumber : T (num? (y .latest .score))
 
 fall-step : (a u f g : Bool) → pick f true (pick a (pick u true g) g) ≡ pick (pick a (pick u true f) f) true g
 unfolding pick
@@ -125,10 +163,10 @@ fall-step false u true g = refl
 fall-step false u false g = refl
 
 run-step : (s : Settings) (n : ℕ) (x : Search) (c : Conditional) (h : List Conditional) (y : Search) → 1 ≤ x .count → c .eta ≡ gridPoint (s .«eta_bound») (x .count) → Run s n (screened x c) h y → Run s (suc n) x (c ∷ h) y
-unfolding etas gridFrom lastFrom fallsFrom screened fell
+unfolding etas lastFrom fallsFrom screened fell
 run-step s n x c h y k e r =
     record {
-      grid = ap (λ (v : Float). v ∷ etas h) e ∙ ap (λ (l : List Float). gridPoint (s .«eta_bound») (x .count) ∷ l) (r .grid);
+      grid = ap (λ (v : Float). v ∷ etas h) e ∙ ap (λ (l : List Float). gridPoint (s .«eta_bound») (x .count) ∷ l) (r .grid) ∙ grid-next (s .«eta_bound») n (x .count);
       stage = r .stage;
       full = r .full;
       first = r .first ∙ keeps-first x c k;
@@ -136,6 +174,7 @@ run-step s n x c h y k e r =
       fall = r .fall ∙ fall-step (isAbove (x .latest)) (isUnder c) (fallsFrom c h) (x .fall);
       why = r .why;
       rose = r .rose;
+      latestNumber = r .latestNumber;
     }
 
 grid-not-screen : (s : Settings) (x : Search) → x .stage ≡ Grid → x .count < 17 → T (isScreen (request s x)) → ⊥
@@ -143,18 +182,21 @@ unfolding requestAt
 grid-not-screen s x e k q =
     subst (λ (r : Request). T (isScreen r)) (ap (λ (t : Stage). requestAt t s x) e ∙ pick-yes (ltb (x .count) 17) _ _ (lt-ltb (x .count) 17 k)) q
 
-run : (s : Settings) (n : ℕ) (h : List Conditional) (x : Search) → x .stage ≡ Grid → 1 ≤ x .count → x .count + n ≡ 17 → (17 ≤ x .count → Why x) → Rose x → FollowsFrom s x h → T (isScreen (request s (afterFrom s x h))) → Run s n x h (afterFrom s x h)
+run : (s : Settings) (n : ℕ) (h : List Conditional) (x : Search) → x .stage ≡ Grid → 1 ≤ x .count → x .count + n ≡ 17 → (17 ≤ x .count → Why x) → Rose x
+    → T (num? (x .latest .score)) → FollowsFrom s x h → T (isScreen (request s (afterFrom s x h))) → Run s n x h (afterFrom s x h)
 unfolding Answered ledFrom etas gridFrom lastFrom fallsFrom pick
-run s zero [] x e k i w o f q = record { rose = o; grid = refl; stage = e; full = omega arith; first = refl; latest = refl; fall = refl; why = w (omega arith) }
-run s zero (c ∷ h) x e k i w o f q = let j = grid-asked s x c e (f .0) .0 in absurd (omega arith)
-run s (suc n) [] x e k i w o f q = absurd (grid-not-screen s x e (omega arith) q)
-run s (suc n) (c ∷ h) x e k i w o f q =
+run s zero [] x e k i w o l f q = record { rose = o; latestNumber = l; grid = refl; stage = e; full = omega arith; first = refl; latest = refl; fall = refl; why = w (omega arith) }
+run s zero (c ∷ h) x e k i w o l f q = let j = grid-asked s x c e (f .0) .0 in absurd (omega arith)
+run s (suc n) [] x e k i w o l f q = absurd (grid-not-screen s x e (omega arith) q)
+run s (suc n) (c ∷ h) x e k i w o l f q =
     let a = grid-asked s x c e (f .0) in
     let y = screened x c in
     elim (chosen-cases s y) [
       | inl p ↦
           let g : advance s x c ≡ y = next s x c e (a .0) ∙ p .0 in
-          let r : Run s n y h (afterFrom s y h) = run s n h y (on x c) (more x c) (count x c n i) (p .1) (rose-step x c k (f .0 .scoreNumber) o) (subst (λ (v : Search). FollowsFrom s v h) g (f .1)) (subst (λ (v : Search). T (isScreen (request s (afterFrom s v h)))) g q) in
+          let f' : FollowsFrom s y h = subst (λ (v : Search). FollowsFrom s v h) g (f .1) in
+          let q' : T (isScreen (request s (afterFrom s y h))) = subst (λ (v : Search). T (isScreen (request s (afterFrom s v h)))) g q in
+          let r = run s n h y (on x c) (more x c) (count x c n i) (p .1) (rose-step x c k (f .0 .scoreNumber) o) (latest x c (f .0 .scoreNumber)) f' q' in
           run-step s n x c h (afterFrom s (advance s x c) h) k (a .1) (subst (λ (v : Search). Run s n y h (afterFrom s v h)) (sym g) r)
       | inr p ↦
           let g : advance s x c ≡ entered s y = next s x c e (a .0) ∙ p in
@@ -167,6 +209,9 @@ run s (suc n) (c ∷ h) x e k i w o f q =
     more : (x : Search) (c : Conditional) → 1 ≤ screened x c .count
     more x c = unfold screened in omega arith
 
+    latest : (x : Search) (c : Conditional) → T (num? (c .score)) → T (num? (screened x c .latest .score))
+    latest x c h = unfold screened in h
+
     count : (x : Search) (c : Conditional) (n : ℕ) → x .count + suc n ≡ 17 → screened x c .count + n ≡ 17
     count x c n i = unfold screened in omega arith
 
@@ -175,9 +220,11 @@ record Whole (s : Settings) (h : List Conditional) (y : Search) : Type 0 where
   pub grid : etas h ≡ gridFrom (s .«eta_bound») 17 0
   pub stage : y .stage ≡ Grid
   pub full : 17 ≤ y .count
-  pub first : y .first ≡ firstOf h
-  pub latest : y .latest ≡ lastFrom nowhere h
-  pub fall : y .fall ≡ fallsFrom nowhere h
+  pub first : y .first ≡ scoreAt h 0
+  pub firstNumber : T (num? (y .first))
+  pub latest : y .latest .score ≡ scoreAt h 16
+  pub latestNumber : T (num? (y .latest .score))
+  pub fall : y .fall ≡ fallsIn h
   pub why : Why y
   pub rose : Rose y
 
@@ -186,15 +233,17 @@ unfolding pick
 pick-true true = refl
 pick-true false = refl
 
-whole-of : (s : Settings) (c : Conditional) (h : List Conditional) (y : Search) → c .eta ≡ gridPoint (s .«eta_bound») 0 → Run s 16 (screened start c) h y → Whole s (c ∷ h) y
-unfolding etas gridFrom firstOf lastFrom fallsFrom screened fell firstScore start isAbove pick ofBits lt
-whole-of s c h y e r =
+whole-of : (s : Settings) (c : Conditional) (h : List Conditional) (y : Search) → c .eta ≡ gridPoint (s .«eta_bound») 0 → T (num? (c .score)) → Run s 16 (screened start c) h y → Whole s (c ∷ h) y
+unfolding etas scoreAt fallsIn screened fell firstScore start isAbove pick ofBits lt
+whole-of s c h y e n r =
     record {
-      grid = ap (λ (v : Float). v ∷ etas h) e ∙ ap (λ (l : List Float). gridPoint (s .«eta_bound») 0 ∷ l) (r .grid);
+      grid = ap (λ (v : Float). v ∷ etas h) e ∙ ap (λ (l : List Float). gridPoint (s .«eta_bound») 0 ∷ l) (r .grid) ∙ grid-next (s .«eta_bound») 16 0;
       stage = r .stage;
       full = r .full;
       first = r .first;
-      latest = r .latest;
+      firstNumber = subst (λ (v : Float). T (num? v)) (sym (r .first)) n;
+      latest = ap (λ (v : Conditional). v .score) (r .latest) ∙ last-is c h ∙ ap (λ (i : ℕ). scoreAt (c ∷ h) i) (grid-length (s .«eta_bound») 16 1 h (r .grid));
+      latestNumber = r .latestNumber;
       fall = r .fall ∙ pick-true (fallsFrom c h);
       why = r .why;
       rose = r .rose;
@@ -221,8 +270,11 @@ whole s (c ∷ h) f q =
     elim (chosen-cases s y) [
       | inl p ↦
           let g : advance s start c ≡ y = next s start c e (a .0) ∙ p .0 in
-          let r : Run s 16 y h (afterFrom s y h) = run s 16 h y (unfold screened in refl) (unfold screened start in lit≤ tt) (unfold screened start in refl) (p .1) (rose-first c (f .0 .scoreNumber)) (subst (λ (v : Search). FollowsFrom s v h) g (f .1)) (subst (λ (v : Search). T (isScreen (request s (afterFrom s v h)))) g q) in
-          whole-of s c h (afterFrom s (advance s start c) h) (a .1 ∙ (unfold start in refl)) (subst (λ (v : Search). Run s 16 y h (afterFrom s v h)) (sym g) r)
+          let f' : FollowsFrom s y h = subst (λ (v : Search). FollowsFrom s v h) g (f .1) in
+          let q' : T (isScreen (request s (afterFrom s y h))) = subst (λ (v : Search). T (isScreen (request s (afterFrom s v h)))) g q in
+          let number : T (num? (y .latest .score)) = unfold screened in f .0 .scoreNumber in
+          let r = run s 16 h y (unfold screened in refl) (unfold screened start in lit≤ tt) (unfold screened start in refl) (p .1) (rose-first c (f .0 .scoreNumber)) number f' q' in
+          whole-of s c h (afterFrom s (advance s start c) h) (a .1 ∙ (unfold start in refl)) (f .0 .scoreNumber) (subst (λ (v : Search). Run s 16 y h (afterFrom s v h)) (sym g) r)
       | inr p ↦
           let g : advance s start c ≡ entered s y = next s start c e (a .0) ∙ p in
           absurd (past s h (advance s start c) (subst (λ (v : Search). T (pastGrid (v .stage))) (sym g) (entered-past s y)) q)
@@ -263,7 +315,10 @@ at-bound s h f e =
     let t = by-13 _ _ (told s (after s h) (Refused 13) (w .stage) (w .full) e) in
     record {
       isGrid = w .grid;
-      ends = elim t [ inl p ↦ inl (subst (λ (v : Float). T (le nought v)) (w .first) p) | inr p ↦ inr (subst (λ (v : Conditional). T (isUnder v)) (w .latest) p) ];
+      ends = elim t [
+        | inl p ↦ inl (subst (λ (v : Float). T (le nought v)) (w .first) p)
+        | inr p ↦ inr (subst (λ (v : Float). T (le v nought)) (w .latest) (subst T (under-is (after s h .latest)) p))
+      ];
     }
 
 -- a grid with good ends has a cell
@@ -273,20 +328,55 @@ no-rise y v (inl p) a b = T-not (isUnder (y .latest)) b (subst T (sym p) tt)
 no-rise y v (inr (inl p)) a b = true≢false (sym p ∙ v)
 no-rise y v (inr (inr p)) a b = T-not (le nought (y .first)) a (subst T (sym p) tt)
 
+-- a test that fails
+not-so : (b : Bool) → T (not b) → b ≡ false
+not-so true h = absurd h
+not-so false h = refl
+
 pub several : (s : Settings) (h : List Conditional) → Follows s h → request s (after s h) ≡ Refused 14 → Several s h
-unfolding Why
+unfolding Why Fall
 several s h f e =
-    let w = whole s h f (screen (request s (after s h)) 14 tt e) in
-    let t = by-14 _ _ (told s (after s h) (Refused 14) (w .stage) (w .full) e) in
+    let y = after s h in
+    let w = whole s h f (screen (request s y) 14 tt e) in
+    let t = by-14 _ _ (told s y (Refused 14) (w .stage) (w .full) e) in
+    let fell : T (y .fall) = elim (w .why) [
+      | inl p ↦ absurd (T-not (le nought (y .first)) (t .0) (subst T (sym p) tt))
+      | inr p ↦ elim p [
+        | inl q ↦ absurd (T-not (isUnder (y .latest)) (t .1) (subst T (sym q) tt))
+        | inr q ↦ elim q [ inl v ↦ subst T (sym v) tt | inr v ↦ absurd (no-rise y v (w .rose) (t .0) (t .1)) ]
+      ]
+    ] in
+    let k = fall-in h (subst T (w .fall) fell) in
     record {
       isGrid = w .grid;
-      firstBelow = subst (λ (v : Float). T (not (le nought v))) (w .first) (t .0);
-      lastAbove = subst (λ (v : Conditional). T (not (isUnder v))) (w .latest) (t .1);
-      fall = elim (w .why) [
-        | inl p ↦ absurd (T-not (le nought (after s h .first)) (t .0) (subst T (sym p) tt))
-        | inr p ↦ elim p [
-          | inl q ↦ absurd (T-not (isUnder (after s h .latest)) (t .1) (subst T (sym q) tt))
-          | inr q ↦ elim q [ inl v ↦ subst T (sym v ∙ w .fall) tt | inr v ↦ absurd (no-rise (after s h) v (w .rose) (t .0) (t .1)) ]
-        ]
-      ];
+      firstBelow = subst (λ (v : Float). T (lt v nought)) (w .first) (over nought (y .first) nought-num (w .firstNumber) (not-so _ (t .0)));
+      lastAbove = subst (λ (v : Float). T (lt nought v)) (w .latest) (over (y .latest .score) nought (w .latestNumber) nought-num (sym (under-is (y .latest)) ∙ not-so _ (t .1)));
+      fall = k .0;
+      isFall = k .1;
     }
+
+-- ---- no other number
+abbrev Numbered : ℕ → Request → Type 0
+Numbered n q = q ≡ Refused n → (n ≡ 13) ⊎ ((n ≡ 14) ⊎ (n ≡ 15))
+
+point-none : (n : ℕ) (p : Float) → Numbered n (Point p)
+point-none n p e = absurd (true≢false (ap isPoint e))
+
+mode-none : (n : ℕ) → Numbered n Mode
+mode-none n e = absurd (true≢false (ap isMode e))
+
+numbered : (n k : ℕ) → Refused k ≡ Refused n → n ≡ k
+unfolding numberOf
+numbered n k e = sym (ap numberOf e)
+
+numbers-at : (st : Stage) (s : Settings) (x : Search) (n : ℕ) → Numbered n (requestAt st s x)
+unfolding requestAt
+numbers-at Grid s x n =
+    both (Numbered n) (ltb (x .count) 17) (point-none n _)
+    (both (Numbered n) (le nought (x .first)) (λ e. inl (numbered n 13 e)) (both (Numbered n) (isUnder (x .latest)) (λ e. inl (numbered n 13 e)) (λ e. inr (inl (numbered n 14 e)))))
+numbers-at Warm s x n = point-none n (s .warm)
+numbers-at Secant s x n = both (Numbered n) (settled s (x .best) (x .left) (x .right)) (mode-none n) (point-none n _)
+numbers-at Halving s x n = both (Numbered n) (settled s (x .best) (x .left) (x .right)) (mode-none n) (both (Numbered n) (ltb (x .count) 48) (point-none n _) (λ e. inr (inr (numbered n 15 e))))
+
+pub numbers : (s : Settings) (x : Search) (n : ℕ) → Numbered n (request s x)
+numbers s x n = numbers-at (x .stage) s x n

@@ -5,7 +5,7 @@ use mathlib.Core.Bool.{Bool, true, false, not, true≢false}
 use mathlib.Core.List.{List, [], _∷_}
 use Prim.Native.Nat.{ℕ, zero, suc, _+_, _≤_, _<_}
 use native.Mathlib.Omega.{arith}
-use lib.ListN.{take, drop}
+use lib.ListN.{take, drop, length}
 use lib.Dec.{T, T-not, ltb, eqb}
 use lib.Ieee.{Float, binary64, lt, le, fits}
 use borrow.Author.Tests.{lt-ltb, le-ltb, ne-eqb}
@@ -21,9 +21,11 @@ use Rattle.mode.specs.declared.population_focei.Request.{Request}
 use Rattle.mode.specs.declared.population_focei.Request.the-variants.{Point, Refused}
 use Rattle.mode.specs.Rules.{nought, requestAt, request, advanceAt, advance, tried, screened, chosen, entered, firstScore, fell, firstStage, gridPoint, isAbove, isUnder, isCloser}
 use Rattle.histories.specs.Histories.{ledFrom, Answered}
-use Rattle.histories.specs.History.{Domain, Answers, FollowsFrom, afterFrom, Cell, gridFrom, etas, upwardFrom, narrowed}
-use Rattle.histories.proofs.Trials.{nought-num, isMode, pointOf, point-true, Good, Inside, better-l, better-r, keep, later, Ends, cellIn, ends-step, trials}
-use Rattle.histories.proofs.Count.{on-grid}
+use Rattle.histories.specs.Terms.{etas, gridFrom, Cell, neighboursFrom, filter, isUpward, isFall, warmTrials}
+use Rattle.histories.specs.History.{Domain, Answers, FollowsFrom, afterFrom}
+use Rattle.histories.proofs.Words.{cell, cellIn, grid-next, upward-is, fall-is, and-no, and-yes, filter-no, filter-yes, lastFrom}
+use Rattle.histories.proofs.Trials.{nought-num, isEnd, pointOf, point-true, Good, Inside, better-l, better-r, keep, later, Ends, ends-step, trials}
+use Rattle.histories.proofs.Count.{on-grid, all-tried}
 use Rattle.histories.proofs.Grid.{grid-fits, grid-mono, grid-low, grid-high}
 
 -- ---- small things
@@ -50,9 +52,9 @@ side c n =
 
 -- ---- the warm start and the trials
 warm-trials : (s : Settings) (d : Domain s) (a z : Float) (h : List Conditional) (x : Search) → x .stage ≡ Warm → T (lt (x .left .eta) (s .warm)) → T (lt (s .warm) (x .right .eta)) → Good a z (x .left) (x .right) (x .best) → FollowsFrom s x h
-    → T (isMode (request s (afterFrom s x h))) → Ends s a z (cellIn x) (x .best) h (afterFrom s x h .best)
-unfolding Answered ledFrom requestAt advanceAt tried narrowed
-warm-trials s d a z [] x e p q g f m = absurd (subst (λ (t : Stage). T (isMode (requestAt t s x))) e m)
+    → T (isEnd (request s (afterFrom s x h))) → Ends s a z (cellIn x) (x .best) h (afterFrom s x h)
+unfolding Answered ledFrom requestAt advanceAt tried
+warm-trials s d a z [] x e p q g f m = absurd (subst (λ (t : Stage). T (isEnd (requestAt t s x))) e m)
 warm-trials s d a z (c ∷ h) x e p q g f m =
     let y = advance s x c in
     let same : y ≡ tried Secant 0 x c = ap (λ (t : Stage). advanceAt t s x c) e in
@@ -64,8 +66,8 @@ warm-trials s d a z (c ∷ h) x e p q g f m =
       numC = f .0 .scoreNumber;
     } in
     let g' : Good a z (y .left) (y .right) (y .best) = subst (λ (v : Search). Good a z (v .left) (v .right) (v .best)) (sym same) (keep a z (x .left) (x .right) (x .best) c g i) in
-    let r : Ends s a z (cellIn y) (y .best) h (afterFrom s y h .best) = trials s d a z h y (subst (λ (v : Search). T (later (v .stage))) (sym same) tt) g' (f .1) m in
-    ends-step s a z (cellIn x) (x .best) c h (afterFrom s y h .best) i (subst (λ (v : Search). Ends s a z (cellIn v) (v .best) h (afterFrom s y h .best)) same r)
+    let r : Ends s a z (cellIn y) (y .best) h (afterFrom s y h) = trials s d a z h y (subst (λ (v : Search). T (later (v .stage))) (sym same) tt) g' (f .1) m in
+    ends-step s a z Secant 0 x c h (afterFrom s y h) g i (subst (λ (v : Search). Ends s a z (cellIn v) (v .best) h (afterFrom s y h)) same r)
 
 -- the end of smaller absolute score, the right one at a tie
 abbrev pub nearer : Cell → Conditional
@@ -96,8 +98,8 @@ later-r true true e = absurd (true≢false e)
 later-r true false e = tt
 later-r false u e = tt
 
-entry : (s : Settings) (d : Domain s) (h : List Conditional) (y : Search) → GoodCell (cellIn y) → FollowsFrom s (entered s y) h → T (isMode (request s (afterFrom s (entered s y) h)))
-    → Ends s (y .left .eta) (y .right .eta) (cellIn y) (nearer (cellIn y)) h (afterFrom s (entered s y) h .best)
+entry : (s : Settings) (d : Domain s) (h : List Conditional) (y : Search) → GoodCell (cellIn y) → FollowsFrom s (entered s y) h → T (isEnd (request s (afterFrom s (entered s y) h)))
+    → Ends s (y .left .eta) (y .right .eta) (cellIn y) (nearer (cellIn y)) h (afterFrom s (entered s y) h)
 unfolding entered firstStage GoodCell
 entry s d h y g f m =
     let l = y .left .eta in
@@ -111,18 +113,18 @@ entry s d h y g f m =
     ]
 
 -- ---- on the grid no mode is told
-no-mode : (t : Bool) (q r : Request) → T (not (isMode q)) → T (not (isMode r)) → T (not (isMode (pick t q r)))
+no-mode : (t : Bool) (q r : Request) → T (not (isEnd q)) → T (not (isEnd r)) → T (not (isEnd (pick t q r)))
 unfolding pick
 no-mode true q r a b = a
 no-mode false q r a b = b
 
-pub grid-no-mode : (s : Settings) (x : Search) → x .stage ≡ Grid → T (isMode (request s x)) → ⊥
+pub grid-no-mode : (s : Settings) (x : Search) → x .stage ≡ Grid → T (isEnd (request s x)) → ⊥
 unfolding requestAt
 grid-no-mode s x e m =
-    T-not (isMode (requestAt Grid s x))
+    T-not (isEnd (requestAt Grid s x))
     (no-mode (ltb (x .count) 17) (Point (gridPoint (s .«eta_bound») (x .count))) (pick (le nought (x .first)) (Refused 13) (pick (isUnder (x .latest)) (Refused 13) (Refused 14))) tt
     (no-mode (le nought (x .first)) (Refused 13) (pick (isUnder (x .latest)) (Refused 13) (Refused 14)) tt (no-mode (isUnder (x .latest)) (Refused 13) (Refused 14) tt tt)))
-    (subst (λ (t : Stage). T (isMode (requestAt t s x))) e m)
+    (subst (λ (t : Stage). T (isEnd (requestAt t s x))) e m)
 
 -- what is asked on the grid
 pub grid-asked : (s : Settings) (x : Search) (c : Conditional) → x .stage ≡ Grid → Answers (request s x) c → (x .count < 17) × (c .eta ≡ gridPoint (s .«eta_bound») (x .count))
@@ -183,7 +185,7 @@ keeps-bad x c h (inr e) = inr (fell (isAbove (x .latest)) (isUnder c) (x .fall) 
     ]
 
 -- ---- a search that is bound for 13 or 14 never tells a mode
-pub doomed : (s : Settings) (h : List Conditional) (x : Search) → x .stage ≡ Grid → 1 ≤ x .count → Bad x → FollowsFrom s x h → T (isMode (request s (afterFrom s x h))) → ⊥
+pub doomed : (s : Settings) (h : List Conditional) (x : Search) → x .stage ≡ Grid → 1 ≤ x .count → Bad x → FollowsFrom s x h → T (isEnd (request s (afterFrom s x h))) → ⊥
 unfolding Answered ledFrom
 doomed s [] x e n b f m = grid-no-mode s x e m
 doomed s (c ∷ h) x e n b f m =
@@ -198,16 +200,19 @@ doomed s (c ∷ h) x e n b f m =
     more x c = unfold screened in omega arith
 
 -- and so one that is on the grid with all points evaluated
-stuck : (s : Settings) (h : List Conditional) (x : Search) → x .stage ≡ Grid → 17 ≤ x .count → FollowsFrom s x h → T (isMode (request s (afterFrom s x h))) → ⊥
+stuck : (s : Settings) (h : List Conditional) (x : Search) → x .stage ≡ Grid → 17 ≤ x .count → FollowsFrom s x h → T (isEnd (request s (afterFrom s x h))) → ⊥
 unfolding Answered ledFrom
 stuck s [] x e n f m = grid-no-mode s x e m
 stuck s (c ∷ h) x e n f m = let k = grid-asked s x c e (f .0) .0 in omega arith
 
--- ---- what is left of the grid: n points from the i-th on, after the point a, with the upward cells k; then the trials from the cell
-pub record Rest (s : Settings) (n i : ℕ) (a : Conditional) (ks : List Cell) (k : Cell) (h : List Conditional) (m : Conditional) : Type 0 where
+-- ---- what is left of the grid: n points from the i-th on, after the point a, with the upward cells ks and no fall; then the trials from the cell k, to the search e
+pub record Rest (s : Settings) (n i : ℕ) (a : Conditional) (ks : List Cell) (k : Cell) (h : List Conditional) (e : Search) : Type 0 where
   pub grid : etas (take n h) ≡ gridFrom (s .«eta_bound») n i
-  pub rising : upwardFrom a (take n h) ≡ ks
-  pub ends : Ends s (k .left .eta) (k .right .eta) k (nearer k) (drop n h) m
+  pub rising : filter isUpward (neighboursFrom a (take n h)) ≡ ks
+  pub noFall : filter isFall (neighboursFrom a (take n h)) ≡ []
+  pub lastAbove : isAbove (lastFrom a (take n h)) ≡ true
+  pub ends : Ends s (k .left .eta) (k .right .eta) k (nearer k) (drop n h) e
+  pub allTried : request s e ≡ Refused 15 → length (drop n h) ≡ warmTrials s k + 16 + 48
 
 -- the latest point lies above 0, and the cell is met
 pub record Above (n : ℕ) (x : Search) : Type 0 where
@@ -274,30 +279,35 @@ unfolding Bad
 bad-falls x c a u = inr (falls x c a u)
 
 -- ---- what is left, one point earlier
-rest-on : (s : Settings) (n i : ℕ) (a c : Conditional) (ks : List Cell) (k : Cell) (h : List Conditional) (m : Conditional) → c .eta ≡ gridPoint (s .«eta_bound») i → (isUnder a ≡ false) ⊎ (isAbove c ≡ false) → Rest s n (i + 1) c ks k h m → Rest s (suc n) i a ks k (c ∷ h) m
-unfolding etas gridFrom upwardFrom
-rest-on s n i a c ks k h m e o r = record { grid = ap (λ (v : Float). v ∷ etas (take n h)) e ∙ ap (λ (v : List Float). gridPoint (s .«eta_bound») i ∷ v) (r .grid); rising = skip o ∙ r .rising; ends = r .ends }
-  where
-    skip : (isUnder a ≡ false) ⊎ (isAbove c ≡ false) → pick (isUnder a) (pick (isAbove c) (record { left = a; right = c } ∷ upwardFrom c (take n h)) (upwardFrom c (take n h))) (upwardFrom c (take n h)) ≡ upwardFrom c (take n h)
-    skip (inl u) = pick-no (isUnder a) _ _ u
-    skip (inr u) = elim (or-not (isUnder a)) [ inl v ↦ pick-yes (isUnder a) _ _ v ∙ pick-no (isAbove c) _ _ u | inr v ↦ pick-no (isUnder a) _ _ v ]
+module _ (s : Settings) (n i : ℕ) (a c : Conditional) (k : Cell) (h : List Conditional) (e : Search)
+    (asked : c .eta ≡ gridPoint (s .«eta_bound») i) (falls : (isAbove a ≡ false) ⊎ (isUnder c ≡ false)) where
+  -- the cell from a to c is `ks`: none, or itself
+  earlier : (ks ls : List Cell) → filter isUpward (cell a c ∷ neighboursFrom c (take n h)) ≡ ls → Rest s n (i + 1) c ks k h e → Rest s (suc n) i a ls k (c ∷ h) e
+  unfolding etas neighboursFrom lastFrom
+  earlier ks ls u r = record {
+    grid = ap (λ (v : Float). v ∷ etas (take n h)) asked ∙ ap (λ (l : List Float). gridPoint (s .«eta_bound») i ∷ l) (r .grid) ∙ grid-next (s .«eta_bound») n i;
+    rising = u;
+    noFall = filter-no isFall (cell a c) _ (fall-is a c ∙ and-no _ _ falls) ∙ r .noFall;
+    lastAbove = r .lastAbove;
+    ends = r .ends;
+    allTried = r .allTried;
+  }
 
-rest-met : (s : Settings) (n i : ℕ) (a c : Conditional) (h : List Conditional) (m : Conditional) → c .eta ≡ gridPoint (s .«eta_bound») i → isUnder a ≡ true → isAbove c ≡ true → Rest s n (i + 1) c [] (record { left = a; right = c }) h m
-    → Rest s (suc n) i a (record { left = a; right = c } ∷ []) (record { left = a; right = c }) (c ∷ h) m
-unfolding etas gridFrom upwardFrom
-rest-met s n i a c h m e u v r =
-    record {
-      grid = ap (λ (v : Float). v ∷ etas (take n h)) e ∙ ap (λ (v : List Float). gridPoint (s .«eta_bound») i ∷ v) (r .grid);
-      rising = pick-yes (isUnder a) _ _ u ∙ pick-yes (isAbove c) _ _ v ∙ ap (λ (l : List Cell). record { left = a; right = c } ∷ l) (r .rising);
-      ends = r .ends;
-    }
+  rest-on : (ks : List Cell) → (isUnder a ≡ false) ⊎ (isAbove c ≡ false) → Rest s n (i + 1) c ks k h e → Rest s (suc n) i a ks k (c ∷ h) e
+  rest-on ks o r = earlier ks ks (filter-no isUpward (cell a c) _ (upward-is a c ∙ and-no _ _ o) ∙ r .rising) r
+
+  rest-met : isUnder a ≡ true → isAbove c ≡ true → Rest s n (i + 1) c [] k h e → Rest s (suc n) i a (cell a c ∷ []) k (c ∷ h) e
+  rest-met u v r = earlier [] (cell a c ∷ []) (filter-yes isUpward (cell a c) _ (upward-is a c ∙ and-yes _ _ u v) ∙ ap (λ (l : List Cell). cell a c ∷ l) (r .rising)) r
 
 -- the search enters its trials
-finish : (s : Settings) (d : Domain s) (h : List Conditional) (y z : Search) → z ≡ entered s y → GoodCell (cellIn y) → FollowsFrom s z h → T (isMode (request s (afterFrom s z h)))
-    → Ends s (y .left .eta) (y .right .eta) (cellIn y) (nearer (cellIn y)) h (afterFrom s z h .best)
+finish : (s : Settings) (d : Domain s) (h : List Conditional) (y z : Search) → z ≡ entered s y → GoodCell (cellIn y) → FollowsFrom s z h → T (isEnd (request s (afterFrom s z h)))
+    → Ends s (y .left .eta) (y .right .eta) (cellIn y) (nearer (cellIn y)) h (afterFrom s z h)
 finish s d h y z e g =
-    subst (λ (v : Search). FollowsFrom s v h → T (isMode (request s (afterFrom s v h))) → Ends s (y .left .eta) (y .right .eta) (cellIn y) (nearer (cellIn y)) h (afterFrom s v h .best)) (sym e)
-    (λ (f : FollowsFrom s (entered s y) h) (m : T (isMode (request s (afterFrom s (entered s y) h)))). entry s d h y g f m)
+    subst (λ (v : Search). FollowsFrom s v h → T (isEnd (request s (afterFrom s v h))) → Ends s (y .left .eta) (y .right .eta) (cellIn y) (nearer (cellIn y)) h (afterFrom s v h)) (sym e)
+    (λ (f : FollowsFrom s (entered s y) h) (m : T (isEnd (request s (afterFrom s (entered s y) h)))). entry s d h y g f m)
+
+finish-tried : (s : Settings) (h : List Conditional) (y z : Search) → z ≡ entered s y → FollowsFrom s z h → request s (afterFrom s z h) ≡ Refused 15 → length h ≡ warmTrials s (cellIn y) + 16 + 48
+finish-tried s h y z e = subst (λ (v : Search). FollowsFrom s v h → request s (afterFrom s v h) ≡ Refused 15 → length h ≡ warmTrials s (cellIn y) + 16 + 48) (sym e) (all-tried s h y)
 
 -- ---- one more point keeps what holds above 0
 pub above-next : (n : ℕ) (x : Search) (c : Conditional) → Above (suc n) x → isAbove c ≡ true → isUnder c ≡ false → Above n (screened x c)
@@ -373,13 +383,20 @@ below-next s n x c b e q p u =
     }
 
 -- ---- to the end: once the cell is met, no other is
-onward : (s : Settings) (d : Domain s) (n : ℕ) (h : List Conditional) (y z : Search) → Above n y → z ≡ chosen s y → FollowsFrom s z h → T (isMode (request s (afterFrom s z h)))
-    → Rest s n (y .count) (y .latest) [] (cellIn y) h (afterFrom s z h .best)
+onward : (s : Settings) (d : Domain s) (n : ℕ) (h : List Conditional) (y z : Search) → Above n y → z ≡ chosen s y → FollowsFrom s z h → T (isEnd (request s (afterFrom s z h)))
+    → Rest s n (y .count) (y .latest) [] (cellIn y) h (afterFrom s z h)
 unfolding Answered ledFrom screened
 onward s d zero h y z a e f m =
     let k = a .number in
     let q : z ≡ entered s y = e ∙ enters s y (omega arith) (a .firstBelow) (a .notUnder) (a .noFall) (rises (cellIn y) (a .good)) in
-    record { grid = unfold etas gridFrom in refl; rising = unfold upwardFrom in refl; ends = finish s d h y z q (a .good) f m }
+    record {
+      grid = unfold etas gridFrom in refl;
+      rising = unfold neighboursFrom filter in refl;
+      noFall = unfold neighboursFrom filter in refl;
+      lastAbove = unfold lastFrom in a .isAbove;
+      ends = finish s d h y z q (a .good) f m;
+      allTried = finish-tried s h y z q f;
+    }
 onward s d (suc n) [] y z a e f m =
     let k = a .number in
     let q : z ≡ y = e ∙ stays s y (omega arith) in
@@ -391,10 +408,11 @@ onward s d (suc n) (c ∷ h) y z a e f m =
     let w = grid-asked s z c (b .onGrid) (f .0) in
     elim (side c (f .0 .scoreNumber)) [
       | inl p ↦
-          let r : Rest s n (z .count + 1) c [] (cellIn (screened z c)) h (afterFrom s (advance s z c) h .best) =
+          let r : Rest s n (z .count + 1) c [] (cellIn (screened z c)) h (afterFrom s (advance s z c) h) =
           onward s d n h (screened z c) (advance s z c) (above-next n z c b (p .0) (p .1)) (next s z c (b .onGrid) (w .0)) (f .1) m in
-          let r' = subst (λ (v : Cell). Rest s n (z .count + 1) c [] v h (afterFrom s (advance s z c) h .best)) (above-cell z c (b .notUnder)) r in
-          subst (λ (v : Search). Rest s (suc n) (v .count) (v .latest) [] (cellIn v) (c ∷ h) (afterFrom s (advance s z c) h .best)) q (rest-on s n (z .count) (z .latest) c [] (cellIn z) h (afterFrom s (advance s z c) h .best) (w .1) (inl (b .notUnder)) r')
+          let r' = subst (λ (v : Cell). Rest s n (z .count + 1) c [] v h (afterFrom s (advance s z c) h)) (above-cell z c (b .notUnder)) r in
+          subst (λ (v : Search). Rest s (suc n) (v .count) (v .latest) [] (cellIn v) (c ∷ h) (afterFrom s (advance s z c) h)) q
+          (rest-on s n (z .count) (z .latest) c (cellIn z) h (afterFrom s (advance s z c) h) (w .1) (inr (p .1)) [] (inl (b .notUnder)) r')
       | inr p ↦
           let bad : Bad (screened z c) = bad-falls z c (b .isAbove) (p .1) in
           let g : advance s z c ≡ screened z c = next s z c (b .onGrid) (w .0) ∙ stays-bad s (screened z c) bad in
@@ -402,24 +420,24 @@ onward s d (suc n) (c ∷ h) y z a e f m =
     ]
 
 -- until the cell is met
-pub climbing : (s : Settings) (d : Domain s) (n : ℕ) (h : List Conditional) (x : Search) → Below s n x → FollowsFrom s x h → T (isMode (request s (afterFrom s x h)))
-    → (k : Cell) × Rest s n (x .count) (x .latest) (k ∷ []) k h (afterFrom s x h .best)
+pub climbing : (s : Settings) (d : Domain s) (n : ℕ) (h : List Conditional) (x : Search) → Below s n x → FollowsFrom s x h → T (isEnd (request s (afterFrom s x h)))
+    → (k : Cell) × Rest s n (x .count) (x .latest) (k ∷ []) k h (afterFrom s x h)
 unfolding Answered ledFrom screened
 climbing s d zero h x b f m = let k = b .number in absurd (stuck s h x (b .onGrid) (omega arith) f m)
 climbing s d (suc n) [] x b f m = absurd (grid-no-mode s x (b .onGrid) m)
 climbing s d (suc n) (c ∷ h) x b f m =
     let w = grid-asked s x c (b .onGrid) (f .0) in
     let y = advance s x c in
-    let best = afterFrom s y h .best in
+    let z = afterFrom s y h in
     elim (side c (f .0 .scoreNumber)) [
       | inl p ↦
-          let r : Rest s n (x .count + 1) c [] (cellIn (screened x c)) h best =
+          let r : Rest s n (x .count + 1) c [] (cellIn (screened x c)) h z =
           onward s d n h (screened x c) y (above-first s d n x c b (w .1) (f .0 .scoreNumber) (p .0) (p .1)) (next s x c (b .onGrid) (w .0)) (f .1) m in
-          let r' = subst (λ (v : Cell). Rest s n (x .count + 1) c [] v h best) (met-cell x c (b .isUnder) (p .0)) r in
-          (record { left = x .latest; right = c }, rest-met s n (x .count) (x .latest) c h best (w .1) (b .isUnder) (p .0) r')
+          let r' = subst (λ (v : Cell). Rest s n (x .count + 1) c [] v h z) (met-cell x c (b .isUnder) (p .0)) r in
+          (cell (x .latest) c, rest-met s n (x .count) (x .latest) c (cell (x .latest) c) h z (w .1) (inl (b .notAbove)) (b .isUnder) (p .0) r')
       | inr p ↦
           let g : y ≡ screened x c = next s x c (b .onGrid) (w .0) ∙ stays-under s (screened x c) (p .1) in
           let r = climbing s d n h y (subst (λ (v : Search). Below s n v) (sym g) (below-next s n x c b (w .1) (f .0 .scoreNumber) (p .0) (p .1))) (f .1) m in
-          let r' : Rest s n (x .count + 1) c (r .0 ∷ []) (r .0) h best = subst (λ (v : Search). Rest s n (v .count) (v .latest) (r .0 ∷ []) (r .0) h best) g (r .1) in
-          (r .0, rest-on s n (x .count) (x .latest) c (r .0 ∷ []) (r .0) h best (w .1) (inr (p .0)) r')
+          let r' : Rest s n (x .count + 1) c (r .0 ∷ []) (r .0) h z = subst (λ (v : Search). Rest s n (v .count) (v .latest) (r .0 ∷ []) (r .0) h z) g (r .1) in
+          (r .0, rest-on s n (x .count) (x .latest) c (r .0) h z (w .1) (inl (b .notAbove)) (r .0 ∷ []) (inr (p .0)) r')
     ]

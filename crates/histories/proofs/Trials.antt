@@ -2,10 +2,10 @@
 use mathlib.Core.Path.{_≡_, refl, sym, ap, subst}
 use mathlib.Core.Logic.{_⊎_, inl, inr}
 use mathlib.Core.Bool.{Bool, true, false, not, true≢false}
-use mathlib.Core.List.{List, [], _∷_, List·Memᴰ, List·Memᴰ·head, List·Memᴰ·tail}
+use mathlib.Core.List.{List, [], _∷_, List·Memᴰ, List·Memᴰ·head, List·Memᴰ·tail, List·Memᴰ·cases-cons, List·Memᴰ·not-nil}
 use Prim.Native.Nat.{ℕ, _+_, _*_, _≤_}
 use native.Mathlib.Omega.{arith}
-use lib.Dec.{T, T-not, ltb, lit<}
+use lib.Dec.{T, T-not, ltb, eqb, lit<}
 use lib.Ieee.{Float, nan, binary64, lt, le, sub, isNan, fits, mul, div, ofBits}
 use lib.Ieee.Fits.{add-fits, sub-fits, mul-fits}
 use lib.Ieee.Scale.{finite}
@@ -25,14 +25,21 @@ use Rattle.mode.specs.declared.population_focei.Request.{Request}
 use Rattle.mode.specs.declared.population_focei.Request.the-variants.{Point, Mode, Refused}
 use Rattle.mode.specs.Rules.{nought, requestAt, request, advanceAt, advance, tried, secantPoint, midpoint, settled, isAbove, isUnder, isCloser}
 use Rattle.histories.specs.Histories.{ledFrom, Answered}
-use Rattle.histories.specs.History.{Domain, Answers, FollowsFrom, afterFrom, Cell, narrowed, bracketFrom}
-use Rattle.histories.specs.Claim.{InBracket}
+use Rattle.histories.specs.Terms.{Cell, narrowed, bracketFrom, InBracket}
+use Rattle.histories.specs.History.{Domain, Answers, FollowsFrom, afterFrom}
+use Rattle.histories.proofs.Words.{cellIn, narrowed-is}
 
 -- ---- requests apart
 abbrev pub isMode : Request → Bool
 isMode (Point p) = false
 isMode Mode = true
 isMode (Refused n) = false
+
+-- a mode, or 15: what is told past the grid
+abbrev pub isEnd : Request → Bool
+isEnd (Point p) = false
+isEnd Mode = true
+isEnd (Refused n) = eqb n 15
 
 abbrev pub isPoint : Request → Bool
 isPoint (Point p) = true
@@ -44,8 +51,11 @@ pointOf (Point p) = p
 pointOf Mode = nan
 pointOf (Refused n) = nan
 
-pub mode-true : (q : Request) → q ≡ Mode → T (isMode q)
-mode-true q e = subst (λ (z : Request). T (isMode z)) (sym e) tt
+pub mode-end : (q : Request) → q ≡ Mode → T (isEnd q)
+mode-end q e = subst (λ (z : Request). T (isEnd z)) (sym e) tt
+
+pub unsettled-end : (q : Request) → q ≡ Refused 15 → T (isEnd q)
+unsettled-end q e = subst (λ (z : Request). T (isEnd z)) (sym e) tt
 
 pub point-true : (q : Request) (p : Float) → q ≡ Point p → T (isPoint q)
 point-true q p e = subst (λ (z : Request). T (isPoint z)) (sym e) tt
@@ -242,22 +252,24 @@ unfolding pick
 point-left true p e n h = (refl, ap pointOf h)
 point-left false p e n h = absurd (point-true (Refused n) e h)
 
-mode-pick : (t : Bool) (q : Request) → T (not (isMode q)) → T (isMode (pick t Mode q)) → T t
+-- at the end the best is settled where a mode is told
+end-secant : (t : Bool) (p : Float) → T (isEnd (pick t Mode (Point p))) → t ≡ isMode (pick t Mode (Point p))
 unfolding pick
-mode-pick true q n h = tt
-mode-pick false q n h = absurd (T-not (isMode q) n h)
+end-secant true p h = refl
+end-secant false p h = absurd h
 
-not-mode : (t : Bool) (p : Float) (n : ℕ) → T (not (isMode (pick t (Point p) (Refused n))))
+end-halving : (t u : Bool) (p : Float) → T (isEnd (pick t Mode (pick u (Point p) (Refused 15)))) → t ≡ isMode (pick t Mode (pick u (Point p) (Refused 15)))
 unfolding pick
-not-mode true p n = tt
-not-mode false p n = tt
+end-halving true u p h = refl
+end-halving false true p h = absurd h
+end-halving false false p h = refl
 
-mode-settled : (st : Stage) → T (later st) → (s : Settings) (x : Search) → T (isMode (requestAt st s x)) → T (settled s (x .best) (x .left) (x .right))
+end-settled : (st : Stage) → T (later st) → (s : Settings) (x : Search) → T (isEnd (requestAt st s x)) → settled s (x .best) (x .left) (x .right) ≡ isMode (requestAt st s x)
 unfolding requestAt
-mode-settled Grid p s x h = absurd p
-mode-settled Warm p s x h = absurd p
-mode-settled Secant p s x h = mode-pick (settled s (x .best) (x .left) (x .right)) (Point (secantPoint (x .left) (x .right))) tt h
-mode-settled Halving p s x h = mode-pick (settled s (x .best) (x .left) (x .right)) (pick (ltb (x .count) 48) (Point (midpoint (x .left) (x .right))) (Refused 15)) (not-mode (ltb (x .count) 48) (midpoint (x .left) (x .right)) 15) h
+end-settled Grid p s x h = absurd p
+end-settled Warm p s x h = absurd p
+end-settled Secant p s x h = end-secant (settled s (x .best) (x .left) (x .right)) (secantPoint (x .left) (x .right)) h
+end-settled Halving p s x h = end-halving (settled s (x .best) (x .left) (x .right)) (ltb (x .count) 48) (midpoint (x .left) (x .right)) h
 
 asked-inside : (st : Stage) → T (later st) → (s : Settings) (d : Domain s) (a z : Float) (x : Search) (c : Conditional) → Good a z (x .left) (x .right) (x .best) → Answers (requestAt st s x) c → Inside (x .left) (x .right) c
 unfolding requestAt
@@ -295,23 +307,24 @@ tried-at Halving p s x c w =
     go true e = record { stage = Halving; count = x .count + 1; isLater = tt; same = unfold pick in refl }
     go false e = absurd (true≢false (sym e))
 
--- ---- the trials to the end
-pub record Ends (s : Settings) (a z : Float) (k : Cell) (b : Conditional) (h : List Conditional) (m : Conditional) : Type 0 where
-  pub inLeft : T (le a (m .eta))
-  pub inRight : T (le (m .eta) z)
-  pub isSettled : T (settled s m (bracketFrom k h .left) (bracketFrom k h .right))
-  pub bestLeft : T (le (abs (m .score)) (abs (bracketFrom k h .left .score)))
-  pub bestRight : T (le (abs (m .score)) (abs (bracketFrom k h .right .score)))
+-- ---- the trials to the end: from a bracket k with its best point b, over the points h, to the search e
+pub record Ends (s : Settings) (a z : Float) (k : Cell) (b : Conditional) (h : List Conditional) (e : Search) : Type 0 where
+  pub inLeft : T (le a (e .best .eta))
+  pub inRight : T (le (e .best .eta) z)
+  pub below : T (le (abs (e .best .score)) (abs (b .score)))
+  pub leastLeft : T (le (abs (e .best .score)) (abs (k .left .score)))
+  pub leastRight : T (le (abs (e .best .score)) (abs (k .right .score)))
+  pub least : (c : Conditional) → List·Memᴰ c h → T (le (abs (e .best .score)) (abs (c .score)))
+  pub isSettled : settled s (e .best) (bracketFrom k h .left) (bracketFrom k h .right) ≡ isMode (request s e)
+  pub bestLeft : T (le (abs (e .best .score)) (abs (bracketFrom k h .left .score)))
+  pub bestRight : T (le (abs (e .best .score)) (abs (bracketFrom k h .right .score)))
   pub bracketLow : T (le a (bracketFrom k h .left .eta))
   pub bracketOrder : T (le (bracketFrom k h .left .eta) (bracketFrom k h .right .eta))
   pub bracketHigh : T (le (bracketFrom k h .right .eta) z)
   pub leftUnder : T (isUnder (bracketFrom k h .left))
   pub rightAbove : T (isAbove (bracketFrom k h .right))
-  pub source : (m ≡ b) ⊎ List·Memᴰ m h
+  pub source : (e .best ≡ b) ⊎ List·Memᴰ (e .best) h
   pub inBracket : InBracket k h
-
-abbrev pub cellIn : Search → Cell
-cellIn x = record { left = x .left; right = x .right }
 
 source-step : (t : Bool) (c b m : Conditional) (h : List Conditional) → (m ≡ pick t c b) ⊎ List·Memᴰ m h → (m ≡ b) ⊎ List·Memᴰ m (c ∷ h)
 unfolding pick
@@ -319,18 +332,62 @@ source-step t c b m h (inr k) = inr (List·Memᴰ·tail k)
 source-step true c b m h (inl e) = inr (List·Memᴰ·head e)
 source-step false c b m h (inl e) = inl e
 
-pub ends-step : (s : Settings) (a z : Float) (k : Cell) (b c : Conditional) (h : List Conditional) (m : Conditional) → Inside (k .left) (k .right) c → Ends s a z (narrowed k c) (pick (isCloser c b) c b) h m → Ends s a z k b (c ∷ h) m
+-- one point earlier: c was tried
+pub ends-step : (s : Settings) (a z : Float) (stage : Stage) (count : ℕ) (x : Search) (c : Conditional) (h : List Conditional) (e : Search)
+    → Good a z (x .left) (x .right) (x .best) → Inside (x .left) (x .right) c → Ends s a z (cellIn (tried stage count x c)) (tried stage count x c .best) h e → Ends s a z (cellIn x) (x .best) (c ∷ h) e
 unfolding bracketFrom InBracket
-ends-step s a z k b c h m i w = record { inBracket = (i .aboveL, i .belowR, w .inBracket); inLeft = w .inLeft; inRight = w .inRight; isSettled = w .isSettled; bestLeft = w .bestLeft; bestRight = w .bestRight; bracketLow = w .bracketLow; bracketOrder = w .bracketOrder; bracketHigh = w .bracketHigh; leftUnder = w .leftUnder; rightAbove = w .rightAbove; source = source-step (isCloser c b) c b m h (w .source) }
+ends-step s a z stage count x c h e g i w =
+    let b = pick (isCloser c (x .best)) c (x .best) in
+    let v : Ends s a z (narrowed (cellIn x) c) b h e = subst (λ (k : Cell). Ends s a z k b h e) (narrowed-is stage count x c) (unfold tried in w) in
+    let m = abs (e .best .score) in
+    let below : T (le m (abs (x .best .score))) = le-trans m (abs (b .score)) (abs (x .best .score)) (v .below) (better-l (x .best) c (g .numB)) in
+    record {
+      below = below;
+      leastLeft = le-trans m (abs (x .best .score)) (abs (x .left .score)) below (g .bestL);
+      leastRight = le-trans m (abs (x .best .score)) (abs (x .right .score)) below (g .bestR);
+      least = λ d p. elim (List·Memᴰ·cases-cons p) [
+        | inl q ↦ subst (λ (y : Conditional). T (le m (abs (y .score)))) (sym q) (le-trans m (abs (b .score)) (abs (c .score)) (v .below) (better-r (x .best) c (g .numB) (i .numC)))
+        | inr q ↦ v .least d q
+      ];
+      inBracket = (i .aboveL, i .belowR, v .inBracket);
+      inLeft = v .inLeft;
+      inRight = v .inRight;
+      isSettled = v .isSettled;
+      bestLeft = v .bestLeft;
+      bestRight = v .bestRight;
+      bracketLow = v .bracketLow;
+      bracketOrder = v .bracketOrder;
+      bracketHigh = v .bracketHigh;
+      leftUnder = v .leftUnder;
+      rightAbove = v .rightAbove;
+      source = source-step (isCloser c (x .best)) c (x .best) (e .best) h (v .source);
+    }
 
-pub trials : (s : Settings) (d : Domain s) (a z : Float) (h : List Conditional) (x : Search) → T (later (x .stage)) → Good a z (x .left) (x .right) (x .best) → FollowsFrom s x h → T (isMode (request s (afterFrom s x h)))
-    → Ends s a z (cellIn x) (x .best) h (afterFrom s x h .best)
-unfolding Answered ledFrom bracketFrom tried narrowed InBracket
-trials s d a z [] x p g f m = record { inBracket = tt; inLeft = g .inL; inRight = g .inR; isSettled = mode-settled (x .stage) p s x m; bestLeft = g .bestL; bestRight = g .bestR; bracketLow = g .cellL; bracketOrder = g .order; bracketHigh = g .cellR; leftUnder = g .signL; rightAbove = g .signR; source = inl refl }
+pub trials : (s : Settings) (d : Domain s) (a z : Float) (h : List Conditional) (x : Search) → T (later (x .stage)) → Good a z (x .left) (x .right) (x .best) → FollowsFrom s x h → T (isEnd (request s (afterFrom s x h)))
+    → Ends s a z (cellIn x) (x .best) h (afterFrom s x h)
+unfolding Answered ledFrom bracketFrom tried InBracket
+trials s d a z [] x p g f m = record {
+  below = le-refl-num (abs (x .best .score)) (abs-num (x .best .score) (g .numB));
+  leastLeft = g .bestL;
+  leastRight = g .bestR;
+  least = λ d p. absurd (List·Memᴰ·not-nil p);
+  inBracket = tt;
+  inLeft = g .inL;
+  inRight = g .inR;
+  isSettled = end-settled (x .stage) p s x m;
+  bestLeft = g .bestL;
+  bestRight = g .bestR;
+  bracketLow = g .cellL;
+  bracketOrder = g .order;
+  bracketHigh = g .cellR;
+  leftUnder = g .signL;
+  rightAbove = g .signR;
+  source = inl refl;
+}
 trials s d a z (c ∷ h) x p g f m =
     let y = advance s x c in
     let t = tried-at (x .stage) p s x c (f .0) in
     let i = asked-inside (x .stage) p s d a z x c g (f .0) in
     let g' : Good a z (y .left) (y .right) (y .best) = subst (λ (v : Search). Good a z (v .left) (v .right) (v .best)) (sym (t .same)) (keep a z (x .left) (x .right) (x .best) c g i) in
-    let e : Ends s a z (cellIn y) (y .best) h (afterFrom s y h .best) = trials s d a z h y (subst (λ (v : Search). T (later (v .stage))) (sym (t .same)) (t .isLater)) g' (f .1) m in
-    ends-step s a z (cellIn x) (x .best) c h (afterFrom s y h .best) i (subst (λ (v : Search). Ends s a z (cellIn v) (v .best) h (afterFrom s y h .best)) (t .same) e)
+    let e : Ends s a z (cellIn y) (y .best) h (afterFrom s y h) = trials s d a z h y (subst (λ (v : Search). T (later (v .stage))) (sym (t .same)) (t .isLater)) g' (f .1) m in
+    ends-step s a z (t .stage) (t .count) x c h (afterFrom s y h) g i (subst (λ (v : Search). Ends s a z (cellIn v) (v .best) h (afterFrom s y h)) (t .same) e)

@@ -2,18 +2,18 @@
 use mathlib.Core.Path.{_≡_}
 use mathlib.Core.Logic.{_⊎_}
 use mathlib.Core.List.{List, [], _∷_, List·Memᴰ}
-use Prim.Native.Nat.{_+_, _≤_}
+use Prim.Native.Nat.{ℕ, _+_, _≤_}
 use lib.ListN.{take, drop, length}
 use lib.Dec.{T}
-use mathlib.Core.Bool.{Bool, true, false, not}
-use Rattle.float64.specs.Pick.{pick}
-use lib.Ieee.{Float, le}
+use lib.Ieee.{lt, le}
+use Rattle.float64.specs.Arithmetic.{word}
 use Rattle.float64.specs.Float64.{abs}
 use Rattle.mode.specs.declared.population_focei.Settings.{Settings}
 use Rattle.mode.specs.declared.population_focei.Conditional.{Conditional}
 use Rattle.mode.specs.declared.population_focei.Request.the-variants.{Mode, Refused}
-use Rattle.mode.specs.Rules.{request, settled, isAbove, isUnder, nought, nowhere}
-use Rattle.histories.specs.History.{Domain, Follows, after, asks, etas, gridFrom, Cell, upward, narrowed, bracketFrom}
+use Rattle.mode.specs.Rules.{request}
+use Rattle.histories.specs.Terms.{etas, gridPoints, scoreAt, Cell, upward, falls, bracketFrom, InBracket, Settled, warmTrials}
+use Rattle.histories.specs.History.{Domain, Follows, after, asks}
 
 abbrev pub grid : List Conditional → List Conditional
 grid h = take 17 h
@@ -21,68 +21,69 @@ grid h = take 17 h
 abbrev pub trials : List Conditional → List Conditional
 trials h = drop 17 h
 
--- the points tried lie in the bracket at their time
-unfoldable pub InBracket : Cell → List Conditional → Type 0
-InBracket k [] = Unit
-InBracket k (c ∷ h) = T (le (k .left .eta) (c .eta)) × T (le (c .eta) (k .right .eta)) × InBracket (narrowed k c) h
+abbrev pub finalBracket : Cell → List Conditional → Cell
+finalBracket cell h = bracketFrom cell (trials h)
 
--- the mode m of a history h
-pub record Found (s : Settings) (h : List Conditional) (m : Conditional) : Type 0 where
-  pub cell : Cell
-  -- the first 17 points are the grid
-  pub isGrid : etas (grid h) ≡ gridFrom (s .«eta_bound») 17 0
-  -- it has a single upward cell
-  pub single : upward (grid h) ≡ cell ∷ []
-  -- the mode is one of the points tried, and lies in the cell, ends included
+-- the points g are the grid, have passed 13 and 14, and their single upward cell is `cell`
+pub record Screened (s : Settings) (g : List Conditional) (cell : Cell) : Type 0 where
+  pub isGrid : etas g ≡ gridPoints s
+  pub firstBelow : T (lt (scoreAt g 0) (word 0))
+  pub lastAbove : T (lt (word 0) (scoreAt g 16))
+  pub noFall : falls g ≡ []
+  pub single : upward g ≡ cell ∷ []
+
+-- m is the best point of a history h whose trials began in the cell
+pub record Best (cell : Cell) (h : List Conditional) (m : Conditional) : Type 0 where
+  -- it is one of the points tried, and lies in the cell, ends included
   pub member : List·Memᴰ m h
   pub inLeft : T (le (cell .left .eta) (m .eta))
   pub inRight : T (le (m .eta) (cell .right .eta))
-  -- it is settled, by the final bracket or by its own score and information
-  pub isSettled : T (settled s m (bracketFrom cell (trials h) .left) (bracketFrom cell (trials h) .right))
-  -- its absolute score is at most that at either end of the final bracket
-  pub bestLeft : T (le (abs (m .score)) (abs (bracketFrom cell (trials h) .left .score)))
-  pub bestRight : T (le (abs (m .score)) (abs (bracketFrom cell (trials h) .right .score)))
+  -- its absolute score is at most that at each end of the cell, and at every point tried after the grid
+  pub leastLeft : T (le (abs (m .score)) (abs (cell .left .score)))
+  pub leastRight : T (le (abs (m .score)) (abs (cell .right .score)))
+  pub least : (c : Conditional) → List·Memᴰ c (trials h) → T (le (abs (m .score)) (abs (c .score)))
+  -- and so at either end of the final bracket
+  pub bestLeft : T (le (abs (m .score)) (abs (finalBracket cell h .left .score)))
+  pub bestRight : T (le (abs (m .score)) (abs (finalBracket cell h .right .score)))
   -- the final bracket lies in the cell, and the score rises through 0 in it
-  pub bracketLow : T (le (cell .left .eta) (bracketFrom cell (trials h) .left .eta))
-  pub bracketOrder : T (le (bracketFrom cell (trials h) .left .eta) (bracketFrom cell (trials h) .right .eta))
-  pub bracketHigh : T (le (bracketFrom cell (trials h) .right .eta) (cell .right .eta))
-  pub leftUnder : T (isUnder (bracketFrom cell (trials h) .left))
-  pub rightAbove : T (isAbove (bracketFrom cell (trials h) .right))
+  pub bracketLow : T (le (cell .left .eta) (finalBracket cell h .left .eta))
+  pub bracketOrder : T (le (finalBracket cell h .left .eta) (finalBracket cell h .right .eta))
+  pub bracketHigh : T (le (finalBracket cell h .right .eta) (cell .right .eta))
+  pub leftUnder : T (le (finalBracket cell h .left .score) (word 0))
+  pub rightAbove : T (lt (word 0) (finalBracket cell h .right .score))
   -- every point after the grid lies in the bracket at its time
   pub inBracket : InBracket cell (trials h)
 
+-- the mode m of a history h: the first 17 points are a grid with a single upward cell, and the best point is settled, by the final
+-- bracket or by its own score and information
+pub record Found (s : Settings) (h : List Conditional) (m : Conditional) : Type 0 where
+  pub cell : Cell
+  pub screened : Screened s (grid h) cell
+  pub best : Best cell h m
+  pub isSettled : Settled s (finalBracket cell h) m
+
 -- ---- refused
-unfoldable pub firstOf : List Conditional → Float
-firstOf [] = nought
-firstOf (a ∷ t) = a .score
-
-unfoldable pub lastFrom : Conditional → List Conditional → Conditional
-lastFrom a [] = a
-lastFrom a (b ∷ t) = lastFrom b t
-
-abbrev pub lastOf : List Conditional → Conditional
-lastOf h = lastFrom nowhere h
-
--- between two neighbours the score falls from above 0 to 0 or below
-unfoldable pub fallsFrom : Conditional → List Conditional → Bool
-fallsFrom a [] = false
-fallsFrom a (b ∷ t) = pick (isAbove a) (pick (isUnder b) true (fallsFrom b t)) (fallsFrom b t)
-
--- nothing falls at the first point: the score nowhere is 0
-abbrev pub falls : List Conditional → Bool
-falls h = fallsFrom nowhere h
-
 -- 13: all 17 grid points were asked, and nothing more; the first score is 0 or above, or the last is 0 or below
 pub record AtBound (s : Settings) (h : List Conditional) : Type 0 where
-  pub isGrid : etas h ≡ gridFrom (s .«eta_bound») 17 0
-  pub ends : T (le nought (firstOf h)) ⊎ T (isUnder (lastOf h))
+  pub isGrid : etas h ≡ gridPoints s
+  pub ends : T (le (word 0) (scoreAt h 0)) ⊎ T (le (scoreAt h 16) (word 0))
 
 -- 14: all 17 grid points were asked, and nothing more; the ends are good, and the score falls between them
 pub record Several (s : Settings) (h : List Conditional) : Type 0 where
-  pub isGrid : etas h ≡ gridFrom (s .«eta_bound») 17 0
-  pub firstBelow : T (not (le nought (firstOf h)))
-  pub lastAbove : T (not (isUnder (lastOf h)))
-  pub fall : T (falls h)
+  pub isGrid : etas h ≡ gridPoints s
+  pub firstBelow : T (lt (scoreAt h 0) (word 0))
+  pub lastAbove : T (lt (word 0) (scoreAt h 16))
+  pub fall : Cell
+  pub isFall : List·Memᴰ fall (falls h)
+
+-- 15: after the grid the warm start, if strictly inside the cell, 16 secant steps and 48 halvings were tried, and the best point m is
+-- not settled
+pub record Unsettled (s : Settings) (h : List Conditional) (m : Conditional) : Type 0 where
+  pub cell : Cell
+  pub screened : Screened s (grid h) cell
+  pub best : Best cell h m
+  pub allTried : length (trials h) ≡ warmTrials s cell + 16 + 48
+  pub notSettled : Settled s (finalBracket cell h) m → ⊥
 
 -- what holds of every history h that follows the rules
 pub record Searched (s : Settings) (h : List Conditional) : Type 0 where
@@ -91,6 +92,9 @@ pub record Searched (s : Settings) (h : List Conditional) : Type 0 where
   pub found : request s (after s h) ≡ Mode → Found s h (after s h .best)
   pub atBound : request s (after s h) ≡ Refused 13 → AtBound s h
   pub several : request s (after s h) ≡ Refused 14 → Several s h
+  pub unsettled : request s (after s h) ≡ Refused 15 → Unsettled s h (after s h .best)
+  -- there is no other number
+  pub numbers : (n : ℕ) → request s (after s h) ≡ Refused n → (n ≡ 13) ⊎ ((n ≡ 14) ⊎ (n ≡ 15))
 
 abbrev pub OneSearch : Type 0
 OneSearch = (s : Settings) → Domain s → (h : List Conditional) → Follows s h → Searched s h

@@ -1,5 +1,5 @@
--- A history is the list of the evaluated points that a search was given, in their order. Here it is of any rules: `request` says what a search asks, `advance` what an
--- evaluated point makes of it, and `Answers` which points answer what was asked.
+-- A history is the list of the evaluated points that a search was given, in their order. Here it is of any rules: `request` says what
+-- a search asks, `advance` what an evaluated point makes of it, and `Answers` which points answer what was asked.
 use mathlib.Core.List.{List, [], _∷_}
 
 -- the search that a history leads to, from the search x

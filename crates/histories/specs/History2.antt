@@ -1,15 +1,15 @@
--- Histories of the two-effect search, and what is read from one.
+-- Histories of the two-effect search: the settings of document 01's domain, the histories of its rules, and which points of one are
+-- starts and candidates.
 use mathlib.Core.Path.{_≡_}
 use mathlib.Core.Bool.{Bool, true, false}
 use mathlib.Core.List.{List, [], _∷_}
-use Prim.Native.Nat.{ℕ, zero, suc, _+_}
+use Prim.Native.Nat.{ℕ}
 use lib.Dec.{T, ltb}
 use lib.Ieee.{Float, neg, le, eq}
 use lib.Ieee.Scale.{finite}
 use Rattle.float64.specs.Arithmetic.{word}
 use Rattle.float64.specs.Pick.{pick}
-use Rattle.matrix.specs.Matrix.{entry, some, inversePositive}
-use Rattle.matrix.specs.declared.Pair.{Pair}
+use Rattle.matrix.specs.Matrix.{pair, entry, some, inversePositive}
 use Rattle.mode_2d.specs.declared.population_focei_2d.Settings2.{Settings2}
 use Rattle.mode_2d.specs.declared.population_focei_2d.Conditional2.{Conditional2}
 use Rattle.mode_2d.specs.declared.population_focei_2d.Stage2.{Stage2}
@@ -17,7 +17,7 @@ use Rattle.mode_2d.specs.declared.population_focei_2d.Stage2.the-variants.{Zero
 use Rattle.mode_2d.specs.declared.population_focei_2d.Search2.{Search2}
 use Rattle.mode_2d.specs.declared.population_focei_2d.Request2.{Request2}
 use Rattle.mode_2d.specs.declared.population_focei_2d.Request2.the-variants.{Point, Mode, Refused}
-use Rattle.mode_2d.specs.Rules.{request, advance, start, precision, startPoint}
+use Rattle.mode_2d.specs.Rules.{request, advance, start}
 use Rattle.histories.specs.Histories.{ledFrom, Answered}
 
 -- from -bound to bound
@@ -25,8 +25,8 @@ pub record Within (bound x : Float) : Type 0 where
   pub low : T (le (neg bound) x)
   pub high : T (le x bound)
 
--- document 01's domain: an omega with diagonal entries from 2^-20 to 2^20, symmetric, that has an inverse, which is the settings' precision. eta_bound and the warm
--- start may be any floats.
+-- document 01's domain: an omega with diagonal entries from 2^-20 to 2^20, symmetric, that has an inverse, which is the settings'
+-- precision. eta_bound and the warm start may be any floats.
 pub record Accepted (omega : List (List Float)) (s : Settings2) : Type 0 where
   pub low0 : T (le (word 0x3eb0_0000_0000_0000) (entry omega 0 0))
   pub high0 : T (le (entry omega 0 0) (word 0x4130_0000_0000_0000))
@@ -34,10 +34,11 @@ pub record Accepted (omega : List (List Float)) (s : Settings2) : Type 0 where
   pub high1 : T (le (entry omega 1 1) (word 0x4130_0000_0000_0000))
   pub symmetric : T (eq (entry omega 0 1) (entry omega 1 0))
   pub det : Float
-  pub inverse : inversePositive omega ≡ some (precision s) det
+  pub inverse : inversePositive omega ≡ some (pair (pair (s .p00) (s .p01)) (pair (s .p10) (s .p11))) det
 
 -- ---- a history of the rules
--- c is an evaluation of the point that was asked for. Beyond -16..16 a point gets 7 and is never evaluated, and no nll of a session is a NaN or an infinity.
+-- c is an evaluation of the point that was asked for. Beyond -16..16 a point gets 7 and is never evaluated, and no nll of a session is
+-- a NaN or an infinity.
 pub record Answers (q : Request2) (c : Conditional2) : Type 0 where
   pub asked : q ≡ Point (c .eta)
   pub within0 : Within (word 0x4030_0000_0000_0000) (c .eta .first)
@@ -64,16 +65,7 @@ asks (Point p) = 1
 asks Mode = 0
 asks (Refused n) = 0
 
--- ---- what is read from a history
-unfoldable pub etas : List Conditional2 → List Pair
-etas [] = []
-etas (c ∷ h) = c .eta ∷ etas h
-
--- n starts from the k-th on
-unfoldable pub startPointsFrom : Settings2 → ℕ → ℕ → List Pair
-startPointsFrom s zero k = []
-startPointsFrom s (suc n) k = startPoint s k ∷ startPointsFrom s n (k + 1)
-
+-- ---- what is read from a history, along the rules: which points are the starts, and where the rounds of each ended
 abbrev pub isStart : Stage2 → Bool
 isStart Zero = false
 isStart Start = true

@@ -2,12 +2,15 @@
 use mathlib.Core.Path.{_≡_, refl, sym, ap, _∙_}
 use mathlib.Core.Bool.{Bool, true, false}
 use mathlib.Core.List.{List}
-use Prim.Native.Nat.{ℕ, _≤_, _<_}
+use Prim.Native.Nat.{ℕ, _≤_, _<_, _^_}
+use native.Mathlib.Nat.{mod-eq-of-lt}
 use borrow.Author.Tests.{lt-ltb, le-ltb, eq-eqb, ne-eqb}
-use lib.Dec.{eqb}
+use lib.Dec.{T, eqb}
 use lib.ListN.{length, set}
-use lib.Ieee.{Float, binary64, toBits}
+use lib.Ieee.{Float, binary64, fits, toBits}
+use lib.Ieee.Bits.{ofBits-toBits}
 use Rattle.float64.specs.Answer.{Answer, given, refused}
+use Rattle.float64.specs.Arithmetic.{word}
 use Rattle.float64.specs.Pick.{pick, yes, no}
 use Rattle.matrix.specs.declared.Pair.{Pair}
 use Rattle.evaluation.specs.declared.AdditiveSd.{AdditiveSd}
@@ -32,7 +35,7 @@ use Rattle.session.specs.declared.State.{State}
 use Rattle.session_words.specs.SessionWords as W
 use Rattle.session_words.specs.declared.LoadedState.{LoadedState}
 use Rattle.session_words.specs.declared.LoadedState.the-variants.{Given, None}
-use Rattle.hosting.specs.Hosting.{additiveSd, setupOf, parametersOf, answerWords, placeWords, answerOf, answered, numberOf, isUnaltered, toldAs, told, noState, openedTo, opened, Out, outOf, out, did, unknown, withState, openWith, objectiveWith, failureWith, finishWith}
+use Rattle.hosting.specs.Hosting.{additiveSd, setupOf, parametersOf, setupFrom, setupBits, parametersFrom, parameterBits, answerWords, placeWords, answerOf, answered, numberOf, isUnaltered, toldAs, told, noState, openedTo, opened, Out, outOf, out, did, unknown, withState, openWith, objectiveWith, failureWith, finishWith}
 use Rattle.hosting.specs.declared.AnswerWords.{AnswerWords}
 use Rattle.hosting.specs.declared.Done.{Done}
 use Rattle.hosting.specs.declared.SessionParameters.{SessionParameters}
@@ -76,6 +79,48 @@ pub parameters-made : (p : SessionParameters) {a : AdditiveSd} → a ≡ additiv
     → record { theta = record { first = p .theta; second = p .«theta_2» }; omega = p .omega; «additive_sd» = a } ≡ parametersOf p
 unfolding parametersOf
 parameters-made p e = λ i. record { theta = record { first = p .theta; second = p .«theta_2» }; omega = p .omega; «additive_sd» = e i }
+
+-- ---- and as it stands in memory: every value of the code is a float of the format, and a u32 is below 2^32
+abbrev pub Fits : Float → Type 0
+Fits x = T (fits binary64 x)
+
+back : (x : Float) → Fits x → x ≡ word (toBits binary64 x)
+back x f = sym (ofBits-toBits binary64 x f)
+
+pub record FitsSetup (s : SessionSetup) : Type 0 where
+  pub o00 : Fits (s .«omega_00»)
+  pub o01 : Fits (s .«omega_01»)
+  pub o10 : Fits (s .«omega_10»)
+  pub o11 : Fits (s .«omega_11»)
+  pub bound : Fits (s .«eta_bound»)
+  pub tolerance : Fits (s .«gradient_tolerance»)
+  pub additive : Fits (s .additive)
+  pub most : s .«max_evaluations» < 2 ^ 32
+
+pub setup-handed : (s : SessionSetup) → FitsSetup s → setupOf s ≡ setupFrom (setupBits s)
+unfolding setupOf setupFrom setupBits
+setup-handed s f = λ i. record {
+  effects = s .effects;
+  omega00 = back (s .«omega_00») (f .o00) i;
+  omega01 = back (s .«omega_01») (f .o01) i;
+  omega10 = back (s .«omega_10») (f .o10) i;
+  omega11 = back (s .«omega_11») (f .o11) i;
+  «eta_bound» = back (s .«eta_bound») (f .bound) i;
+  «gradient_tolerance» = back (s .«gradient_tolerance») (f .tolerance) i;
+  width = s .width;
+  k = s .k;
+  «additive_sd» = additiveSd (s .«has_additive») (back (s .additive) (f .additive) i);
+  «output_budget» = s .«output_budget»;
+  «max_evaluations» = sym (mod-eq-of-lt (f .most)) i;
+}
+
+pub parameters-handed : (p : SessionParameters) → Fits (p .theta) → Fits (p .«theta_2») → Fits (p .omega) → Fits (p .additive) → parametersOf p ≡ parametersFrom (parameterBits p)
+unfolding parametersOf parametersFrom parameterBits
+parameters-handed p a b c d = λ i. record {
+  theta = record { first = back (p .theta) a i; second = back (p .«theta_2») b i };
+  omega = back (p .omega) c i;
+  «additive_sd» = additiveSd (p .«has_additive») (back (p .additive) d i);
+}
 
 -- ---- the words of an answer
 module _ (number : ℕ) {place : Place} where

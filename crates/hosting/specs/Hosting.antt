@@ -1,11 +1,12 @@
 -- A session's calls as a host makes them: the state and the answer as words, the tally and all that is lent beside them.
 use mathlib.Core.Bool.{Bool, true, false}
 use mathlib.Core.List.{List}
-use Prim.Native.Nat.{ℕ}
+use Prim.Native.Nat.{ℕ, _%_, _^_}
 use lib.Dec.{ltb, eqb}
 use lib.ListN.{length, set}
 use lib.Ieee.{Float, binary64, toBits}
 use Rattle.float64.specs.Answer.{Answer, given, refused}
+use Rattle.float64.specs.Arithmetic.{word}
 use Rattle.float64.specs.Pick.{pick}
 use Rattle.likelihood.specs.declared.population_focei.Observation.{Observation}
 use Rattle.evaluation.specs.declared.AdditiveSd.{AdditiveSd}
@@ -60,6 +61,80 @@ setupOf s = record {
 
 unfoldable pub parametersOf : SessionParameters → Parameters
 parametersOf p = record { theta = record { first = p .theta; second = p .«theta_2» }; omega = p .omega; «additive_sd» = additiveSd (p .«has_additive») (p .additive) }
+
+-- ---- the same as it stands in memory: for each float its 64 bits, for max_evaluations 32. `setup_of` and `parameters_of` promise that all
+-- that a host can hand over is of this form, so that nothing has to be asked of it.
+
+pub record SetupBits : Type 0 where
+  pub effects : ℕ
+  pub «omega_00» : ℕ
+  pub «omega_01» : ℕ
+  pub «omega_10» : ℕ
+  pub «omega_11» : ℕ
+  pub «eta_bound» : ℕ
+  pub «gradient_tolerance» : ℕ
+  pub width : ℕ
+  pub k : ℕ
+  pub «has_additive» : Bool
+  pub additive : ℕ
+  pub «output_budget» : ℕ
+  pub «max_evaluations» : ℕ
+
+unfoldable pub setupFrom : SetupBits → Setup
+setupFrom b = record {
+  effects = b .effects;
+  omega00 = word (b .«omega_00»);
+  omega01 = word (b .«omega_01»);
+  omega10 = word (b .«omega_10»);
+  omega11 = word (b .«omega_11»);
+  «eta_bound» = word (b .«eta_bound»);
+  «gradient_tolerance» = word (b .«gradient_tolerance»);
+  width = b .width;
+  k = b .k;
+  «additive_sd» = additiveSd (b .«has_additive») (word (b .additive));
+  «output_budget» = b .«output_budget»;
+  «max_evaluations» = b .«max_evaluations» % 2 ^ 32;
+}
+
+unfoldable pub setupBits : SessionSetup → SetupBits
+setupBits s = record {
+  effects = s .effects;
+  «omega_00» = toBits binary64 (s .«omega_00»);
+  «omega_01» = toBits binary64 (s .«omega_01»);
+  «omega_10» = toBits binary64 (s .«omega_10»);
+  «omega_11» = toBits binary64 (s .«omega_11»);
+  «eta_bound» = toBits binary64 (s .«eta_bound»);
+  «gradient_tolerance» = toBits binary64 (s .«gradient_tolerance»);
+  width = s .width;
+  k = s .k;
+  «has_additive» = s .«has_additive»;
+  additive = toBits binary64 (s .additive);
+  «output_budget» = s .«output_budget»;
+  «max_evaluations» = s .«max_evaluations»;
+}
+
+pub record ParameterBits : Type 0 where
+  pub theta : ℕ
+  pub «theta_2» : ℕ
+  pub omega : ℕ
+  pub «has_additive» : Bool
+  pub additive : ℕ
+
+unfoldable pub parametersFrom : ParameterBits → Parameters
+parametersFrom b = record {
+  theta = record { first = word (b .theta); second = word (b .«theta_2») };
+  omega = word (b .omega);
+  «additive_sd» = additiveSd (b .«has_additive») (word (b .additive));
+}
+
+unfoldable pub parameterBits : SessionParameters → ParameterBits
+parameterBits p = record {
+  theta = toBits binary64 (p .theta);
+  «theta_2» = toBits binary64 (p .«theta_2»);
+  omega = toBits binary64 (p .omega);
+  «has_additive» = p .«has_additive»;
+  additive = toBits binary64 (p .additive);
+}
 
 -- ---- what a host gets
 

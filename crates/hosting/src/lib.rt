@@ -9,7 +9,7 @@
 // and 2 for an observation, the subject and the observation.
 ghost use mathlib.Core.Path.{_≡_};
 ghost use Rattle.subjects.specs.declared.Place.the-variants.{Nowhere};
-ghost use Rattle.hosting.specs.Hosting.{additiveSd, setupOf, parametersOf, placeWords, answerOf, answered, numberOf, isUnaltered, toldAs, told, noState, opened};
+ghost use Rattle.hosting.specs.Hosting.{additiveSd, setupOf, parametersOf, setupFrom, setupBits, parametersFrom, parameterBits, placeWords, answerOf, answered, numberOf, isUnaltered, toldAs, told, noState, opened};
 use admission::Parameters;
 use admission::Setup;
 use evaluation::AdditiveSd;
@@ -75,9 +75,9 @@ fn additive_sd(has_additive: bool, additive: f64) -> AdditiveSd
     AdditiveSd::Own
 }
 
-// The setup as the session has it.
+// The setup as the session has it: whatever it is, it is the one that its bits stand for.
 pub fn setup_of(setup: SessionSetup) -> Setup
-    ensures { λ r. ⌜ r ≡ setupOf setup ⌝ }
+    ensures { λ r. ⌜ (r ≡ setupOf setup) × (setupOf setup ≡ setupFrom (setupBits setup)) ⌝ }
 {
     let additive_sd = additive_sd(setup.has_additive, setup.additive);
     Setup {
@@ -96,9 +96,9 @@ pub fn setup_of(setup: SessionSetup) -> Setup
     }
 }
 
-// The parameters as the session has them.
+// The parameters as the session has them, and as their bits stand for.
 pub fn parameters_of(parameters: SessionParameters) -> Parameters
-    ensures { λ r. ⌜ r ≡ parametersOf parameters ⌝ }
+    ensures { λ r. ⌜ (r ≡ parametersOf parameters) × (parametersOf parameters ≡ parametersFrom (parameterBits parameters)) ⌝ }
 {
     let additive_sd = additive_sd(parameters.has_additive, parameters.additive);
     Parameters {

@@ -1,5 +1,5 @@
--- Names for the definitions that a run of the program computes with: who unfolds `everything` unfolds them all. Those that only two effects, a hit or a secant step come to are not
--- among them. Assumes nothing.
+-- Names for the definitions that a run computes with: who unfolds `everything` unfolds those of a run of the program, who unfolds `worked` those of a worked session with two effects.
+-- Those that only a secant step comes to are not among them. Assumes nothing.
 use lib.Ieee as Ieee
 use Rattle.float64.specs.Pick as Pick
 use Rattle.float64.specs.Float64 as Float64
@@ -8,8 +8,13 @@ use Rattle.libm.specs.Log as Log
 use Rattle.libm.specs.Exp as Exp
 use Rattle.matrix.specs.Matrix as Matrix
 use Rattle.likelihood.specs.RowTerms as RowTerms
+use Rattle.likelihood_2d.specs.Row2 as Row2
 use Rattle.mode.specs.Rules as Rules
+use Rattle.mode_2d.specs.Rules as Rules2
+use Rattle.search_words.specs.SearchWords as SearchWords
+use Rattle.search_words_2d.specs.SearchWords2 as SearchWords2
 use Rattle.cache.specs.Cache as Cache
+use Rattle.cache.specs.Kept as Entries
 use Rattle.population.specs.Kept as Kept
 use Rattle.work.specs.Work as Work
 use Rattle.evaluation.specs.Reply as Reply
@@ -21,12 +26,15 @@ use Rattle.sessions.specs.Machine as Machine
 use Rattle.population.specs.Population as Population
 use Rattle.session.specs.Session as Session
 use Rattle.session.specs.Calls as Calls
+use Rattle.session_words.specs.SessionWords as SessionWords
+use Rattle.hosting.specs.Hosting as Hosting
 use Rattle.recorded.specs.Recorded as Recorded
 use Rattle.writing.specs.Writing as Writing
 use Rattle.records.specs.Records as Records
 use Rattle.report.specs.Report as Report
 use Rattle.fitting.specs.Output as Output
 use Rattle.marked.specs.Examples as Examples
+use Rattle.marked.specs.Session2 as Session2
 
 pub data Computed : Type 0 where
   computed : Computed
@@ -64,3 +72,22 @@ programs = computed
 unfoldable pub everything : Computed
 unfolding floats searches words evaluations sessions programs
 everything = computed
+
+-- two effects: a row's terms, the search, and what it is to a session
+unfoldable pub two-effects : Computed
+unfolding Ieee.eq Ieee.isNan Matrix.product Matrix.dot Row2.rowVariance Row2.scaledRow Row2.addNll Row2.addScore Row2.addInformation Subject.withRow Subject.addRow2 Rules2.maxAbs Rules2.isSame Rules2.priorScore Rules2.joint Rules2.penalisedScore Rules2.norm Rules2.curvature Rules2.stepBy Rules2.scale Rules2.reduced Rules2.trialPoint Rules2.decrease Rules2.isPassedOver Rules2.nextReduction Rules2.isTaken Rules2.startPoint Rules2.isUnresolved Rules2.isFar Rules2.better Rules2.between Rules2.trying Rules2.finish Rules2.tryFrom Rules2.descendBy Rules2.descend Rules2.beginRound Rules2.take Rules2.leave Rules2.requestAt Rules2.advanceAt Rules2.start Subjects.fitBy Subjects.fit2 Subjects.settings2 Subjects.wanted2 Subjects.key2 Subjects.conditional2 Subjects.currentAt Subjects.currentSource Subjects.isNewBest Subjects.populationAt Subjects.populationSource Subjects.sources2 Subjects.advance2 Subjects.closedWith Subjects.closed2 Session.searchWithin2
+two-effects = computed
+
+-- kept evaluations that answer
+unfoldable pub hits : Computed
+unfolding Cache.keyAt Cache.termsAt Cache.rowAt Cache.sameKey Cache.isSame Cache.isAt Cache.termsOf Cache.copyFrom Cache.rowsTo Cache.copyRun Cache.copied Subjects.sumsOf
+hits = computed
+
+-- a host's own words
+unfoldable pub hosts : Computed
+unfolding Entries.wordsFrom SearchWords.wordsOf SearchWords.stageWord SearchWords.fallWord SearchWords.saved SearchWords.stageOf SearchWords.conditionalAt SearchWords.searchOf SearchWords.loaded SearchWords2.wordsOf SearchWords2.stageWord SearchWords2.saved SearchWords2.stageOf SearchWords2.pairAt SearchWords2.conditionalAt SearchWords2.searchOf SearchWords2.loaded SessionWords.pairAt SessionWords.additiveAt SessionWords.parametersAt SessionWords.progressAt SessionWords.orderAt SessionWords.stateAt SessionWords.withBoth SessionWords.withSearch SessionWords.withSearches SessionWords.loadedState SessionWords.flag SessionWords.objectiveWords SessionWords.progressWords SessionWords.orderWords SessionWords.stateWords SessionWords.putFrom SessionWords.savedState Hosting.placeWords Hosting.answerOf Hosting.answered Hosting.numberOf Hosting.isUnaltered Hosting.told Hosting.openedTo Hosting.opened Hosting.withState Hosting.openWith Hosting.setupOver Hosting.callOver Session2.setupWith Session2.parameters Session2.observations Session2.firstValue Session2.steep Session2.seen Session2.opened Session2.after Session2.replies Session2.objectives Session2.session Session2.toMode Session2.found Session2.refusedAfter Session2.toBound
+hosts = computed
+
+unfoldable pub worked : Computed
+unfolding floats searches words evaluations sessions two-effects hits hosts
+worked = computed

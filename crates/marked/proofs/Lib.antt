@@ -1,4 +1,5 @@
 pub mod Computed
 pub mod Laws
+pub mod Played
 pub mod Printed
 pub mod Table

@@ -1,14 +1,17 @@
 -- The table of document 01's marked facts, computed. Assumes nothing.
 use mathlib.Core.Path.{_≡_, refl}
 use mathlib.Core.Bool.{Bool}
+use mathlib.Core.List.{List}
 use lib.Ieee.{Float, nan, inf, fin, binary64, ofBits, add, mul}
 use Rattle.float64.specs.Pick.{pick}
 use Rattle.likelihood.specs.Terms.{variance}
 use Rattle.float64.specs.Answer.{refused}
 use Rattle.likelihood.specs.RowTerms.{rowTerms}
+use Rattle.likelihood_2d.specs.Row2.{rowVariance}
 use Rattle.curlewstand.specs.Leaves.{observationOf}
 use Rattle.marked.specs.Marked.{Marked, zero}
 use Rattle.marked.proofs.Computed.{everything}
+use Rattle.marked.proofs.Played.{session-found, session-13, session-16}
 use Rattle.marked.proofs.Printed.{printed, printed-far, printed-empty, printed-bound-16, printed-bound-next, printed-16, printed-17, with-its-own}
 
 -- a NaN swallows what is added to it
@@ -26,14 +29,20 @@ infinite-row : (value additive f-eta : Float) (s : Bool) → rowTerms (observati
 unfolding rowTerms pick observationOf
 infinite-row value additive f-eta s = rw (infinite-variance additive s)
 
+infinite-row-2 : (value additive : Float) (f-eta : List Float) (s : Bool) → rowVariance (observationOf value additive zero) (inf s) f-eta ≡ refused 11
+unfolding rowVariance pick observationOf
+infinite-row-2 value additive f-eta s = rw (infinite-variance additive s)
+
 pub marked : Marked
-unfolding everything observationOf
+unfolding everything observationOf rowVariance
 marked =
     record {
       additive-row = refl;
       proportional-row = refl;
       no-variance = λ value f-eta. refl;
       infinite-prediction = infinite-row;
+      no-variance-2 = λ value f-eta. refl;
+      infinite-prediction-2 = infinite-row-2;
       inverse = refl;
       singular = refl;
       exp-zero = refl;
@@ -54,4 +63,7 @@ marked =
       printed-bound-next = printed-bound-next;
       printed-16 = printed-16;
       printed-17 = printed-17;
+      session-found = session-found;
+      session-13 = session-13;
+      session-16 = session-16;
     }

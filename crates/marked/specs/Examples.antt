@@ -59,7 +59,9 @@ module _ (setup : Setup) (input : List ℕ) where
     unfoldable pub whenOpened : List ℕ → Setting → Opening → List ℕ
     whenOpened results s (Opens.Opened state) =
         endOf counts
-        (play 10001 (callOf setup counts observations (objective firstParameters) (heldOf state (s .begun .tally) (s .cache) (s .work) (s .warm) results)))
+        (play 10001
+        (callOf setup counts observations (objective firstParameters)
+        (heldOf state (s .begun .tally) (s .cache) (s .work) (s .warm) results)))
     whenOpened results s (Opens.Refused number place) = refusalLine number place
 
     unfoldable pub fitted : List ℕ → List ℕ → List ℕ → List ℕ → List ℕ
@@ -68,7 +70,8 @@ module _ (setup : Setup) (input : List ℕ) where
         whenOpened results s (s .begun .opening)
 
   unfoldable pub whenRecords : Cohort → List ℕ
-  whenRecords (Cohorts.Subjects n) = fitted (counts input n) (observations input) (replicate 1536 0) (replicate 3072 0) (replicate 256 0) (replicate 1280 0)
+  whenRecords (Cohorts.Subjects n) =
+      fitted (counts input n) (observations input) (replicate 1536 0) (replicate 3072 0) (replicate 256 0) (replicate 1280 0)
   whenRecords Cohorts.Refused = refusalLine 20 Nowhere
 
   unfoldable pub outputWith : List ℕ

@@ -1,5 +1,6 @@
--- Document 01's marked facts and its program's printed examples, as one table. The proof is proofs/Table.antt. src/main.rt holds the code of the leaves to it; the code of the program
--- is `output`, by the contract of `fitting::focei`.
+-- Document 01's marked facts, its program's printed examples, and worked sessions with two effects, as one table. The proof is
+-- proofs/Table.antt. src/main.rt holds the code of the leaves to it; the code of the program is `output`, by the contract of
+-- `fitting::focei`, and the exported calls of a session are `setupOver` and `callOver`, by the contracts of `host`.
 use mathlib.Core.Path.{_≡_}
 use mathlib.Core.Bool.{Bool}
 use mathlib.Core.List.{List, [], _∷_}
@@ -11,6 +12,7 @@ use Rattle.libm.specs.Exp.{exp}
 use Rattle.matrix.specs.Matrix.{pair, inversePositive, some, none}
 use Rattle.float64.specs.Answer.{given, refused}
 use Rattle.likelihood.specs.RowTerms.{rowTerms}
+use Rattle.likelihood_2d.specs.Row2.{rowVariance}
 use Rattle.mode.specs.Rules.{gridPoint, etaTolerance}
 use Rattle.curlewstand.specs.Leaves.{observationOf}
 use Rattle.admission.specs.Admission.{checks}
@@ -18,6 +20,7 @@ use Rattle.admission.specs.declared.Admission.the-variants.{Accepted, Refused}
 use Rattle.session.specs.Session.{firstCheck}
 use Rattle.fitting.specs.Output.{settings, output}
 use Rattle.marked.specs.Examples.{bytes, settingsWith, outputWith, example, exampleText, far, room}
+use Rattle.marked.specs.Session2.{session, firstValue, steep, asked, toMode, found, toBound, refusedAfter}
 
 abbrev pub zero : Float
 zero = word 0
@@ -40,11 +43,17 @@ pub record Marked : Type 0 where
   -- p 1, a 0, f 0: 11, whatever the value and f_eta
   pub no-variance : (value f-eta : Float) → rowTerms (observationOf value zero one) zero f-eta zero ≡ refused 11
   -- p 0, f infinite: 11, whatever the value, a and f_eta
-  pub infinite-prediction : (value additive f-eta : Float) (s : Bool) → rowTerms (observationOf value additive zero) (inf s) f-eta additive ≡ refused 11
+  pub infinite-prediction :
+      (value additive f-eta : Float) (s : Bool) → rowTerms (observationOf value additive zero) (inf s) f-eta additive ≡ refused 11
+  -- the same with two effects, whatever the sensitivities
+  pub no-variance-2 : (value : Float) (f-eta : List Float) → rowVariance (observationOf value zero one) zero f-eta ≡ refused 11
+  pub infinite-prediction-2 :
+      (value additive : Float) (f-eta : List Float) (s : Bool) → rowVariance (observationOf value additive zero) (inf s) f-eta ≡ refused 11
   -- the inverse of (2,0;0,4): (0.5,-0;-0,0.25), det 8
   pub inverse :
       inversePositive (pair (pair two zero) (pair zero four))
-      ≡ some (pair (pair half (word 0x8000_0000_0000_0000)) (pair (word 0x8000_0000_0000_0000) (word 0x3fd0_0000_0000_0000))) (word 0x4020_0000_0000_0000)
+      ≡ some (pair (pair half (word 0x8000_0000_0000_0000)) (pair (word 0x8000_0000_0000_0000) (word 0x3fd0_0000_0000_0000)))
+      (word 0x4020_0000_0000_0000)
   -- (1,1;1,1): none
   pub singular : inversePositive (pair (pair one one) (pair one one)) ≡ none
   pub exp-zero : exp zero ≡ one
@@ -73,3 +82,10 @@ pub record Marked : Type 0 where
   -- max_evaluations 16 in the example gets 6, 17 passes
   pub printed-16 : outputWith (settingsWith four 16) example ≡ bytes "R 6 0 -\n"
   pub printed-17 : outputWith (settingsWith four 17) example ≡ exampleText
+  -- a session with two effects and eta_bound 2 finds its mode after 25 evaluations: its questions, objective, tally, and work, warm and
+  -- result words; the same objective again, with that mode for its warm start, has it from kept evaluations alone
+  pub session-found : session two firstValue 2 ≡ found toMode ∷ found [] ∷ []
+  -- with eta_bound 1 it gets 13 after 4 evaluations
+  pub session-13 : session one firstValue 1 ≡ refusedAfter 13 4 toBound ∷ []
+  -- with sensitivities of 2^24 for both effects the curvature at zero has no inverse: 16
+  pub session-16 : session two steep 1 ≡ refusedAfter 16 1 (asked 0 0 0x3ff0_0000_0000_0000 0x3ff0_0000_0000_0000 ∷ []) ∷ []

@@ -45,6 +45,42 @@ fn infinite_prediction(value: f64, additive: f64, f_eta: f64) {
     check::expect(number == 11);
 }
 
+// The same with two effects.
+fn no_variance_2d(value: f64, first: f64, second: f64) {
+    let mut nll = 0.0;
+    let mut score = [0.0, 0.0];
+    let mut information = [[0.0, 0.0], [0.0, 0.0]];
+    let number = curlewstand::curlewstand_add_row(
+        value,
+        0.0,
+        1.0,
+        0.0,
+        &[first, second],
+        &mut nll,
+        &mut score,
+        &mut information,
+    );
+    check::expect(number == 11);
+}
+
+fn infinite_prediction_2d(value: f64, additive: f64, first: f64, second: f64) {
+    let mut nll = 0.0;
+    let mut score = [0.0, 0.0];
+    let mut information = [[0.0, 0.0], [0.0, 0.0]];
+    let infinity = f64::from_bits(0x7ff0_0000_0000_0000);
+    let number = curlewstand::curlewstand_add_row(
+        value,
+        additive,
+        0.0,
+        infinity,
+        &[first, second],
+        &mut nll,
+        &mut score,
+        &mut information,
+    );
+    check::expect(number == 11);
+}
+
 // The inverse of (2,0;0,4) is (0.5,-0;-0,0.25), det 8.
 fn inverse() {
     let mut inverse = [[0.0, 0.0], [0.0, 0.0]];
@@ -136,6 +172,8 @@ fn main() {
     proportional_row();
     no_variance(3.0, 2.0);
     infinite_prediction(3.0, 1.0, 2.0);
+    no_variance_2d(3.0, 2.0, 1.0);
+    infinite_prediction_2d(3.0, 1.0, 2.0, 1.0);
     inverse();
     singular();
     exp_and_log();

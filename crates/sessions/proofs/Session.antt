@@ -1,5 +1,6 @@
 -- Demand 3 over any rules and any machine that shows `Lawful`: `demand3`, one theorem over every list of a session's calls. Assumes nothing.
 use mathlib.Core.Path.{_≡_, refl, sym, ap, ap₂, subst, _∙_}
+use mathlib.Core.Logic.{_⊎_, inl, inr, ⊎-elim}
 use mathlib.Core.List.{List, [], _∷_, _++_, append-assoc}
 use mathlib.Core.Bool.{Bool, true, false}
 use Prim.Native.Nat.{ℕ, zero, suc, _+_, _-_, _*_, _≤_, _<_}
@@ -13,11 +14,11 @@ use Rattle.sessions.specs.Claim.{Demand3}
 use Rattle.sessions.specs.Lawful.{Kept, Advances, Over, Begins, Turn, Enters, Lawful}
 use Rattle.sessions.specs.Lawful.Enters.{same, begins, replied, failed}
 use Rattle.sessions.specs.Lawful.Turn.{hit, short, wild, miss, next, barred, last, fails}
-use Rattle.sessions.specs.Log.{Entry, End, not-yet, in-mode, in-refusal, stop, Every, none, more, Searched, told, begun, latest, note, read, searches, counts, Through, Chain, Ended, Waits, Holds}
+use Rattle.sessions.specs.Log.{Entry, End, not-yet, in-mode, in-refusal, stop, Every, none, more, Searched, history, OfEvaluation, told, begun, latest, note, read, searches, counts, Through, Chain, Ended, Waits, Holds}
 use Rattle.sessions.specs.Log.Event.{Began, Ask, Count, Got, Mode, Refused}
 use Rattle.sessions.specs.Machine.{halt, Machine, Outcome, Move, requests, onward, loop, call, Act, calls, sets, set, run}
 use Rattle.sessions.specs.Observed.{asked, finished, refused, goes-on, View, wantedAt, raise, turn-log, enter-log, loop-log, call-log, log}
-use Rattle.sessions.specs.Rules.{Rules, Wanted, point, mode, after, wanted, Claims, Proved}
+use Rattle.sessions.specs.Rules.{Rules, Trial, points, Wanted, point, mode, refusal, after, wanted, Follows, Claims, Proved}
 
 -- ---- a history with one evaluation more
 module _ {X C Q : Type 0} (Answers : Q → C → Type 0) (request : X → Q) (advance : X → C → X) where
@@ -34,6 +35,11 @@ module _ {X C Q : Type 0} (Answers : Q → C → Type 0) (request : X → Q) (ad
 length-more : {C : Type 0} (h : List C) (c : C) → length (h ++ (c ∷ [])) ≡ suc (length h)
 length-more [] c = refl
 length-more (d ∷ h) c = ap suc (length-more h c)
+
+pub points-more : (R : Rules) (ts : List (Trial R)) (t : Trial R) → points R (ts ++ (t ∷ [])) ≡ points R ts ++ (t .point ∷ [])
+unfolding points
+points-more R [] t = refl
+points-more R (u ∷ ts) t = ap (λ (h : List (R .Conditional)). u .point ∷ h) (points-more R ts t)
 
 -- ---- reading a log in two parts
 module _ (R : Rules) where
@@ -57,6 +63,11 @@ stop-mode n not-yet q = let z : _≡_ {A = ℕ} 0 1 = cc in absurd (omega arith)
 stop-mode n (in-mode k) q = q
 stop-mode n (in-refusal k) q = q
 
+stop-refusal : {C : Type 0} {k : ℕ} (n : ℕ) (e : End C) → stop n e ≡ in-refusal k → ((e ≡ not-yet) × (n ≡ k)) ⊎ (e ≡ in-refusal k)
+stop-refusal n not-yet q = inl (refl, cc)
+stop-refusal n (in-mode m) q = inr q
+stop-refusal n (in-refusal k) q = inr q
+
 stop-ended : {C : Type 0} (n : ℕ) (e : End C) → stop n e ≡ not-yet → ⊥
 stop-ended n not-yet q = let z : _≡_ {A = ℕ} 0 1 = cc in absurd (omega arith)
 stop-ended n (in-mode k) q = let z : _≡_ {A = ℕ} 0 1 = cc in absurd (omega arith)
@@ -73,8 +84,8 @@ module _ (R : Rules) (K : Claims R) (P : Proved R K) (M : Machine) (Y : View R M
     within : Y .subject s < Y .subjects
     earlier : Through R (Y .subject s) xs
     same : x .settings ≡ Y .settings s
-    at : Y .search s ≡ after R (x .settings) (x .history)
-    asked : x .asked ≡ k + length (x .history)
+    at : Y .search s ≡ after R (x .settings) (history R x)
+    asked : x .asked ≡ k + length (history R x)
     running : x .end ≡ not-yet
     tally : x .to ≡ Y .evaluations s
     chain : Chain R (x .from) xs
@@ -103,10 +114,10 @@ module _ (R : Rules) (K : Claims R) (P : Proved R K) (M : Machine) (Y : View R M
   module _ (s : M .State) (x : Searched R) (xs : List (Searched R)) (hx : Holds R K x) where
     module _ (k : ℕ) (u : Current k s x xs) where
       -- the rules ask of the history what the state's search asks
-      asked-there : R .request (Y .settings s) (Y .search s) ≡ R .request (x .settings) (after R (x .settings) (x .history))
+      asked-there : R .request (Y .settings s) (Y .search s) ≡ R .request (x .settings) (after R (x .settings) (history R x))
       asked-there = ap₂ (R .request) (sym (u .same)) (u .at)
 
-      meets : {q : Wanted (R .Point)} → wantedAt R M Y s ≡ q → wanted R (x .settings) (after R (x .settings) (x .history)) ≡ q
+      meets : {q : Wanted (R .Point)} → wantedAt R M Y s ≡ q → wanted R (x .settings) (after R (x .settings) (history R x)) ≡ q
       meets e = ap (R .wants) (sym asked-there) ∙ e
 
       in-a-mode : wantedAt R M Y s ≡ mode → Holds R K (told R x (Mode (R .best (Y .search s))))
@@ -116,43 +127,66 @@ module _ (R : Rules) (K : Claims R) (P : Proved R K) (M : Machine) (Y : View R M
         answered = hx .answered;
         few = hx .few;
         raised = hx .raised;
-        good = λ m q. subst (K .Good (x .settings) (x .history)) (ap (R .best) (sym (u .at)) ∙ cc) (P .good (x .settings) (x .history) (hx .domain) (hx .follows) (meets e));
+        good = λ m q. subst (K .Good (x .settings) (history R x)) (ap (R .best) (sym (u .at)) ∙ cc) (P .good (x .settings) (history R x) (hx .domain) (hx .follows) (meets e));
+        refused = λ n q. let z : _≡_ {A = ℕ} 0 1 = cc in absurd (omega arith);
       }
 
-    ends : (n : ℕ) → Holds R K (told R x (Refused n))
-    ends n = record { domain = hx .domain; follows = hx .follows; answered = hx .answered; few = hx .few; raised = hx .raised; good = λ m q. hx .good m (stop-mode n (x .end) q) }
+      says : {n : ℕ} → wantedAt R M Y s ≡ refusal n → K .Means (x .settings) (history R x) n
+      says e = P .means (x .settings) (history R x) _ (hx .domain) (hx .follows) (meets e)
+
+    abbrev Why : ℕ → Type 0
+    Why n = x .end ≡ not-yet → OfEvaluation n ⊎ K .Means (x .settings) (history R x) n
+
+    ends : (n : ℕ) → Why n → Holds R K (told R x (Refused n))
+    ends n why = record {
+      domain = hx .domain;
+      follows = hx .follows;
+      answered = hx .answered;
+      few = hx .few;
+      raised = hx .raised;
+      good = λ m q. hx .good m (stop-mode n (x .end) q);
+      refused = λ k q. ⊎-elim (λ (r : (x .end ≡ not-yet) × (n ≡ k)). subst (λ (j : ℕ). OfEvaluation j ⊎ K .Means (x .settings) (history R x) j) (r .1) (why (r .0))) (λ (r : x .end ≡ in-refusal k). hx .refused k r) (stop-refusal n (x .end) q);
+    }
 
     asks : (p : R .Point) → Current 0 s x xs → wantedAt R M Y s ≡ point p → Holds R K (told R x (Ask p))
     asks p u e = record {
       domain = hx .domain;
       follows = hx .follows;
       answered = omega (arith, hx .answered);
-      few = omega (arith, u .asked, P .few (x .settings) (x .history) p (hx .domain) (hx .follows) (meets 0 u e));
+      few = omega (arith, u .asked, P .few (x .settings) (history R x) p (hx .domain) (hx .follows) (meets 0 u e));
       raised = omega (arith, hx .raised);
       good = hx .good;
+      refused = hx .refused;
     }
 
     asking : (p : R .Point) → Current 0 s x xs → Current 1 s (told R x (Ask p)) xs
     asking p u = record { number = u .number; within = u .within; earlier = u .earlier; same = u .same; at = u .at; asked = omega (arith, u .asked); running = u .running; tally = u .tally; chain = u .chain; past = u .past }
 
-    gets : (c : R .Conditional) → Current 1 s x xs → R .Answers (R .request (Y .settings s) (Y .search s)) c → Holds R K (told R x (Got c))
+    -- the history with it
+    longer : (c : Trial R) → length (points R (x .trials ++ (c ∷ []))) ≡ suc (length (history R x))
+    longer c = ap length (points-more R (x .trials) c) ∙ length-more (history R x) (c .point)
+
+    gets : (c : Trial R) → Current 1 s x xs → R .Answers (R .request (Y .settings s) (Y .search s)) (c .point) → Holds R K (told R x (Got c))
     gets c u t = record {
       domain = hx .domain;
-      follows = answered-more (R .Answers) (R .request (x .settings)) (R .advance (x .settings)) (R .start) (x .history) c (hx .follows) (subst (λ (q : R .Request). R .Answers q c) (asked-there 1 u) t);
-      answered = omega (arith, u .asked, length-more (x .history) c);
+      follows = subst (Follows R (x .settings)) (sym (points-more R (x .trials) c))
+          (answered-more (R .Answers) (R .request (x .settings)) (R .advance (x .settings)) (R .start) (history R x) (c .point) (hx .follows) (subst (λ (q : R .Request). R .Answers q (c .point)) (asked-there 1 u) t));
+      answered = omega (arith, u .asked, longer c);
       few = hx .few;
       raised = hx .raised;
       good = λ m q. let r = u .running in let z : _≡_ {A = ℕ} 0 1 = cc in absurd (omega arith);
+      refused = λ n q. let r = u .running in let z : _≡_ {A = ℕ} 0 1 = cc in absurd (omega arith);
     }
 
-    got : (c : R .Conditional) (t : M .State) → Current 1 s x xs → Advances R K M Y Sound s c t → Current 0 t (told R x (Got c)) xs
+    got : (c : Trial R) (t : M .State) → Current 1 s x xs → Advances R K M Y Sound s (c .point) t → Current 0 t (told R x (Got c)) xs
     got c t u a = record {
       number = u .number ∙ sym (a .kept .subject);
       within = subst (λ (i : ℕ). i < Y .subjects) (sym (a .kept .subject)) (u .within);
       earlier = subst (λ (i : ℕ). Through R i xs) (sym (a .kept .subject)) (u .earlier);
       same = u .same ∙ sym (a .kept .settings);
-      at = a .search ∙ ap₂ (λ (st : R .Settings) (z : R .Search). R .advance st z c) (sym (u .same)) (u .at) ∙ sym (led-more (R .Answers) (R .request (x .settings)) (R .advance (x .settings)) (R .start) (x .history) c);
-      asked = omega (arith, u .asked, length-more (x .history) c);
+      at = a .search ∙ ap₂ (λ (st : R .Settings) (z : R .Search). R .advance st z (c .point)) (sym (u .same)) (u .at)
+          ∙ sym (led-more (R .Answers) (R .request (x .settings)) (R .advance (x .settings)) (R .start) (history R x) (c .point)) ∙ ap (after R (x .settings)) (sym (points-more R (x .trials) c));
+      asked = omega (arith, u .asked, longer c);
       running = u .running;
       tally = u .tally ∙ sym (a .tally);
       chain = u .chain;
@@ -160,7 +194,7 @@ module _ (R : Rules) (K : Claims R) (P : Proved R K) (M : Machine) (Y : View R M
     }
 
     counted : (p : R .Point) (n : ℕ) → Current 0 s x xs → wantedAt R M Y s ≡ point p → n ≡ suc (Y .evaluations s) → Holds R K (told R (told R x (Ask p)) (Count n))
-    counted p n u e v = let a = asks p u e in record { domain = hx .domain; follows = hx .follows; answered = a .answered; few = a .few; raised = omega (arith, hx .raised, u .tally); good = hx .good }
+    counted p n u e v = let a = asks p u e in record { domain = hx .domain; follows = hx .follows; answered = a .answered; few = a .few; raised = omega (arith, hx .raised, u .tally); good = hx .good; refused = hx .refused }
 
     counting : (p : R .Point) (t : M .State) → Current 0 s x xs → Kept R K M Y Sound s t → Y .search t ≡ Y .search s → Current 1 t (told R (told R x (Ask p)) (Count (Y .evaluations t))) xs
     counting p t u k e = record {
@@ -182,7 +216,7 @@ module _ (R : Rules) (K : Claims R) (P : Proved R K) (M : Machine) (Y : View R M
 
   -- a search that has just begun
   fresh : (s t : M .State) (i : ℕ) (xs : List (Searched R)) → Begins R K M Y Sound s i t → Through R i xs → Chain R (Y .evaluations s) xs → Every (Ended R) xs → Current 0 t (begun R (Y .subject t) (Y .settings t) (Y .evaluations t)) xs
-  unfolding ledFrom
+  unfolding ledFrom points
   fresh s t i xs b h c d = record {
     number = refl;
     within = subst (λ (j : ℕ). j < Y .subjects) (sym (b .subject)) (b .within);
@@ -197,8 +231,8 @@ module _ (R : Rules) (K : Claims R) (P : Proved R K) (M : Machine) (Y : View R M
   }
 
   fresh-holds : (i : ℕ) (st : R .Settings) (n : ℕ) → K .Domain st → Holds R K (begun R i st n)
-  unfolding Answered
-  fresh-holds i st n d = record { domain = d; follows = tt; answered = omega arith; few = omega arith; raised = omega arith; good = λ m q. let z : _≡_ {A = ℕ} 0 1 = cc in absurd (omega arith) }
+  unfolding Answered points
+  fresh-holds i st n d = record { domain = d; follows = tt; answered = omega arith; few = omega arith; raised = omega arith; good = λ m q. let z : _≡_ {A = ℕ} 0 1 = cc in absurd (omega arith); refused = λ n q. let z : _≡_ {A = ℕ} 0 1 = cc in absurd (omega arith) }
 
   -- ---- a turn and the rest of the loop
   module _ (v : ℕ) (xs : List (Searched R)) where
@@ -244,10 +278,10 @@ module _ (R : Rules) (K : Claims R) (P : Proved R K) (M : Machine) (Y : View R M
     turned (hit {p} {t} e h a) = rw e (ahead _ _ _ (Ask p ∷ Got (Y .kept s p) ∷ []) (l t) (k t) (omega (arith, a .tally)) (go t _ xs (a .kept .sound)
         (gets s _ xs (asks s x xs hx p u e) (Y .kept s p) (asking s x xs hx p u) h) hs (got s _ xs (asks s x xs hx p u e) (Y .kept s p) t (asking s x xs hx p u) a)
         (rw (a .kept .subject) (omega (arith, f)))))
-    turned (short {p} {a} {t} {n} e w o) = rw (e, w, ← (raise-no (Y .evaluations s) (Y .evaluations t) (o .tally)))
-        (over _ _ a t n _ (Ask p ∷ Refused n ∷ []) w o (omega arith) (more (ends s _ xs (asks s x xs hx p u e) n) hs) (u .tally, u .chain) (more (stop-ended n (x .end)) (u .past)))
-    turned (wild {p} {a} {t} {n} e w o) = rw (e, w, ← (raise-one (Y .evaluations s) (Y .evaluations t) (o .tally)))
-        (over _ _ a t n _ (Ask p ∷ Count (Y .evaluations t) ∷ Refused n ∷ []) w o (omega arith) (more (ends s _ xs (counted s x xs hx p (Y .evaluations t) u e (o .tally)) n) hs) (o .tally, u .chain) (more (stop-ended n (x .end)) (u .past)))
+    turned (short {p} {a} {t} {n} e w b o) = rw (e, w, ← (raise-no (Y .evaluations s) (Y .evaluations t) (o .tally)))
+        (over _ _ a t n _ (Ask p ∷ Refused n ∷ []) w o (omega arith) (more (ends s _ xs (asks s x xs hx p u e) n (λ r. inl b)) hs) (u .tally, u .chain) (more (stop-ended n (x .end)) (u .past)))
+    turned (wild {p} {a} {t} {n} e w b o) = rw (e, w, ← (raise-one (Y .evaluations s) (Y .evaluations t) (o .tally)))
+        (over _ _ a t n _ (Ask p ∷ Count (Y .evaluations t) ∷ Refused n ∷ []) w o (omega arith) (more (ends s _ xs (counted s x xs hx p (Y .evaluations t) u e (o .tally)) n (λ r. inl b)) hs) (o .tally, u .chain) (more (stop-ended n (x .end)) (u .past)))
     turned (miss {p} {a} {t} e w j g aw v) = rw (e, w, ← (raise-one (Y .evaluations s) (Y .evaluations t) v)) (record {
       between = record { sound = j .sound; all = more (counted s x xs hx p (Y .evaluations t) u e v) hs; chain = (refl, u .chain); awaiting = λ q. (counting s x xs hx p t u j g, (p, ap₂ (wanted R) (j .settings) g ∙ e)); idle = λ q. let z : _≡_ {A = ℕ} 0 1 = cc in absurd (omega arith) };
       tally = omega (arith, v);
@@ -257,14 +291,14 @@ module _ (R : Rules) (K : Claims R) (P : Proved R K) (M : Machine) (Y : View R M
     turned (next {t} e b) = let m = R .best (Y .search s) in rw e (ahead _ _ _ (Mode m ∷ Began (Y .subject t) (Y .settings t) (Y .evaluations t) ∷ []) (l t) (k t) (omega (arith, b .tally)) (go t _ _ (b .sound)
         (fresh-holds _ _ _ (b .domain)) (more (in-a-mode s x xs hx 0 u e) hs) (fresh s t _ _ b (passed s x xs hx m u) (u .tally, u .chain) (more (stop-ended 0 (in-mode m)) (u .past)))
         (less _ _ n _ (u .within) (b .subject) (hx .few) f)))
-    turned (barred {a} {t} {n} e w o) = let m = R .best (Y .search s) in rw (e, w) (over _ _ a t n _ (Mode m ∷ Refused n ∷ []) w o (omega arith) (more (ends s _ xs (in-a-mode s x xs hx 0 u e) n) hs) (u .tally, u .chain) (more (stop-ended n (in-mode m)) (u .past)))
+    turned (barred {a} {t} {n} e w o) = let m = R .best (Y .search s) in rw (e, w) (over _ _ a t n _ (Mode m ∷ Refused n ∷ []) w o (omega arith) (more (ends s _ xs (in-a-mode s x xs hx 0 u e) n (λ r. let z : _≡_ {A = ℕ} 0 1 = cc in absurd (omega arith))) hs) (u .tally, u .chain) (more (stop-ended n (in-mode m)) (u .past)))
     turned (last {a} {t} e w j o) = let m = R .best (Y .search s) in rw (e, w) (record {
       between = record { sound = o .sound; all = more (in-a-mode s x xs hx 0 u e) hs; chain = (u .tally ∙ sym (o .tally), u .chain); awaiting = λ q. let i = o .idle in let z : _≡_ {A = ℕ} 0 1 = cc in absurd (omega arith); idle = λ q. more (stop-ended 0 (in-mode m)) (u .past) };
       tally = omega (arith, o .tally);
       through = λ q. subst (λ (i : ℕ). Through R i (told R x (Mode m) ∷ xs)) j (passed s x xs hx m u);
       question = λ p q. let z : _≡_ {A = ℕ} 0 1 = cc in absurd (omega arith);
     })
-    turned (fails {a} {t} {n} e w o) = rw e (over _ _ a t n _ (Refused n ∷ []) w o (omega arith) (more (ends s x xs hx n) hs) (u .tally, u .chain) (more (stop-ended n (x .end)) (u .past)))
+    turned (fails {a} {t} {n} e w o) = rw e (over _ _ a t n _ (Refused n ∷ []) w o (omega arith) (more (ends s x xs hx n (λ r. inr (says s x xs hx 0 u e))) hs) (u .tally, u .chain) (more (stop-ended n (x .end)) (u .past)))
 
   -- the loop: it never runs out of requests
   loops : (n : ℕ) → Goes n (λ t. loop (M .turn) (M .spent) n t) (λ t. loop-log R M Y n t)
@@ -275,9 +309,9 @@ module _ (R : Rules) (K : Claims R) (P : Proved R K) (M : Machine) (Y : View R M
   loops (suc n) s x xs so hx hs u f = turned n (λ t. loop (M .turn) (M .spent) n t) (λ t. loop-log R M Y n t) (loops n) s x xs hx hs u f (W .turns s so (u .within))
 
   -- ---- a call
-  ends-latest : (n : ℕ) (s : M .State) (xs : List (Searched R)) → Every (Holds R K) xs → Every (Holds R K) (latest R (Refused n) xs)
-  ends-latest n s [] none = none
-  ends-latest n s (x ∷ xs) (more hx hs) = more (ends s x xs hx n) hs
+  ends-latest : (n : ℕ) → OfEvaluation n → (s : M .State) (xs : List (Searched R)) → Every (Holds R K) xs → Every (Holds R K) (latest R (Refused n) xs)
+  ends-latest n b s [] none = none
+  ends-latest n b s (x ∷ xs) (more hx hs) = more (ends s x xs hx n (λ r. inl b)) hs
 
   ended-latest : (n : ℕ) (s : M .State) (xs : List (Searched R)) → Awaiting s xs → Every (Ended R) (latest R (Refused n) xs)
   ended-latest n s [] w = absurd w
@@ -288,7 +322,7 @@ module _ (R : Rules) (K : Claims R) (P : Proved R K) (M : Machine) (Y : View R M
   chain-latest n i [] h = h
   chain-latest n i (x ∷ xs) h = h
 
-  module _ (s t : M .State) (c : R .Conditional) (answers : R .Answers (R .request (Y .settings s) (Y .search s)) c) (a : Advances R K M Y Sound s c t) where
+  module _ (s t : M .State) (c : Trial R) (answers : R .Answers (R .request (Y .settings s) (Y .search s)) (c .point)) (a : Advances R K M Y Sound s (c .point) t) where
     replies : (xs : List (Searched R)) → Every (Holds R K) xs → Awaiting s xs → After (Y .evaluations t) (read R xs (Got c ∷ [])) (requests M t) (loop-log R M Y (M .fuel) t)
     unfolding read
     replies [] h w = absurd w
@@ -315,7 +349,7 @@ module _ (R : Rules) (K : Claims R) (P : Proved R K) (M : Machine) (Y : View R M
     entered c (begins {t} w h) = unfold enter-log in rw w (ahead _ _ _ (Began (Y .subject t) (Y .settings t) (Y .evaluations t) ∷ []) _ _ (omega (arith, h .tally))
         (loops _ t _ xs (h .sound) (fresh-holds _ _ _ (h .domain)) (b .all) (fresh s t _ xs h tt (b .chain) (b .idle w)) (omega (arith, enough t))))
     entered c (replied {t} w h a) = unfold enter-log in rw w (ahead _ _ _ (Got (Y .given c s) ∷ []) _ _ (omega (arith, a .tally)) (replies s t _ h a xs (b .all) (b .awaiting w)))
-    entered c (failed {a} {t} {n} w e o) = unfold enter-log in rw (w, e, ← (ended t n (o .idle))) (over _ _ a t n _ (Refused n ∷ []) e o (omega arith) (ends-latest n s xs (b .all)) (chain-latest n _ xs (b .chain)) (ended-latest n s xs (b .awaiting w)))
+    entered c (failed {a} {t} {n} w e r o) = unfold enter-log in rw (w, e, ← (ended t n (o .idle))) (over _ _ a t n _ (Refused n ∷ []) e o (omega arith) (ends-latest n r s xs (b .all)) (chain-latest n _ xs (b .chain)) (ended-latest n s xs (b .awaiting w)))
 
     called : (c : M .Call) → After (Y .evaluations s) xs (call M c s) (call-log R M Y c s)
     unfolding call call-log

@@ -1,29 +1,34 @@
 -- The log of a session, entry by entry, and the searches that are read from it. No code computes it.
 use mathlib.Core.Path.{_≡_}
+use mathlib.Core.Logic.{_⊎_}
 use mathlib.Core.List.{List, [], _∷_, _++_}
 use Prim.Native.Nat.{ℕ, zero, suc, _+_, _≤_}
 use lib.ListN.{length}
-use Rattle.sessions.specs.Rules.{Rules, point, after, wanted, Follows, Claims}
+use Rattle.sessions.specs.Rules.{Rules, Trial, points, point, after, wanted, Follows, Claims}
 
-pub data Event (Settings Point Conditional : Type 0) : Type 0 where
+pub data Event (Settings Point Conditional Trial : Type 0) : Type 0 where
   -- a subject's search begins: the subject, its settings, the tally's evaluations
-  Began : ℕ → Settings → ℕ → Event Settings Point Conditional
+  Began : ℕ → Settings → ℕ → Event Settings Point Conditional Trial
   -- it asks an evaluation
-  Ask : Point → Event Settings Point Conditional
+  Ask : Point → Event Settings Point Conditional Trial
   -- nothing is kept for it and check 6 passes: the tally's evaluations, now one more
-  Count : ℕ → Event Settings Point Conditional
+  Count : ℕ → Event Settings Point Conditional Trial
   -- a kept evaluation or a reply answers it
-  Got : Conditional → Event Settings Point Conditional
+  Got : Trial → Event Settings Point Conditional Trial
   -- the search ends in a mode
-  Mode : Conditional → Event Settings Point Conditional
+  Mode : Conditional → Event Settings Point Conditional Trial
   -- a refusal ends the objective
-  Refused : ℕ → Event Settings Point Conditional
+  Refused : ℕ → Event Settings Point Conditional Trial
 
 -- how a search ended
 pub data End (Conditional : Type 0) : Type 0 where
   not-yet : End Conditional
   in-mode : Conditional → End Conditional
   in-refusal : ℕ → End Conditional
+
+-- the numbers of an evaluation that is refused
+abbrev pub OfEvaluation : ℕ → Type 0
+OfEvaluation n = (6 ≤ n) × (n ≤ 12)
 
 -- 16 to 18 refuse after the mode
 abbrev pub stop : {C : Type 0} → ℕ → End C → End C
@@ -37,14 +42,14 @@ pub data Every {A : Type 0} (P : A → Type 0) : List A → Type 0 where
 
 module _ (R : Rules) where
   abbrev pub Entry : Type 0
-  Entry = Event (R .Settings) (R .Point) (R .Conditional)
+  Entry = Event (R .Settings) (R .Point) (R .Conditional) (Trial R)
 
   -- one search of a session
   pub record Searched : Type 0 where
     pub subject : ℕ
     pub settings : R .Settings
     -- the evaluations that it was given, in their order
-    pub history : List (R .Conditional)
+    pub trials : List (Trial R)
     -- how many it asked
     pub asked : ℕ
     -- the tally's evaluations when it began, and as it left them
@@ -52,17 +57,26 @@ module _ (R : Rules) where
     pub to : ℕ
     pub end : End (R .Conditional)
 
-  -- what an entry of the log says of the search under way
+  -- its history: the evaluated points alone
+  abbrev pub history : Searched → List (R .Conditional)
+  history x = points R (x .trials)
+
+  -- the same search, with what an entry of the log may change
+  abbrev pub toldAs : Searched → List (Trial R) → ℕ → ℕ → End (R .Conditional) → Searched
+  toldAs x trials asked to end =
+      record { subject = x .subject; settings = x .settings; trials = trials; asked = asked; from = x .from; to = to; end = end }
+
+  -- what an entry says of the search under way
   abbrev pub told : Searched → Entry → Searched
   told x (Began i st n) = x
-  told x (Ask p) = record { subject = x .subject; settings = x .settings; history = x .history; asked = suc (x .asked); from = x .from; to = x .to; end = x .end }
-  told x (Count n) = record { subject = x .subject; settings = x .settings; history = x .history; asked = x .asked; from = x .from; to = n; end = x .end }
-  told x (Got c) = record { subject = x .subject; settings = x .settings; history = x .history ++ (c ∷ []); asked = x .asked; from = x .from; to = x .to; end = x .end }
-  told x (Mode m) = record { subject = x .subject; settings = x .settings; history = x .history; asked = x .asked; from = x .from; to = x .to; end = in-mode m }
-  told x (Refused n) = record { subject = x .subject; settings = x .settings; history = x .history; asked = x .asked; from = x .from; to = x .to; end = stop n (x .end) }
+  told x (Ask p) = toldAs x (x .trials) (suc (x .asked)) (x .to) (x .end)
+  told x (Count n) = toldAs x (x .trials) (x .asked) n (x .end)
+  told x (Got t) = toldAs x (x .trials ++ (t ∷ [])) (x .asked) (x .to) (x .end)
+  told x (Mode m) = toldAs x (x .trials) (x .asked) (x .to) (in-mode m)
+  told x (Refused n) = toldAs x (x .trials) (x .asked) (x .to) (stop n (x .end))
 
   abbrev pub begun : ℕ → R .Settings → ℕ → Searched
-  begun i st n = record { subject = i; settings = st; history = []; asked = 0; from = n; to = n; end = not-yet }
+  begun i st n = record { subject = i; settings = st; trials = []; asked = 0; from = n; to = n; end = not-yet }
 
   -- the searches, the newest first
   abbrev pub latest : Entry → List Searched → List Searched
@@ -73,7 +87,7 @@ module _ (R : Rules) where
   note xs (Began i st n) = begun i st n ∷ xs
   note xs (Ask p) = latest (Ask p) xs
   note xs (Count n) = latest (Count n) xs
-  note xs (Got c) = latest (Got c) xs
+  note xs (Got t) = latest (Got t) xs
   note xs (Mode m) = latest (Mode m) xs
   note xs (Refused n) = latest (Refused n) xs
 
@@ -90,7 +104,7 @@ module _ (R : Rules) where
   counts (Began i st n ∷ es) = counts es
   counts (Ask p ∷ es) = counts es
   counts (Count n ∷ es) = suc (counts es)
-  counts (Got c ∷ es) = counts es
+  counts (Got t ∷ es) = counts es
   counts (Mode m ∷ es) = counts es
   counts (Refused n ∷ es) = counts es
 
@@ -111,17 +125,21 @@ module _ (R : Rules) where
   -- the newest search waits for an evaluation that its rules ask, and the others have ended
   abbrev pub Waits : List Searched → Type 0
   Waits [] = ⊥
-  Waits (x ∷ xs) = (x .end ≡ not-yet) × (x .asked ≡ suc (length (x .history))) × ((p : R .Point) × (wanted R (x .settings) (after R (x .settings) (x .history)) ≡ point p)) × Every Ended xs
+  Waits (x ∷ xs) =
+      (x .end ≡ not-yet) × (x .asked ≡ suc (length (history x)))
+      × ((p : R .Point) × (wanted R (x .settings) (after R (x .settings) (history x)) ≡ point p)) × Every Ended xs
 
   -- what demand 3 says of one search, however it ends
   module _ (K : Claims R) where
     pub record Holds (x : Searched) : Type 0 where
       -- its settings are in the domain, and each of its evaluations answers what the rules asked
       pub domain : K .Domain (x .settings)
-      pub follows : Follows R (x .settings) (x .history)
-      pub answered : length (x .history) ≤ x .asked
+      pub follows : Follows R (x .settings) (history x)
+      pub answered : length (history x) ≤ x .asked
       -- it asks no more than the ceiling, and raises the tally by no more than it asks
       pub few : x .asked ≤ K .ceiling
       pub raised : x .to ≤ x .from + x .asked
       -- its mode is what is claimed of one
-      pub good : (m : R .Conditional) → x .end ≡ in-mode m → K .Good (x .settings) (x .history) m
+      pub good : (m : R .Conditional) → x .end ≡ in-mode m → K .Good (x .settings) (history x) m
+      -- a refusal that ends it is one of an evaluation, or it is the rules' own and means what is claimed of that
+      pub refused : (n : ℕ) → x .end ≡ in-refusal n → OfEvaluation n ⊎ K .Means (x .settings) (history x) n

@@ -7,7 +7,7 @@ use Rattle.float64.specs.Pick.{pick}
 use Rattle.sessions.specs.Log.{Entry}
 use Rattle.sessions.specs.Log.Event.{Began, Ask, Count, Got, Mode, Refused}
 use Rattle.sessions.specs.Machine.{Moved, on, halt, Machine, Move, call, Act, calls, sets, set}
-use Rattle.sessions.specs.Rules.{Rules, Wanted, point, mode, refusal, wanted}
+use Rattle.sessions.specs.Rules.{Rules, Trial, Wanted, point, mode, refusal, wanted}
 
 -- what an answer says
 pub data Meaning (Point : Type 0) : Type 0 where
@@ -31,8 +31,8 @@ module _ (R : Rules) (M : Machine) where
     pub evaluations : M .State → ℕ
     pub limit : ℕ
     -- the kept evaluation at a point, and that of a reply: looked at only where the search goes on with it
-    pub kept : M .State → R .Point → R .Conditional
-    pub given : M .Call → M .State → R .Conditional
+    pub kept : M .State → R .Point → Trial R
+    pub given : M .Call → M .State → Trial R
 
   module _ (Y : View) where
     abbrev pub wantedAt : M .State → Wanted (R .Point)

@@ -1,11 +1,12 @@
 -- `parameters_of` meets its contract: field by field. Assumes nothing.
+use borrow.Author.Needs.{needs}
 use Rattle.float64.proofs.Laws.{free}
-use Rattle.hosting.proofs.Paths.{parameters-made}
+use Rattle.hosting.proofs.Paths.{parameters-made, parameters-handed}
 use Rattle.hosting.proofs.parameters_of.Statement.{statement}
 use Rattle.hosting.proofs.parameters_of.Tie as tie
 
 returns : tie.Need-returns
-returns c = parameters-made _ (c .additive-sd .ensures)
+returns c = (parameters-made _ (c .additive-sd .ensures), parameters-handed _ (search needs) (search needs) (search needs) (search needs))
 
 pub parameters-of-spec : {M : Type 1} → statement M
 parameters-of-spec = tie.close (tie.spec free returns)

@@ -23,7 +23,7 @@ returns : tie.Need-returns
 unfolding admitWith
 returns c =
     let d = c .before .before .before .before .before .before .before .before .before .before .args in
-    (of-given (d .state .now) (c .before .before .before .before .before .load .ensures) (admitWith (setupOf (d .setup)) (d .counts .now) (d .lent) (d .check) (d .tally) (d .reply .now)) (c .before .before .before .at .given .1) (rw (← c .before .setup-of .ensures) (c .admit-reply .ensures)), refl)
+    (of-given (d .state .now) (c .before .before .before .before .before .load .ensures) (admitWith (setupOf (d .setup)) (d .counts .now) (d .lent) (d .check) (d .tally) (d .reply .now)) (c .before .before .before .at .given .1) (rw (← c .before .setup-of .ensures .0) (c .admit-reply .ensures)), refl)
 
 returns-2 : tie.Need-returns-2
 unfolding admitWith

@@ -24,7 +24,7 @@ returns : tie.Need-returns
 unfolding admitSubjectWith
 returns c =
     let d = c .before .before .before .before .before .before .before .before .before .before .args in
-    (of-given (d .state .now) (c .before .before .before .before .before .load .ensures) (admitSubjectWith (setupOf (d .setup)) (d .counts .now) (d .lent) (d .check) (d .tally) (d .reply .now)) (c .before .before .before .at .given .1) (rw (← c .before .setup-of .ensures) (c .admit-subject-reply .ensures)), refl)
+    (of-given (d .state .now) (c .before .before .before .before .before .load .ensures) (admitSubjectWith (setupOf (d .setup)) (d .counts .now) (d .lent) (d .check) (d .tally) (d .reply .now)) (c .before .before .before .at .given .1) (rw (← c .before .setup-of .ensures .0) (c .admit-subject-reply .ensures)), refl)
 
 returns-2 : tie.Need-returns-2
 unfolding admitSubjectWith
