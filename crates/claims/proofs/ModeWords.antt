@@ -2,10 +2,11 @@
 use mathlib.Core.Path.{_≡_, refl, sym, ap, subst, _∙_}
 use mathlib.Core.Bool.{true, false}
 use mathlib.Core.List.{List, [], _∷_, _++_}
+use mathlib.Core.Logic.{_⊎_, inl, inr}
 use Prim.Native.Nat.{ℕ, suc, _+_, _*_, _≤_}
 use native.Mathlib.Omega.{arith}
 use borrow.Author.Tests.{eq-eqb}
-use lib.Dec.{eqb}
+use lib.Dec.{T, eqb}
 use lib.IntN.{pos}
 use lib.ListN.{getD, set, length, length-set}
 use lib.Seq.{getD-set-same, getD-set-other}
@@ -63,6 +64,7 @@ module _ (I : Inner) (L : Reads I) where
     pub starts : (setup : Setup) (parameters : Parameters) (q : Progress) (warm : List ℕ) (i : ℕ) → setup .effects ≡ effects → q .warm ≡ warmOf warm effects i → I .settingsOf
         (B.fitOf setup parameters) q ≡ L .settings setup parameters warm i
     pub modes : (fit : Fit) (p : Progress) (rows : ℕ) (m : Mode) → fit .effects ≡ effects → B.closedBy fit p rows ≡ Positive m → OfMode m (I .rules .best (I .searchOf p))
+    pub flat : (fit : Fit) (p : Progress) (rows : ℕ) → fit .effects ≡ effects → B.closedBy fit p rows ≡ NotPositive → L .Flat (I .settingsOf fit p) (I .rules .best (I .searchOf p))
     pub stores : (j : ℕ) (m : Mode) (b : I .rules .Conditional) (warm : List ℕ) → OfMode m b → effects * suc j ≤ length warm → L .Warm j b (warmStored effects j (m .eta) warm)
     pub others : (setup : Setup) (parameters : Parameters) (i j : ℕ) → (i ≡ j → ⊥) → (eta : Pair) (warm : List ℕ) → L .settings setup parameters
         (warmStored effects j eta warm) i ≡ L .settings setup parameters warm i
@@ -100,6 +102,17 @@ one-mode fit best rows m =
     cases (λ (c : Closed). c ≡ Positive m → OfMode inner1 reads1 m best) (nonfinite (one /ᶠ fit .omega +ᶠ best .information)) (λ t q. absurd (not-positive q))
     (λ t. cases (λ (c : Closed). c ≡ Positive m → OfMode inner1 reads1 m best) (le (one /ᶠ fit .omega +ᶠ best .information) (word 0)) (λ z q. absurd (not-positive q))
     (λ z q. subst (λ (x : Mode). OfMode inner1 reads1 x best) (same-mode q) (record { first = refl; second = zero-bits; nll = refl })))
+
+positive-not : {m : Mode} → Positive m ≡ NotPositive → ⊥
+positive-not e = not-positive (sym e)
+
+one-flat : (fit : Fit) (best : Conditional) (rows : ℕ) → B.closed1 fit best rows ≡ NotPositive
+    → let c = one /ᶠ fit .omega +ᶠ best .information in T (nonfinite c) ⊎ T (le c (word 0))
+unfolding B.closed1
+one-flat fit best rows =
+    let c = one /ᶠ fit .omega +ᶠ best .information in
+    cases (λ (x : Closed). x ≡ NotPositive → T (nonfinite c) ⊎ T (le c (word 0))) (nonfinite c) (λ t q. inl (subst T (sym t) tt))
+    (λ t. cases (λ (x : Closed). x ≡ NotPositive → T (nonfinite c) ⊎ T (le c (word 0))) (le c (word 0)) (λ z q. inr (subst T (sym z) tt)) (λ z q. absurd (positive-not q)))
 
 starts1 : (setup : Setup) (parameters : Parameters) (q : Progress) (warm : List ℕ) (i : ℕ) → setup .effects ≡ 1 → q .warm ≡ warmOf warm 1 i → B.settings
     (B.fitOf setup parameters) q ≡ reads1 .settings setup parameters warm i
@@ -156,10 +169,11 @@ adds-one setup parameters p rows m e o q =
     one-term fit (p .search .best) rows m (sym (pick-no _ _ _ (one-not-two fit (fit-effects setup parameters ∙ e))) ∙ q)
 
 pub tells1 : Tells inner1 reads1 1
-unfolding warmStored pick B.closedBy B.conditional1
+unfolding warmStored pick B.closedBy B.conditional1 B.settings
 tells1 = record {
   starts = starts1;
   modes = λ fit p rows m e q. one-mode fit (p .search .best) rows m (sym (pick-no _ _ _ (ap (λ (n : ℕ). eqb n 2) e)) ∙ q);
+  flat = λ fit p rows e q. one-flat fit (p .search .best) rows (sym (pick-no _ _ _ (ap (λ (n : ℕ). eqb n 2) e)) ∙ q);
   stores = λ j m b warm o l. getD-set-same warm j (toBits binary64 (m .eta .first)) 0 (omega (arith, l)) ∙ o .first;
   others = λ setup parameters i j d eta warm. let x = getD-set-other warm j i (toBits binary64 (eta .first)) 0 d in cc;
   stays = λ i j d eta warm b h. getD-set-other warm j i (toBits binary64 (eta .first)) 0 d ∙ h;
@@ -243,6 +257,12 @@ two-term fit best rows m (inverted i det) q e =
     (product (B.precisionOf fit) (pair (best .eta .first) (best .eta .second)))
     +ᶠ log (fit .«det_omega» *ᶠ d)) (sym (det-is (B.curvatureOf fit best) i det q))
 
+two-flat : (fit : Fit) (best : Conditional2) (rows : ℕ) (i : Inverse) → inversePositive (B.curvatureOf fit best) ≡ i → B.closedWith fit best rows i ≡ NotPositive
+    → inversePositive (B.curvatureOf fit best) ≡ singular
+unfolding B.closedWith
+two-flat fit best rows singular q e = q
+two-flat fit best rows (inverted m det) q e = absurd (positive-not e)
+
 -- what an objective's fit does with two effects
 module _ (fit : Fit) (e : fit .effects ≡ 2) where
   advance-two : (p : Progress) (eta : Pair) (sums : Sums) → B.advanceBy fit p eta sums ≡ B.advance2 (B.settings2 fit p) p (B.conditional2 eta sums)
@@ -286,10 +306,11 @@ unfolding B.advance2
 moves-two s p c = movable2 s (p .«search_2d») (R2.advance s (p .«search_2d») c) c
 
 pub tells2 : Tells inner2 reads2 2
-unfolding warmStored pick B.closedBy B.closed2 B.conditional2
+unfolding warmStored pick B.closedBy B.closed2 B.conditional2 B.settings2
 tells2 = record {
   starts = starts2;
   modes = λ fit p rows m e q. with-mode fit (p .«search_2d» .best) rows m (inversePositive (B.curvatureOf fit (p .«search_2d» .best))) (sym (pick-yes _ _ _ (eq-eqb _ _ e)) ∙ q);
+  flat = λ fit p rows e q. two-flat fit (p .«search_2d» .best) rows (inversePositive (B.curvatureOf fit (p .«search_2d» .best))) refl (sym (pick-yes _ _ _ (eq-eqb _ _ e)) ∙ q);
   stores = λ j m b warm o l. (
     getD-set-other (set warm (2 * j) (toBits binary64 (m .eta .first))) (2 * j + 1) (2 * j) (toBits binary64 (m .eta .second)) 0 (λ e. omega (arith, e)) ∙ getD-set-same warm (2 * j)
         (toBits binary64 (m .eta .first)) 0 (omega (arith, l)) ∙ o .first,

@@ -56,7 +56,7 @@ module _ (R : Rules) (K : Claims R) (M : Machine) (Y : View R M) (Sound : M .Sta
     Closes s (on t) = ((x : Searched R) → Of x s → X .Stands x (mode-of s) t × (value t ≡ X .with-mode x (mode-of s) (value s))) × (Y .settings t ≡ here s (suc (Y .subject s))) × Carries [] t
     Closes s (halt a t) =
         (Y .means a ≡ finished → (x : Searched R) → Of x s → X .Stands x (mode-of s) t × X .Gives a (X .with-mode x (mode-of s) (value s)))
-        × ((n : ℕ) → Y .means a ≡ refused n → (x : Searched R) → Of x s → X .Remains n x (mode-of s) t)
+        × ((n : ℕ) → Y .means a ≡ refused n → (x : Searched R) → Of x s → X .Remains n x (mode-of s) (X .with-mode x (mode-of s) (value s)) t)
 
     pub record Wordly (E : M .State → Type 0) : Type 0 where
       pub sound : (s : M .State) → E s → Sound s
@@ -153,14 +153,20 @@ module _ (R : Rules) (K : Claims R) (M : Machine) (Y : View R M) (Sound : M .Sta
         unfolding Adds
         added v e = (m₀, refl, (value s, u .adds, e))
 
-        remained : (n : ℕ) (a : M .Answer) (t : M .State) → Keeps s t → ((y : Searched R) → Of y s → X .Remains n y m₀ t) → Left R M Y X a (refused n) t (told R done (Refused n) ∷ xs)
-        remained n a t kept v = (
-          subst (λ (i : ℕ). Stood R M Y X t i xs) (sym (u .is .number)) (stood-on s t kept (Y .subject s) (omega arith) xs (u .earlier)),
-          λ m q.
-              let same : m₀ ≡ m = cc in
-              subst (λ (c : R .Conditional). X .Remains n (told R done (Refused n)) c t) same
-              (v (told R done (Refused n)) (record { number = u .is .number; settings = u .is .settings; carries = u .is .carries })),
-        )
+        remained : (n : ℕ) (a : M .Answer) (t : M .State) → Keeps s t → ((y : Searched R) → Of y s → X .Remains n y m₀ (X .with-mode y m₀ (value s)) t)
+            → Left R M Y X a (refused n) t (told R done (Refused n) ∷ xs)
+        unfolding Adds
+        remained n a t kept v =
+            let y = told R done (Refused n) in (
+              subst (λ (i : ℕ). Stood R M Y X t i xs) (sym (u .is .number)) (stood-on s t kept (Y .subject s) (omega arith) xs (u .earlier)),
+              λ m q. (
+                X .with-mode y m₀ (value s),
+                (m₀, refl, (value s, subst (λ (i : ℕ). Adds R M Y X i xs (value s)) (sym (u .is .number)) (u .adds), refl)),
+                (let same : m₀ ≡ m = cc in
+                    subst (λ (c : R .Conditional). X .Remains n y c (X .with-mode y m₀ (value s)) t) same
+                    (v y (record { number = u .is .number; settings = u .is .settings; carries = u .is .carries }))),
+              ),
+            )
 
         -- a question, counted or not
         asks : (p : R .Point) (a : M .Answer) (t : M .State) → E t → Y .means a ≡ asked p → Keeps s t → Y .subject t ≡ Y .subject s → Y .settings t ≡ Y .settings s → M .awaits t ≡ true

@@ -378,7 +378,7 @@ module _ (setup : Setup) (counts : List ℕ) (observations : List Observation) (
     -- ---- a mode
     refuses : (n : ℕ) (place : Place) (work warm results : List ℕ)
         → (let q = B.refusedBy p (w .tally) n place in (k : ℕ) → k ≡ n → (x : Searched (I .rules)) → At-search x h
-        → shows .Remains k x (I .rules .best (I .searchOf p)) (held words (h .parameters)
+        → shows .Remains k x (I .rules .best (I .searchOf p)) (shows .with-mode x (I .rules .best (I .searchOf p)) (p .ofv)) (held words (h .parameters)
         (wholeOf words (q .progress) (q .tally) (w .kept) (pick (B.isOver (q .step)) (zeros (length work)) work) warm results)))
         → Ends h (closeTurn (ended (Halt (B.refusedBy p (w .tally) n place)) work warm results))
     unfolding Closes N.heldBy moved isOver B.refusedBy
@@ -413,9 +413,10 @@ module _ (setup : Setup) (counts : List ℕ) (observations : List Observation) (
 
         finishes : (squares : Float) → Ends h (closeTurn (ended (Halt (B.objectiveOf p (w .tally) sum squares)) (w .work) (stored m o) (written m o)))
         unfolding B.objectiveOf
-        finishes squares = both (λ (x : Halted). Ends h (closeTurn (ended (Halt x) (w .work) (stored m o) (written m o)))) (nonfinite sum)
-            (refuses 18 At.Nowhere (w .work) (stored m o) (written m o) (λ k e x i. inr (inr (e, in-words m o wants x i _ _ _ same))))
-            (unfold Closes N.heldBy moved isOver in (λ e x i. (in-words m o wants x i _ _ _ same, adds-up m o wants x i positive), λ k e. absurd (let z : _≡_ {A = ℕ} 0 1 = cc in omega arith)))
+        finishes squares = cases (λ (x : Halted). Ends h (closeTurn (ended (Halt x) (w .work) (stored m o) (written m o)))) (nonfinite sum)
+            (λ t. refuses 18 At.Nowhere (w .work) (stored m o) (written m o)
+            (λ k e x i. inr (inr (e, in-words m o wants x i _ _ _ same, subst (λ (v : Float). T (nonfinite v)) (adds-up m o wants x i positive) (subst T (sym t) tt)))))
+            (λ t. unfold Closes N.heldBy moved isOver in (λ e x i. (in-words m o wants x i _ _ _ same, adds-up m o wants x i positive), λ k e. absurd (let z : _≡_ {A = ℕ} 0 1 = cc in omega arith)))
 
         next-or-end : Ends h (closeTurn (ended (nextSubject fit counts p (w .tally) m rows (stored m o) (w .work) .value)
             (nextSubject fit counts p (w .tally) m rows (stored m o) (w .work) .work) (stored m o) (written m o)))
@@ -425,7 +426,8 @@ module _ (setup : Setup) (counts : List ℕ) (observations : List Observation) (
 
     mode-ends : B.wantedBy fit p ≡ Wants.Mode → (c : Closed) → B.closedBy fit p rows ≡ c → Ends h (closeTurn (closing fit counts p (w .tally) rows (w .work) (w .warm) (w .results) c))
     unfolding closing
-    mode-ends wants NotPositive q = refuses 16 (At.Subject (p .subject)) (w .work) (w .warm) (w .results) (λ k e x i. inl e)
+    mode-ends wants NotPositive q = refuses 16 (At.Subject (p .subject)) (w .work) (w .warm) (w .results)
+        (λ k e x i. inl (e, subst (λ (st : I .rules .Settings). L .Flat st (I .rules .best (I .searchOf p))) (sym (i .settings)) (X .flat fit p rows effects-are q)))
     mode-ends wants (Positive m) q =
         let o = X .modes fit p rows m effects-are q in
         cases (λ (x : Ended). Ends h (closeTurn x)) (isSameGrid (w .work) rows) (next-or-end m o wants q)

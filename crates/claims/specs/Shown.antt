@@ -9,15 +9,16 @@ use Prim.Native.Nat.{ℕ, zero, suc, _+_, _*_, _<_}
 use lib.Dec.{T}
 use lib.IntN.{pos}
 use lib.ListN.{length, getD}
-use lib.Ieee.{Float, binary64, fits, toBits, ofInt, eq}
+use lib.Ieee.{Float, binary64, fits, toBits, ofInt, eq, le}
 use Rattle.float64.specs.Arithmetic.{_+ᶠ_, _-ᶠ_, _*ᶠ_, _/ᶠ_, word, one, two}
-use Rattle.float64.specs.Float64.{clamp}
+use Rattle.float64.specs.Float64.{clamp, nonfinite}
 use Rattle.float64.specs.Pick.{pick}
 use Rattle.libm.specs.Log.{log as ln}
 use Rattle.matrix.specs.Matrix.{pair, entry, determinant, Inverse, some, none, inversePositive}
 use Rattle.likelihood.specs.Terms.{log2pi}
 use Rattle.likelihood.specs.declared.population_focei.Observation.{Observation}
 use Rattle.cache.specs.Cache.{rowWords}
+use Rattle.histories.specs.Terms2.{IsFlat}
 use Rattle.admission.specs.declared.Setup.{Setup}
 use Rattle.admission.specs.declared.Parameters.{Parameters}
 use Rattle.admission.specs.declared.Lent.{Lent}
@@ -42,12 +43,14 @@ module _ (R : Rules) (M : Machine) (Y : View R M) where
     pub Settles : M .Call → M .State → ℕ → R .Settings → Type 0
     -- the state is of the objective that this call began
     pub Runs : M .Call → M .State → Type 0
-    -- a search's mode stands in the words; and what a refusal with this number leaves of it there
-    pub Stands : Searched R → R .Conditional → M .State → Type 0
-    pub Remains : ℕ → Searched R → R .Conditional → M .State → Type 0
-    -- the objective: before the first subject, with one mode more, and the answer that gives it
+    -- the objective: before the first subject
     pub Value : Type 0
     pub nothing : Value
+    -- a search's mode stands in the words; and what a refusal with this number means and leaves of it there, where the objective with this
+    -- mode would be that
+    pub Stands : Searched R → R .Conditional → M .State → Type 0
+    pub Remains : ℕ → Searched R → R .Conditional → Value → M .State → Type 0
+    -- the objective with one mode more, and the answer that gives it
     pub with-mode : Searched R → R .Conditional → Value → Value
     pub Gives : M .Answer → Value → Type 0
 
@@ -100,7 +103,9 @@ module _ (R : Rules) (M : Machine) (Y : View R M) where
     Left a (asked p) t [] = ⊥
     Left a (asked p) t (x ∷ xs) = Stood t (x .subject) xs
     Left a (refused n) t [] = ⊥
-    Left a (refused n) t (x ∷ xs) = Stood t (x .subject) xs × ((m : R .Conditional) → x .end ≡ in-mode m → W .Remains n x m t)
+    Left a (refused n) t (x ∷ xs) =
+        Stood t (x .subject) xs
+        × ((m : R .Conditional) → x .end ≡ in-mode m → (v : W .Value) × Adds (suc (x .subject)) (x ∷ xs) v × W .Remains n x m v t)
 
     -- one call more, after any list of calls; `o` stands for the one under way before the first of them, and does not matter
     pub record Shown (o : Objective) (s₀ : M .State) (acts : List (Act M)) : Type 0 where
@@ -139,6 +144,8 @@ pub record Reads (I : Inner) : Type 1 where
   -- the place among a search's trials of the one at eta zero, and that it is there
   pub zero-at : ℕ
   pub Zero : I .rules .Conditional → Type 0
+  -- 16: the curvature at it is not positive
+  pub Flat : I .rules .Settings → I .rules .Conditional → Type 0
   -- what a mode adds to the objective, of a subject with n observations
   pub term : Setup → I .rules .Settings → ℕ → I .rules .Conditional → Float
 
@@ -159,6 +166,8 @@ reads1 = record {
   -- the ninth point of the grid
   zero-at = 8;
   Zero = λ c. c .eta ≡ word 0;
+  -- 1 / omega + information is not finite, or at most 0
+  Flat = λ s m. let curvature = one /ᶠ s .omega +ᶠ m .information in T (nonfinite curvature) ⊎ T (le curvature (word 0));
   -- 2 nll - n log 2π + eta² / omega + log (omega (1 / omega + information))
   term = λ setup s n m.
       two *ᶠ m .nll -ᶠ ofInt binary64 (pos n) *ᶠ log2pi +ᶠ m .eta *ᶠ m .eta /ᶠ s .omega
@@ -194,6 +203,8 @@ reads2 = record {
   -- the first point
   zero-at = 0;
   Zero = λ c. c .eta ≡ record { first = word 0; second = word 0 };
+  -- precision + information has no inverse
+  Flat = IsFlat;
   -- 2 nll - n log 2π + eta · (precision eta) + log (det omega · det (precision + information))
   term = λ setup s n m.
       let x = m .eta .first in
@@ -269,13 +280,14 @@ module _ (setup : Setup) (counts : List ℕ) (observations : List Observation) (
   GivenBy (Answer.Finished ofv) v = ofv ≡ v
   GivenBy (Answer.Refused number place) v = ⊥
 
-  -- 16 leaves no mode, 17 the warm start, 18 all of it
+  -- 16 is of the curvature, and leaves no mode; 17 is of the rows, and leaves the warm start; 18 is of the objective, and leaves all of it
   abbrev pub showing : Words (I .rules) (session words setup counts observations) (view words setup counts observations I)
   showing = record {
     Settles = SettledBy;
     Runs = RunBy;
     Stands = InWords;
-    Remains = λ n x m h. (n ≡ 16) ⊎ (((n ≡ 17) × Apart x m h) ⊎ ((n ≡ 18) × InWords x m h));
+    Remains = λ n x m v h.
+        ((n ≡ 16) × L .Flat (x .settings) m) ⊎ (((n ≡ 17) × Apart x m h) ⊎ ((n ≡ 18) × InWords x m h × T (nonfinite v)));
     Value = Float;
     nothing = word 0;
     with-mode = λ x m v. v +ᶠ L .term setup (x .settings) (getD counts (x .subject) 0) m;
