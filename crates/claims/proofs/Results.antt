@@ -30,14 +30,14 @@ unfolding fittedFrom fittedRow
 fitted-behind zero at work rows i results x l = refl
 fitted-behind (suc n) at work rows i results x l =
     fitted-behind n at work rows (i + 1) _ x (omega (arith, l))
-    ∙ past-two results (at + 2 * i) (at + 2 * i + 1) (getD work (block rows 0 + rowWords * i) 0) (getD work (block rows 1 + rowWords * i) 0) x (λ e. omega (arith, e, l)) (λ e. omega (arith, e, l))
+    ∙ past-two results (at + 2 * i) (at + 2 * i + 1) _ _ x (λ e. omega (arith, e, l)) (λ e. omega (arith, e, l))
 
 fitted-past : (n at : ℕ) (work : List ℕ) (rows i : ℕ) (results : List ℕ) (x : ℕ) → at + 2 * (i + n) ≤ x → getD (fittedFrom n at work rows i results) x 0 ≡ getD results x 0
 unfolding fittedFrom fittedRow
 fitted-past zero at work rows i results x l = refl
 fitted-past (suc n) at work rows i results x l =
     fitted-past n at work rows (i + 1) _ x (omega (arith, l))
-    ∙ past-two results (at + 2 * i) (at + 2 * i + 1) (getD work (block rows 0 + rowWords * i) 0) (getD work (block rows 1 + rowWords * i) 0) x (λ e. omega (arith, e, l)) (λ e. omega (arith, e, l))
+    ∙ past-two results (at + 2 * i) (at + 2 * i + 1) _ _ x (λ e. omega (arith, e, l)) (λ e. omega (arith, e, l))
 
 module _ (at : ℕ) (work : List ℕ) (rows : ℕ) where
   -- the two words of an observation: its predictions at eta zero and at the mode
