@@ -16,7 +16,7 @@ use Rattle.matrix.specs.declared.Pair.{Pair}
 use Rattle.likelihood.specs.declared.population_focei.Observation.{Observation}
 use Rattle.cache.specs.Cache.{Cache, half, rowWords}
 use Rattle.cache.specs.Claim.{Room}
-use Rattle.cache.specs.Kept.{Entry, Evaluated, entryFor, dropTo, appended, lookup, wordsFrom, Stands}
+use Rattle.cache.specs.Kept.{Entry, Evaluated, entryFor, cachedRows, dropTo, appended, lookup, wordsFrom, Stands}
 use Rattle.cache.proofs.Run.{refinement}
 use Rattle.evaluation.specs.Claim.{Evaluates as Ends, replyRows}
 use Rattle.evaluation.specs.Subject.{Evaluating, finish}
@@ -36,7 +36,7 @@ use Rattle.subjects.specs.declared.Fit.{Fit}
 use Rattle.subjects.specs.declared.Progress.{Progress}
 use Rattle.subjects.specs.declared.Step.the-variants as Answers
 use Rattle.sessions.specs.Machine.{call, set, Act, run}
-use Rattle.population.specs.Kept.{words}
+use Rattle.population.specs.Kept.{words, orderRows}
 use Rattle.population.specs.Population.{rowsOf, answered, receive, take as takes}
 use Rattle.session.specs.Session as N
 use Rattle.session.specs.Session.{Held, Call, objective, reply, failure}
@@ -52,7 +52,7 @@ use Rattle.claims.proofs.Placed.{rows-exact, Going, observations-lent}
 use Rattle.claims.proofs.Searches.{Suits, suits1, suits2}
 use Rattle.claims.proofs.Session.{some-room}
 use Rattle.claims.proofs.Standing.{Standing, fit-effects, fit-k}
-use Rattle.claims.proofs.Stores.{words-trusted, kept-few, not-found, cleared-words}
+use Rattle.claims.proofs.Stores.{words-trusted, kept-few, kept-rows, not-found, cleared-words}
 use Rattle.claims.proofs.Asked.{fit-given, Values, Good, Leaves, Left, over, objectives, failures, unawaited, called}
 
 -- ---- an awaited reply
@@ -267,10 +267,19 @@ module _ (setup : Setup) (counts : List ℕ) (observations : List Observation) (
   set-keeps warm l st = cases (λ (g : Held words). Keeping setup counts observations g l) (h .whole .progress .awaits) (λ e. st)
       (λ e. cases (λ (g : Held words). Keeping setup counts observations g l) (eqb (length warm) (length (h .whole .warm))) (λ e. st) (λ e. st))
 
+  rows-kept : (l : List Entry) → Keeping setup counts observations h l → h .whole .tally .«cached_rows» .0 ≡ cachedRows l
+  unfolding orderRows
+  rows-kept l st = g .rows ∙ (let e = refinement .rows (h .whole .kept .words) (setup .k) (h .whole .kept .order) l st in omega (arith, e))
+
+  rows-few : h .whole .tally .«cached_rows» .0 ≤ setup .k
+  rows-few = let e = g .rows in let l = kept-rows (setup .k) (room .some) (room .most) (s .count) (h .whole .kept) (s .trust) in omega (arith, e, l)
+
   evaluates-so : Evaluates setup counts observations h
   evaluates-so = record {
     keeps = λ c l st. every c .keeps l st;
     sets = set-keeps;
+    rows = rows-kept;
+    few = rows-few;
     asks = λ c eta v e. let x = asks-of c eta v e in (x .first, x .second);
   }
 

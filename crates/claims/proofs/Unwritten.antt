@@ -1,4 +1,4 @@
--- A call writes the words of the subjects whose mode it reaches, and of no other. Assumes nothing.
+-- A call writes the words of the subjects whose mode it reaches, and no other. Assumes nothing.
 use mathlib.Core.Path.{_≡_, refl, sym, ap, subst, _∙_}
 use mathlib.Core.Bool.{false}
 use mathlib.Core.List.{List}
@@ -48,7 +48,7 @@ use Rattle.session.specs.Session as N
 use Rattle.session.specs.Session.{Held, held, Call, objective, reply, failure}
 use Rattle.claims.specs.Inner.{Inner, inner1, inner2}
 use Rattle.claims.specs.Shown.{before}
-use Rattle.claims.specs.Unwritten.{Stays, StaysAt, Unwritten, EveryUnwritten}
+use Rattle.claims.specs.Unwritten.{Stays, StaysAt, StaysBeyond, Unwritten, EveryUnwritten}
 use Rattle.claims.proofs.Accepted.{Accepts, rows-within, accepts}
 use Rattle.claims.proofs.Always.{After}
 use Rattle.claims.proofs.LetIn.{both-hold}
@@ -68,9 +68,9 @@ warm-past effects j eta warm x (inr e) =
     subst (λ (n : ℕ). n * suc j ≤ x → getD (warmStored n j eta warm) x 0 ≡ getD warm x 0) (sym e)
     (λ l. past-two warm (2 * j) (2 * j + 1) (toBits binary64 (eta .first)) (toBits binary64 (eta .second)) x (λ q. omega (arith, q, l)) (λ q. omega (arith, q, l)))
 
-effects-more : (i n : ℕ) → n * i ≤ n * suc i
-effects-more i zero = omega arith
-effects-more i (suc n) = let h = effects-more i n in omega (arith, h)
+effects-more : (i k n : ℕ) → i ≤ k → n * i ≤ n * k
+effects-more i k zero l = omega arith
+effects-more i k (suc n) l = let h = effects-more i k n l in omega (arith, h, l)
 
 module _ (setup : Setup) (counts : List ℕ) where
   before-next : (i k : ℕ) → i ≤ k → before counts i ≤ before counts k
@@ -78,12 +78,15 @@ module _ (setup : Setup) (counts : List ℕ) where
       ⊎-elim (λ (m : i < k). let h = before-later counts i k m in omega (arith, h)) (λ (m : k ≤ i). let e : i ≡ k = omega (arith, l, m) in rw e (omega arith)) (split i k)
 
   -- what stays from a subject on stays from a later one on
-  later : (i k u v : ℕ) (h t : Held words) → i ≤ u → setup .effects * k ≤ setup .effects * v → Stays setup counts i k h t → Stays setup counts u v h t
+  later : (i k u v : ℕ) (h t : Held words) → i ≤ u → k ≤ v → Stays setup counts i k h t → Stays setup counts u v h t
   later i k u v h t l m s = record {
     results = λ x a b. s .results x (omega (arith, l, a)) b;
     predictions = λ x a. s .predictions x (let n = before-next i u l in omega (arith, a, n));
-    warm = λ x a. s .warm x (omega (arith, m, a));
+    warm = λ x a. s .warm x (let n = effects-more k v (setup .effects) m in omega (arith, n, a));
   }
+
+  beyond : (i : ℕ) (h t : Held words) → i ≤ length counts → Stays setup counts i i h t → StaysBeyond setup counts h t
+  beyond i h t l s = later i i (length counts) (length counts) h t l l s
 
   -- the words of the host's results and warm starts are the same
   pub record Same (h t : Held words) : Type 0 where
@@ -101,13 +104,13 @@ module _ (setup : Setup) (counts : List ℕ) where
   all-stay i k h = record { results = λ x a b. refl; predictions = λ x a. refl; warm = λ x a. refl }
 
   refused-at : (number i : ℕ) (h t : Held words) → Stays setup counts i i h t → StaysAt setup counts number i h t
-  refused-at number i h t s = both (λ (k : ℕ). Stays setup counts i k h t) (eqb number 17) (later i i i (suc i) h t (omega arith) (effects-more i (setup .effects)) s) s
+  refused-at number i h t s = both (λ (k : ℕ). Stays setup counts i k h t) (eqb number 17) (later i i i (suc i) h t (omega arith) (omega arith) s) s
 
   -- an answer is of the subject of the state h
   Answers-at : Held words → Step → Held words → Type 0
   Answers-at h (Answers.Asked eta v) t = t .whole .progress .subject ≡ h .whole .progress .subject
-  Answers-at h (Answers.Finished ofv) t = Unit
-  Answers-at h (Answers.Refused number At.Nowhere) t = Unit
+  Answers-at h (Answers.Finished ofv) t = ⊥
+  Answers-at h (Answers.Refused number At.Nowhere) t = ⊥
   Answers-at h (Answers.Refused number (At.Subject i)) t = i ≡ h .whole .progress .subject
   Answers-at h (Answers.Refused number (At.Observation i n)) t = i ≡ h .whole .progress .subject
 
@@ -126,8 +129,8 @@ module _ (setup : Setup) (counts : List ℕ) where
       where
         unwritten : (x : Step) → Answers-at h x t → Unwritten setup counts ref x t
         unwritten (Answers.Asked eta v) q = subst (λ (i : ℕ). Stays setup counts i i ref t) (sym q) (stays _ _ ref h t e f)
-        unwritten (Answers.Finished ofv) q = tt
-        unwritten (Answers.Refused number At.Nowhere) q = tt
+        unwritten (Answers.Finished ofv) q = absurd q
+        unwritten (Answers.Refused number At.Nowhere) q = absurd q
         unwritten (Answers.Refused number (At.Subject i)) q = refused-at number i ref t (subst (λ (i : ℕ). Stays setup counts i i ref t) (sym q) (stays _ _ ref h t e f))
         unwritten (Answers.Refused number (At.Observation i n)) q = refused-at number i ref t (subst (λ (i : ℕ). Stays setup counts i i ref t) (sym q) (stays _ _ ref h t e f))
 
@@ -190,7 +193,7 @@ module _ (setup : Setup) (counts : List ℕ) where
         warm-stays x l =
             subst (λ (n : ℕ). getD (warmStored n j (m .eta) (w .warm)) x 0 ≡ getD (w .warm) x 0) (sym (fit-effects setup (h .parameters)))
             (warm-past (setup .effects) j (m .eta) (w .warm) x (a .effects) l)
-            ∙ f .warm x (let n = effects-more j (setup .effects) in omega (arith, l, n))
+            ∙ f .warm x (let n = effects-more j (suc j) (setup .effects) (omega arith) in omega (arith, l, n))
 
         small : rows ≤ 100000
         small = rows-within a j (g .place .subject) .1
@@ -218,7 +221,10 @@ module _ (setup : Setup) (counts : List ℕ) where
 
         ends : (ofv squares : Float) → Ends (Halt (B.objectiveOf p (w .tally) ofv squares)) stored written
         unfolding Ends B.objectiveOf B.refusedBy
-        ends ofv squares = both (λ (x : Halted). Ends (Halt x) stored written) _ (λ work. tt) (λ work. tt)
+        ends ofv squares = both (λ (x : Halted). Ends (Halt x) stored written) _ (λ work. last work) (λ work. last work)
+          where
+            last : {q : Progress} (work : List ℕ) → StaysBeyond setup counts ref (to q (w .tally) work stored written)
+            last {q} work = beyond (suc j) ref _ (g .place .subject) (next-stays q work)
 
         next-subject : raised j 1 ≡ suc j
         next-subject = let q = g .place .subject in mod-eq-of-lt (omega (arith, q, a .most)) ∙ omega arith
@@ -266,7 +272,7 @@ module _ (setup : Setup) (counts : List ℕ) where
 
       loops : (n : ℕ) (h : Held words) → Goes h → Rest h → Left (loop (N.turnHeld words setup counts) spent n h)
       unfolding loop
-      loops zero h g f = tt
+      loops zero h g f = beyond _ ref h (let l = g .place .subject in omega (arith, l)) f
       loops (suc n) h g f = after (N.turnHeld words setup counts h) _ (turns-going setup counts observations lent a h g) (turns-follow observations lent a h g f) (loops n)
 
   -- ---- entries: they write no result and no warm start
@@ -280,8 +286,8 @@ module _ (setup : Setup) (counts : List ℕ) where
     unfolding Enters Follows
     all-follow (on t) e = stays _ _ h h t e (all-stay _ _ h)
     all-follow (halt (Answers.Asked eta v) t) e = stays _ _ h h t e (all-stay _ _ h)
-    all-follow (halt (Answers.Finished ofv) t) e = tt
-    all-follow (halt (Answers.Refused number At.Nowhere) t) e = tt
+    all-follow (halt (Answers.Finished ofv) t) e = stays _ _ h h t e (all-stay _ _ h)
+    all-follow (halt (Answers.Refused number At.Nowhere) t) e = stays _ _ h h t e (all-stay _ _ h)
     all-follow (halt (Answers.Refused number (At.Subject i)) t) e = stays _ _ h h t e (all-stay _ _ h)
     all-follow (halt (Answers.Refused number (At.Observation i n)) t) e = stays _ _ h h t e (all-stay _ _ h)
 

@@ -2,7 +2,7 @@
 -- evaluation is kept under its point, without the prior.
 use mathlib.Core.Path.{_≡_}
 use mathlib.Core.List.{List, []}
-use Prim.Native.Nat.{ℕ, _<_}
+use Prim.Native.Nat.{ℕ, _≤_, _<_}
 use lib.Dec.{T, eqb}
 use lib.ListN.{length, getD, take, drop}
 use lib.Ieee.{binary64, fits, toBits}
@@ -12,7 +12,7 @@ use Rattle.libm.specs.Exp.{exp}
 use Rattle.matrix.specs.declared.Pair.{Pair}
 use Rattle.likelihood.specs.declared.population_focei.Observation.{Observation}
 use Rattle.cache.specs.Cache.{Cache}
-use Rattle.cache.specs.Kept.{Entry, Evaluated, appended, Stands}
+use Rattle.cache.specs.Kept.{Entry, Evaluated, cachedRows, appended, Stands}
 use Rattle.evaluation.specs.Claim.{replyRows}
 use Rattle.evaluation.specs.Subject.{finish}
 use Rattle.evaluation.specs.declared.AdditiveSd.{AdditiveSd}
@@ -106,6 +106,9 @@ module _ (setup : Setup) (counts : List ℕ) (observations : List Observation) w
     pub keeps : (c : Call) (l : List Entry) → Keeping h l → Keeping (call M c h .state) (keptBy c h l)
     -- what the host sets between calls alters none of them
     pub sets : (warm : List ℕ) (l : List Entry) → Keeping h l → Keeping (set M warm h) l
+    -- the tally's kept rows are those of the list, and at most K
+    pub rows : (l : List Entry) → Keeping h l → h .whole .tally .«cached_rows» .0 ≡ cachedRows l
+    pub few : h .whole .tally .«cached_rows» .0 ≤ setup .k
     -- a question's individual values: theta · exp(eta)
     pub asks : (c : Call) (eta individual : Pair) → call M c h .answer ≡ Asked eta individual
         → let theta = call M c h .state .parameters .theta in

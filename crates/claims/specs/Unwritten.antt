@@ -1,4 +1,4 @@
--- What a call leaves alone, in every session: the words of the subjects whose mode it does not reach.
+-- What a call leaves alone, in every session: the words of the subjects whose mode it does not reach, and those beyond the last subject's.
 use mathlib.Core.Path.{_≡_}
 use mathlib.Core.List.{List}
 use Prim.Native.Nat.{ℕ, suc, _+_, _*_, _≤_, _<_}
@@ -29,11 +29,15 @@ module _ (setup : Setup) (counts : List ℕ) where
   abbrev pub StaysAt : ℕ → ℕ → Held words → Held words → Type 0
   StaysAt number i h t = Stays i (pick (eqb number 17) (suc i) i) h t
 
+  -- the words beyond those of the last subject
+  abbrev pub StaysBeyond : Held words → Held words → Type 0
+  StaysBeyond h t = Stays (length counts) (length counts) h t
+
   -- from the state h to t, with this answer
   abbrev pub Unwritten : Held words → Step → Held words → Type 0
   Unwritten h (Asked eta individual) t = let i = t .whole .progress .subject in Stays i i h t
-  Unwritten h (Finished ofv) t = Unit
-  Unwritten h (Refused number Nowhere) t = Unit
+  Unwritten h (Finished ofv) t = StaysBeyond h t
+  Unwritten h (Refused number Nowhere) t = StaysBeyond h t
   Unwritten h (Refused number (Subject i)) t = StaysAt number i h t
   Unwritten h (Refused number (AtObservation i n)) t = StaysAt number i h t
 
