@@ -15,13 +15,17 @@ use Rattle.session.specs.Session.{opened, opens, session}
 use Rattle.claims.specs.Inner.{Inner, inner1, inner2, view}
 
 module _ (S : Store) (setup : Setup) (counts : List ℕ) (observations : List Observation) where
-  -- the session that the setup opened, whatever its calls. eta_bound is a float of the format, and max_evaluations a u32, as every value of the code is.
+  -- the session that the setup opened, whatever its calls. eta_bound is a float of the format, and max_evaluations a u32, as every value
+  -- of the code is.
   abbrev pub Holds3 : Inner → Type 0
-  Holds3 I = T (fits binary64 (setup .«eta_bound»)) → setup .«max_evaluations» < 4294967296 → (lent : Lent) (results : List ℕ) → opens S setup counts observations lent ≡ Accepted
-      → (acts : List (Act (session S setup counts observations)))
-      → Demand3 (I .rules) (I .claims) (session S setup counts observations) (view S setup counts observations I) (opened S setup counts lent results) acts
+  Holds3 I = T (fits binary64 (setup .«eta_bound»)) → setup .«max_evaluations» < 4294967296
+      → (lent : Lent) (results : List ℕ) → opens S setup counts observations lent ≡ Accepted
+      → let M = session S setup counts observations in
+      (acts : List (Act M))
+      → Demand3 (I .rules) (I .claims) M (view S setup counts observations I) (opened S setup counts lent results) acts
 
 -- with one effect, and with two, for the kept evaluations in lent words
 abbrev pub EverySession : Type 0
 EverySession = (setup : Setup) (counts : List ℕ) (observations : List Observation)
-    → (setup .effects ≡ 1 → Holds3 words setup counts observations inner1) × (setup .effects ≡ 2 → Holds3 words setup counts observations inner2)
+    → (setup .effects ≡ 1 → Holds3 words setup counts observations inner1)
+    × (setup .effects ≡ 2 → Holds3 words setup counts observations inner2)

@@ -1,5 +1,5 @@
--- What a session lets in, wherever it stands: a reply or a failure that is awaited, and a new objective while none is. None of these calls gets 19, and 1 to 5 refuse nothing but a new objective,
--- for its own parameters.
+-- What a session lets in, wherever it stands: a reply or a failure that is awaited, and a new objective while none is. None of these
+-- calls gets 19, and 1 to 5 refuse nothing but a new objective, for its own parameters.
 use mathlib.Core.Path.{_≡_}
 use mathlib.Core.Bool.{true, false}
 use mathlib.Core.List.{List}
@@ -44,21 +44,27 @@ module _ (setup : Setup) (counts : List ℕ) (observations : List Observation) w
     pub placed : isStanding setup counts (length observations) (h .whole .tally) (h .whole .progress) ≡ true
     -- 1 to 5 of the objective's own parameters; of others only 2 and 3 can refuse
     pub accepted : admission (h .parameters) h ≡ Accepted
-    pub others : (parameters : Parameters) → isNoOmega (withParameters setup parameters) ≡ false → isNoShape (withParameters setup parameters) ≡ false → admission parameters h ≡ Accepted
+    pub others : (parameters : Parameters) → isNoOmega (withParameters setup parameters) ≡ false
+        → isNoShape (withParameters setup parameters) ≡ false → admission parameters h ≡ Accepted
     -- a reply is awaited: it is evaluated at the point that was asked for, and its failure ends the objective with 8
-    pub replies : h .whole .progress .awaits ≡ true → (said : List ℕ) → enterReply words setup counts observations said h ≡ answered words setup counts observations said (wantedPoint h) h
+    pub replies : h .whole .progress .awaits ≡ true → (said : List ℕ)
+        → enterReply words setup counts observations said h ≡ answered words setup counts observations said (wantedPoint h) h
     pub fails : h .whole .progress .awaits ≡ true
-        → enterFailure words setup counts (length observations) (allChecked setup counts observations) h ≡ over words setup counts 8 (Subject (h .whole .progress .subject)) h
+        → enterFailure words setup counts (length observations) (allChecked setup counts observations) h
+        ≡ over words setup counts 8 (Subject (h .whole .progress .subject)) h
     -- none is awaited: a new objective begins where 1 to 5 pass
     pub begins : h .whole .progress .awaits ≡ false → (parameters : Parameters)
         → enterObjective words setup counts (length observations) (allChecked setup counts observations) parameters h
         ≡ whenAdmitted words setup counts h (on (begun words setup counts parameters (h .whole))) (admission parameters h)
     -- and no answer to any of these is 19
-    pub never19 : (c : Call) → Ruled c h → (place : Place) → call (session words setup counts observations) c h .answer ≡ Refused 19 place → ⊥
+    pub never19 : (c : Call) → Ruled c h → (place : Place)
+        → call (session words setup counts observations) c h .answer ≡ Refused 19 place → ⊥
 
--- after any list of calls, in the session that an accepted setup opened: `lent` counts the observations and the results that are there. eta_bound is a float of the format, and max_evaluations a
--- u32, as every value of the code is.
+-- after any list of calls, in the session that an accepted setup opened: `lent` counts the observations and the results that are there.
+-- eta_bound is a float of the format, and max_evaluations a u32, as every value of the code is.
 abbrev pub EveryCall : Type 0
-EveryCall = (setup : Setup) (counts : List ℕ) (observations : List Observation) → T (fits binary64 (setup .«eta_bound»)) → setup .«max_evaluations» < 4294967296
-    → (lent : Lent) (results : List ℕ) → length observations ≡ lent .observations → length results ≡ lent .results → opens words setup counts observations lent ≡ Accepted
-    → (acts : List (Act (session words setup counts observations))) → LetIn setup counts observations (run (session words setup counts observations) (opened words setup counts lent results) acts)
+EveryCall = (setup : Setup) (counts : List ℕ) (observations : List Observation) → T (fits binary64 (setup .«eta_bound»))
+    → setup .«max_evaluations» < 4294967296 → (lent : Lent) (results : List ℕ) → length observations ≡ lent .observations
+    → length results ≡ lent .results → opens words setup counts observations lent ≡ Accepted
+    → let M = session words setup counts observations in
+    (acts : List (Act M)) → LetIn setup counts observations (run M (opened words setup counts lent results) acts)

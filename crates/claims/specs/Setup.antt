@@ -5,6 +5,7 @@ use Prim.Native.Nat.{ℕ}
 use lib.ListN.{length}
 use Rattle.likelihood.specs.declared.population_focei.Observation.{Observation}
 use Rattle.admission.specs.declared.Admission.the-variants.{Accepted}
+use Rattle.admission.specs.declared.Lent.{Lent}
 use Rattle.admission.specs.declared.Setup.{Setup}
 use Rattle.subjects.specs.declared.Tally.{Tally}
 use Rattle.population.specs.Kept.{words}
@@ -18,12 +19,17 @@ module _ (setup : Setup) (counts : List ℕ) (observations : List Observation) (
   abbrev pub setting : Setting
   setting = openedBy setup counts (length observations) (allChecked setup counts observations) tally cache work warm results
 
+  -- how much is lent
+  abbrev pub lent : Lent
+  lent = lentBy (length observations) (length cache) (length work) (length warm) (length results)
+
   -- 1 to 5 pass, and what setup gives back is the state that the session begins with
   pub record Opens (s : State) : Type 0 where
-    pub passes : opens words setup counts observations (lentBy (length observations) (length cache) (length work) (length warm) (length results)) ≡ Accepted
+    pub passes : opens words setup counts observations lent ≡ Accepted
     pub begins : heldOf s (setting .begun .tally) (setting .cache) (setting .work) (setting .warm) results
-        ≡ opened words setup counts (lentBy (length observations) (length cache) (length work) (length warm) (length results)) results
+        ≡ opened words setup counts lent results
 
 abbrev pub EverySetup : Type 0
-EverySetup = (setup : Setup) (counts : List ℕ) (observations : List Observation) (tally : Tally) (cache work warm results : List ℕ) (s : State)
-    → setting setup counts observations tally cache work warm results .begun .opening ≡ Opened s → Opens setup counts observations tally cache work warm results s
+EverySetup = (setup : Setup) (counts : List ℕ) (observations : List Observation) (tally : Tally) (cache work warm results : List ℕ)
+    → (s : State) → setting setup counts observations tally cache work warm results .begun .opening ≡ Opened s
+    → Opens setup counts observations tally cache work warm results s

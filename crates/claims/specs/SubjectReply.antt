@@ -1,5 +1,5 @@
--- A reply that lends the observations of the awaited subject alone is the reply that lends all of them, where the latter is let in: where the state's positions are right, and 1 to 5 pass of all that
--- there is. It is so for any words and any state.
+-- A reply that lends the observations of the awaited subject alone is the reply that lends all of them, where the latter is let in: where
+-- the state's positions are right, and 1 to 5 pass of all that there is. It is so for any words and any state.
 use mathlib.Core.Path.{_≡_}
 use mathlib.Core.Bool.{true}
 use mathlib.Core.List.{List}
@@ -29,15 +29,24 @@ abbrev pub ownOf : List ℕ → List Observation → State → List Observation
 ownOf counts observations s = take (rowsOf counts (s .progress .subject)) (drop (s .progress .first) observations)
 
 abbrev pub EverySubjectReply : Type 0
-EverySubjectReply = (setup : Setup) (counts : List ℕ) (observations : List Observation) (tally : Tally) (state answer cache work warm results : List ℕ) (said : List ℕ) (s : State) → loadedState state ≡ given s
+EverySubjectReply = (setup : Setup) (counts : List ℕ) (observations : List Observation) (tally : Tally)
+    → (state answer cache work warm results : List ℕ) (said : List ℕ) (s : State) → loadedState state ≡ given s
     → isStanding setup counts (length observations) tally (s .progress) ≡ true
-    → checks (withParameters setup (s .parameters)) counts (lentBy (length observations) (length cache) (length work) (length warm) (length results)) (allChecked setup counts observations) ≡ Accepted
-    → subjectReplyOver setup counts (ownOf counts observations s) tally state answer cache work warm results said ≡ callOver setup counts observations tally state answer cache work warm results (reply said)
+    → checks (withParameters setup (s .parameters)) counts
+    (lentBy (length observations) (length cache) (length work) (length warm) (length results)) (allChecked setup counts observations)
+    ≡ Accepted
+    → subjectReplyOver setup counts (ownOf counts observations s) tally state answer cache work warm results said
+    ≡ callOver setup counts observations tally state answer cache work warm results (reply said)
 
--- so in every session that an accepted setup opened, wherever it stands: the words that are lent are those of the state that its calls have come to
+-- so in every session that an accepted setup opened, wherever it stands: the words that are lent are those of the state that its calls
+-- have come to
 abbrev pub InEverySession : Type 0
-InEverySession = (setup : Setup) (counts : List ℕ) (observations : List Observation) → T (fits binary64 (setup .«eta_bound»)) → setup .«max_evaluations» < 4294967296
-    → (lent : Lent) (before : List ℕ) → length observations ≡ lent .observations → length before ≡ lent .results → opens words setup counts observations lent ≡ Accepted
-    → (acts : List (Act (session words setup counts observations))) (tally : Tally) (state answer cache work warm results : List ℕ) (said : List ℕ) (s : State)
-    → loadedState state ≡ given s → heldOf s tally cache work warm results ≡ run (session words setup counts observations) (opened words setup counts lent before) acts
-    → subjectReplyOver setup counts (ownOf counts observations s) tally state answer cache work warm results said ≡ callOver setup counts observations tally state answer cache work warm results (reply said)
+InEverySession = (setup : Setup) (counts : List ℕ) (observations : List Observation) → T (fits binary64 (setup .«eta_bound»))
+    → setup .«max_evaluations» < 4294967296 → (lent : Lent) (before : List ℕ) → length observations ≡ lent .observations
+    → length before ≡ lent .results → opens words setup counts observations lent ≡ Accepted
+    → (acts : List (Act (session words setup counts observations))) (tally : Tally) (state answer cache work warm results : List ℕ)
+    → (said : List ℕ) (s : State) → loadedState state ≡ given s
+    → heldOf s tally cache work warm results
+    ≡ run (session words setup counts observations) (opened words setup counts lent before) acts
+    → subjectReplyOver setup counts (ownOf counts observations s) tally state answer cache work warm results said
+    ≡ callOver setup counts observations tally state answer cache work warm results (reply said)
