@@ -12,7 +12,7 @@ use lib.Dec.{eqb}
 use lib.ListN.{getD, set, length, length-set}
 use lib.Seq.{getD-set-same, getD-set-other}
 use Rattle.float64.specs.Pick.{pick, both, pick-yes, pick-no}
-use Rattle.cache.specs.Cache.{rowWords, copyFrom, rowsTo, copied}
+use Rattle.cache.specs.Cache.{copyFrom, rowsTo, copied}
 use Rattle.cache.specs.Kept.{wordsFrom}
 use Rattle.cache.specs.declared.Found.{Found}
 use Rattle.cache.specs.declared.Found.the-variants.{At, Nothing}

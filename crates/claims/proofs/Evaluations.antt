@@ -284,15 +284,15 @@ module _ (setup : Setup) (counts : List ℕ) (observations : List Observation) (
   }
 
 pub every-evaluation : EveryEvaluation
-every-evaluation setup counts observations bound limit lent results many long e =
-    let a = accepts setup counts lent (N.allChecked setup counts observations) e in
+every-evaluation setup counts observations lent results given =
+    let a = accepts setup counts lent (N.allChecked setup counts observations) (given .passes) in
     let room : Room (setup .k) = record { some = some-room setup (a .shape-in); most = shape-low {b = false} setup (sym (a .shape-in)) refl } in
     let over : (I : Inner) → Suits I (setup .effects) → (acts : List (Act (M setup counts observations)))
     → Evaluates setup counts observations (run (M setup counts observations) (N.opened words setup counts lent results) acts) =
     λ I Q acts.
-    let b = both-hold setup counts observations I Q bound limit lent results many long e a room acts in
-    evaluates-so setup counts observations I Q lent many limit a room _ (b .0) (b .1)
-    (let-in setup counts observations bound limit lent results many long e acts) in (
+    let b = both-hold setup counts observations I Q (given .bound) (given .limit) lent results (given .many) (given .long) (given .passes) a room acts in
+    evaluates-so setup counts observations I Q lent (given .many) (given .limit) a room _ (b .0) (b .1)
+    (let-in setup counts observations lent results given acts) in (
       cleared-words (setup .k) (room .some) (room .most) (lent .cache) (a .cache-lent),
       ⊎-elim
           (λ (one : setup .effects ≡ 1). over inner1 (subst (Suits inner1) (sym one) suits1))

@@ -20,7 +20,7 @@ use Rattle.mode.specs.declared.population_focei.Stage.{Stage}
 use Rattle.mode.specs.declared.population_focei.Stage.the-variants.{Grid, Warm, Secant, Halving}
 use Rattle.mode_2d.specs.declared.population_focei_2d.Stage2.{Stage2}
 use Rattle.mode_2d.specs.declared.population_focei_2d.Stage2.the-variants as S2
-use Rattle.evaluation.specs.Subject.{individual, individualValues, finish}
+use Rattle.evaluation.specs.Subject.{individual, individualValues}
 use Rattle.evaluation.specs.declared.AdditiveSd.{AdditiveSd}
 use Rattle.evaluation.specs.declared.AdditiveSd.the-variants.{Own, Override}
 use Rattle.evaluation.specs.declared.Sums.{Sums}
@@ -48,11 +48,11 @@ use Rattle.subjects.specs.declared.Wanted.{Wanted}
 use Rattle.subjects.specs.declared.Wanted.the-variants as Wants
 use Rattle.sessions.specs.Machine.{Moved, on}
 use Rattle.population.specs.Kept.{Recalled, words}
-use Rattle.population.specs.Population.{rowsOf, Worked, answered, atPoint, nextSubject, Ended, closing, atMode, servedBy, served, turned, Whole, wholeOf, moved, turn, receive, take as takes}
+use Rattle.population.specs.Population.{rowsOf, Worked, answered, atPoint, nextSubject, Ended, closing, atMode, servedBy, served, turned, Whole, moved, turn, receive, take as takes}
 use Rattle.population.specs.declared.Turned.{Turned}
 use Rattle.population.specs.declared.Turned.the-variants.{On, Halt}
 use Rattle.session.specs.Session as N
-use Rattle.session.specs.Session.{Held, held, Call, objective, reply, failure, countWithin, searchWithin}
+use Rattle.session.specs.Session.{Held, Call, objective, reply, failure, countWithin, searchWithin}
 use Rattle.session.specs.Calls.{stateOf}
 use Rattle.search_words_2d.specs.SearchWords2 as words2
 use Rattle.session_words.proofs.Back.{FitsPair, FitsAdditive, FitsState}

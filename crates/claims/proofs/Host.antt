@@ -42,6 +42,7 @@ use Rattle.word_replies.specs.SubjectReplies.{subjectReplyOver}
 use Rattle.claims.specs.Inner.{Inner, inner1, inner2, view}
 use Rattle.claims.specs.Claim.{Holds3}
 use Rattle.claims.specs.Refusals.{AltersNothing, opens, calls, replies, Lending, does, number}
+use Rattle.claims.specs.Setup.{Granted}
 use Rattle.claims.specs.Shown.{before, Reads, reads1, reads2, Shows}
 use Rattle.claims.specs.SubjectReply.{ownOf}
 use Rattle.claims.specs.Host.{Lends, left, lending, all, own, rewarmed, Deed, asks, answers, answers-own, fails, warms, after, hosted, M, actOf, actsOf, lent, first, reached, Is, Told, now, Hosted, EveryHost}
@@ -160,6 +161,10 @@ module _ (l : Lending) where
   run-set s (sets w ∷ xs) v = run-set _ xs v
 
 -- ---- the session, where setup let it in
+granted : (l : Lending) → FitsSetup (l .setup) → N.opens words (l .setup) (l .counts) (l .observations) (lent l) ≡ A.Accepted
+    → Granted (l .setup) (l .counts) (l .observations) (lent l) (l .results)
+granted l f passes = record { bound = f .bound; limit = f .most; many = refl; long = refl; passes = passes }
+
 module _ (l : Lending) (I : Inner) (Q : Suits I (l .setup .effects)) (f : FitsSetup (l .setup)) (passes : N.opens words (l .setup) (l .counts) (l .observations) (lent l) ≡ A.Accepted) where
   abbrev a : Accepts (l .setup) (l .counts) (lent l)
   a = accepts (l .setup) (l .counts) (lent l) (allChecked (l .setup) (l .counts) (l .observations)) passes
@@ -256,7 +261,7 @@ module _ (l : Lending) (I : Inner) (Q : Suits I (l .setup .effects)) (f : FitsSe
     own-is : (said : List ℕ) → does (own l m) (replies said) ≡ does (all l m) (calls (reply said))
     own-is said =
         ap (λ (os : List Observation). subjectReplyOver (l .setup) (l .counts) os (m .tally) (m .state) (m .answer) (m .cache) (m .work) (m .warm) (m .results) said) own-are
-        ∙ in-every-session (l .setup) (l .counts) (l .observations) (f .bound) (f .most) (lent l) (l .results) refl refl passes xs (m .tally) (m .state) (m .answer) (m .cache) (m .work)
+        ∙ in-every-session (l .setup) (l .counts) (l .observations) (lent l) (l .results) (granted l f passes) xs (m .tally) (m .state) (m .answer) (m .cache) (m .work)
         (m .warm) (m .results) said
         (d .is .state) (d .is .loads) (d .is .held)
 
@@ -360,9 +365,9 @@ module _ (l : Lending) (f : FitsSetup (l .setup)) (e : number l opens ≡ 0) whe
         record {
           is = d .is;
           demand3 = holds (f .bound) (f .most) (lent l) (l .results) passes (actsOf l ds);
-          shows = λ o. words-show (f .bound) (f .most) (lent l) (l .results) refl refl passes o (actsOf l ds);
-          evaluates = every-evaluation (l .setup) (l .counts) (l .observations) (f .bound) (f .most) (lent l) (l .results) refl refl passes .1 (actsOf l ds);
-          unwritten = every-unwritten (l .setup) (l .counts) (l .observations) (f .bound) (f .most) (lent l) (l .results) refl refl passes (actsOf l ds);
+          shows = λ o. words-show (lent l) (l .results) (granted l f passes) o (actsOf l ds);
+          evaluates = every-evaluation (l .setup) (l .counts) (l .observations) (lent l) (l .results) (granted l f passes) .1 (actsOf l ds);
+          unwritten = every-unwritten (l .setup) (l .counts) (l .observations) (lent l) (l .results) (granted l f passes) (actsOf l ds);
           tells = λ c. over-tells l c _ _ (d .is);
           tells-own = λ said. subst (λ (o : Out). Told o (now I L l ds) (call (M l) (reply said) (reached l ds) .answer)) (sym (own-is l I Q f passes _ _ d said))
               (over-tells l (reply said) _ _ (d .is));

@@ -241,9 +241,9 @@ module _ (setup : Setup) (counts : List ℕ) (observations : List Observation) (
       (enters-going setup counts observations lent a _ (b .1) c) (enters-say _ (b .0) (b .1) c t))
 
 pub let-in : EveryCall
-let-in setup counts observations bound limit lent results many long e acts =
-    let a = accepts setup counts lent (N.allChecked setup counts observations) e in
+let-in setup counts observations lent results b acts =
+    let a = accepts setup counts lent (N.allChecked setup counts observations) (b .passes) in
     let room : Room (setup .k) = record { some = some-room setup (a .shape-in); most = shape-low {b = false} setup (sym (a .shape-in)) refl } in
-    ⊎-elim (λ (one : setup .effects ≡ 1). holds setup counts observations inner1 (subst (Suits inner1) (sym one) suits1) bound limit lent results many long e a room acts)
-    (λ (two : setup .effects ≡ 2). holds setup counts observations inner2 (subst (Suits inner2) (sym two) suits2) bound limit lent results many long e a room acts)
+    ⊎-elim (λ (one : setup .effects ≡ 1). holds setup counts observations inner1 (subst (Suits inner1) (sym one) suits1) (b .bound) (b .limit) lent results (b .many) (b .long) (b .passes) a room acts)
+    (λ (two : setup .effects ≡ 2). holds setup counts observations inner2 (subst (Suits inner2) (sym two) suits2) (b .bound) (b .limit) lent results (b .many) (b .long) (b .passes) a room acts)
     (a .effects)

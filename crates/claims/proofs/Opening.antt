@@ -5,7 +5,6 @@ use mathlib.Core.List.{List}
 use Prim.Native.Nat.{ℕ}
 use lib.Dec.{T}
 use lib.ListN.{length}
-use Rattle.likelihood.specs.declared.population_focei.Observation.{Observation}
 use Rattle.admission.specs.Admission.{checks}
 use Rattle.admission.specs.declared.Admission.{Admission}
 use Rattle.admission.specs.declared.Admission.the-variants as A
@@ -13,8 +12,8 @@ use Rattle.admission.specs.declared.Lent.{Lent}
 use Rattle.admission.specs.declared.Setup.{Setup}
 use Rattle.subjects.specs.declared.Tally.{Tally}
 use Rattle.population.specs.Kept.{words}
-use Rattle.session.specs.Calls.{heldOf, stateOf, lentBy, Setting, opening, openedBy}
-use Rattle.session.specs.Session.{Held, allChecked, opened}
+use Rattle.session.specs.Calls.{heldOf, lentBy, Setting, opening, openedBy}
+use Rattle.session.specs.Session.{allChecked, opened}
 use Rattle.session.specs.declared.Opening.{Opening}
 use Rattle.session.specs.declared.Opening.the-variants as Opens
 use Rattle.session.specs.declared.State.{State}

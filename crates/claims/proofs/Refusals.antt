@@ -5,7 +5,7 @@ use mathlib.Core.List.{List}
 use mathlib.Core.Logic.{inl, inr, ⊎-elim}
 use Prim.Native.Nat.{ℕ, suc, _-_, _≤_, _<_}
 use native.Mathlib.Omega.{arith}
-use borrow.Author.Tests.{lt-ltb, le-ltb, eq-eqb, ne-eqb, ltb-false, eqb-true}
+use borrow.Author.Tests.{lt-ltb, le-ltb, eq-eqb, ne-eqb, ltb-false}
 use lib.Dec.{ltb, eqb}
 use lib.ListN.{getD, set, length, take, drop, length-take}
 use lib.Seq.{getD-set-same, getD-set-other}
@@ -55,7 +55,6 @@ use Rattle.claims.proofs.Accepted.{is-cohort}
 use Rattle.claims.proofs.Endings.{Tells, Says, Going, never-spent}
 use Rattle.claims.proofs.Entered.{Judged, counts-judged, one, unheard, late, stood, Done, Enters, Stood, wantedAt, done, unspent, admits, replies as goes-on, enters, Ending, Answers-with}
 use Rattle.claims.proofs.Evaluated.{work-length}
-use Rattle.claims.proofs.Plain.{false-not-true}
 use Rattle.claims.proofs.Remaining.{lifts, placed}
 
 -- ---- numbers

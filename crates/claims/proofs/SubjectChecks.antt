@@ -1,19 +1,18 @@
 -- Where checks 1 to 5 pass of all observations, they pass of one subject's. Assumes nothing.
 use mathlib.Core.Path.{_≡_, refl, sym, subst, _∙_}
-use mathlib.Core.Bool.{Bool, true, false}
+use mathlib.Core.Bool.{true, false}
 use mathlib.Core.List.{List, [], _∷_}
 use Prim.Native.Nat.{ℕ, zero, suc, _+_, _-_, _*_, _≤_, _<_}
 use native.Mathlib.Omega.{arith}
-use borrow.Author.Tests.{lt-ltb, le-ltb, eq-eqb, ne-eqb, ltb-true, ltb-false}
-use lib.Dec.{T, ltb, eqb}
+use borrow.Author.Tests.{le-ltb, eq-eqb, ne-eqb, ltb-false}
+use lib.Dec.{ltb}
 use lib.ListN.{getD, length, take, drop}
-use Rattle.float64.specs.Pick.{pick, yes, no, cases}
+use Rattle.float64.specs.Pick.{yes, no, cases}
 use Rattle.likelihood.specs.declared.population_focei.Observation.{Observation}
-use Rattle.evaluation.specs.Observations.{isSound, nextPlace, checkAt, checkObservation, checkObservations}
+use Rattle.evaluation.specs.Observations.{isSound, checkAt, checkObservation, checkObservations}
 use Rattle.evaluation.specs.declared.Check.{Check}
 use Rattle.evaluation.specs.declared.Check.the-variants.{Sound, Unsound}
 use Rattle.evaluation.specs.declared.Position.{Position}
-use Rattle.work.specs.Work.{mostRows}
 use Rattle.admission.specs.Admission.{countObservations, isCohort, isNoOmega, isNoShape, isShort, roomy, admitted, checksOf, checks}
 use Rattle.admission.specs.declared.Setup.{Setup}
 use Rattle.admission.specs.declared.Lent.{Lent}

@@ -1,23 +1,21 @@
 -- A reply that lends one subject's observations is the reply that lends all of them: the proof of specs/SubjectReply. Assumes nothing.
 use mathlib.Core.Path.{_≡_, refl, sym, ap, subst, _∙_}
-use mathlib.Core.Bool.{Bool, true, false}
+use mathlib.Core.Bool.{Bool, true}
 use mathlib.Core.List.{List}
 use Prim.Native.Nat.{ℕ, _+_, _-_, _≤_, _<_}
 use native.Mathlib.Omega.{arith}
-use borrow.Author.Tests.{le-ltb, eqb-true, ltb-true, ltb-false}
-use lib.Dec.{T, ltb, eqb}
+use borrow.Author.Tests.{le-ltb, ltb-true, ltb-false}
+use lib.Dec.{ltb}
 use lib.ListN.{getD, length, take, drop, length-drop}
 use lib.Seq.{take-all, length-take-le}
 use Rattle.float64.specs.Answer.{Answer, given}
 use Rattle.float64.specs.Pick.{pick, yes, no, cases, pick-yes}
 use Rattle.likelihood.specs.declared.population_focei.Observation.{Observation}
-use Rattle.evaluation.specs.Observations.{smaller, checkObservations}
+use Rattle.evaluation.specs.Observations.{smaller}
 use Rattle.evaluation.specs.Subject.{Evaluating, evaluating, begin, addObservations}
-use Rattle.evaluation.specs.declared.Check.{Check}
-use Rattle.evaluation.specs.declared.Check.the-variants.{Sound}
 use Rattle.evaluation.specs.declared.Trial.{Trial}
 use Rattle.work.specs.Work.{mostRows}
-use Rattle.admission.specs.Admission.{isCohort, checks, withParameters}
+use Rattle.admission.specs.Admission.{checks, withParameters}
 use Rattle.admission.specs.declared.Setup.{Setup}
 use Rattle.admission.specs.declared.Lent.{Lent}
 use Rattle.admission.specs.declared.Admission.{Admission}
@@ -31,7 +29,7 @@ use Rattle.subjects.specs.declared.Wanted.{Wanted}
 use Rattle.subjects.specs.declared.Wanted.the-variants as Wants
 use Rattle.population.specs.Kept.{words}
 use Rattle.population.specs.Population.{rowsOf}
-use Rattle.session.specs.Calls.{lentBy, trialBy, admittedBy, admitAwaited, admitReply}
+use Rattle.session.specs.Calls.{lentBy, trialBy, admitAwaited, admitReply}
 use Rattle.session.specs.Session.{Held, allChecked, isPlaced, isStanding, admitted, reply}
 use Rattle.session.specs.declared.Admitted.{Admitted}
 use Rattle.session.specs.declared.Awaited.{Awaited}
@@ -46,7 +44,7 @@ use Rattle.claims.specs.SubjectReply.{ownOf, EverySubjectReply, InEveryS
 use Rattle.claims.proofs.Accepted.{is-cohort}
 use Rattle.claims.proofs.Evaluated.{work-length}
 use Rattle.claims.proofs.LetIn.{let-in}
-use Rattle.claims.proofs.Plain.{true-not-false, false-not-true, only-first}
+use Rattle.claims.proofs.Plain.{false-not-true, only-first}
 use Rattle.claims.proofs.SubjectChecks.{IsSound, part-sound, Passed, passed, count-in, subject-passes}
 
 -- where the answer is not that of a test that fails, the test held
@@ -191,8 +189,8 @@ every-subject-reply setup counts observations tally state answer cache work warm
 -- wherever a session stands, the positions are right and 1 to 5 pass
 pub in-every-session : InEverySession
 unfolding admitted
-in-every-session setup counts observations f m lent before el er accepted acts tally state answer cache work warm results said s loads here =
-    let stands = let-in setup counts observations f m lent before el er accepted acts in
+in-every-session setup counts observations lent before granted acts tally state answer cache work warm results said s loads here =
+    let stands = let-in setup counts observations lent before granted acts in
     every-subject-reply setup counts observations tally state answer cache work warm results said s loads
     (subst (λ (h : Held words). isStanding setup counts (length observations) (h .whole .tally) (h .whole .progress) ≡ true) (sym here) (stands .placed))
     (subst (λ (h : Held words). admitted words setup counts (length observations) (allChecked setup counts observations) (h .parameters) (h .whole) ≡ A.Accepted) (sym here) (stands .accepted))

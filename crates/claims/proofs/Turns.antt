@@ -42,7 +42,7 @@ use Rattle.sessions.specs.Log.{OfEvaluation}
 use Rattle.sessions.specs.Machine.{Moved, on, halt, Machine}
 use Rattle.sessions.specs.Observed.{View, wantedAt}
 use Rattle.sessions.specs.Observed as Observed
-use Rattle.sessions.specs.Rules.{point, mode, refusal}
+use Rattle.sessions.specs.Rules.{point, mode}
 use Rattle.population.specs.Kept.{Recalled, Store}
 use Rattle.population.specs.Population.{rowsOf, warmOf, take, answered, atPoint, Worked, nextSubject, raised, Ended, ended, closing, atMode, servedBy, served, isOver, turned, Whole, wholeOf, moved, turn}
 use Rattle.population.specs.declared.Turned.{Turned}

@@ -340,11 +340,11 @@ module _ (setup : Setup) (counts : List ℕ) where
       (loops h observations lent a N.fuel)
 
 pub every-unwritten : EveryUnwritten
-every-unwritten setup counts observations bound limit lent results many long e acts c =
-    let a = accepts setup counts lent (N.allChecked setup counts observations) e in
+every-unwritten setup counts observations lent results b acts c =
+    let a = accepts setup counts lent (N.allChecked setup counts observations) (b .passes) in
     let room : Room (setup .k) = record { some = some-room setup (a .shape-in); most = shape-low {b = false} setup (sym (a .shape-in)) refl } in
     let from : (I : Inner) → Suits I (setup .effects) → Going setup counts observations lent a (run (N.session words setup counts observations) (N.opened words setup counts lent results) acts) =
-    λ I Q. both-hold setup counts observations I Q bound limit lent results many long e a room acts .1 in
+    λ I Q. both-hold setup counts observations I Q (b .bound) (b .limit) lent results (b .many) (b .long) (b .passes) a room acts .1 in
     called setup counts observations lent a c _ (⊎-elim
     (λ (one : setup .effects ≡ 1). from inner1 (subst (Suits inner1) (sym one) suits1))
     (λ (two : setup .effects ≡ 2). from inner2 (subst (Suits inner2) (sym two) suits2))

@@ -691,9 +691,9 @@ module _ (setup : Setup) (counts : List ℕ) (observations : List Observation) (
   }) (N.opened words setup counts lent r₀) (opens-standing words setup counts observations I Q U bound limit lent r₀ a, opens-going setup counts observations lent a r₀ long) refl o acts
 
 for-words : (setup : Setup) (counts : List ℕ) (observations : List Observation) (I : Inner) (L : Reads I) → Suits I (setup .effects) → Tells I L (setup .effects) → Shows setup counts observations I L
-for-words setup counts observations I L Q X bound limit lent results there long e o acts =
-    let a = accepts setup counts lent (N.allChecked setup counts observations) e in
-    holds setup counts observations I Q L X bound limit lent results there long a (record { some = some-room setup (a .shape-in); most = shape-low {b = false} setup (sym (a .shape-in)) refl }) o acts
+for-words setup counts observations I L Q X lent results b o acts =
+    let a = accepts setup counts lent (N.allChecked setup counts observations) (b .passes) in
+    holds setup counts observations I Q L X (b .bound) (b .limit) lent results (b .many) (b .long) a (record { some = some-room setup (a .shape-in); most = shape-low {b = false} setup (sym (a .shape-in)) refl }) o acts
 
 pub every-word : EveryWord
 every-word setup counts observations = (

@@ -2,16 +2,15 @@
 -- evaluation is kept under its point, without the prior.
 use mathlib.Core.Path.{_≡_}
 use mathlib.Core.List.{List, []}
-use Prim.Native.Nat.{ℕ, _≤_, _<_}
-use lib.Dec.{T, eqb}
-use lib.ListN.{length, getD, take, drop}
-use lib.Ieee.{binary64, fits, toBits}
+use Prim.Native.Nat.{ℕ, _≤_}
+use lib.Dec.{eqb}
+use lib.ListN.{getD, take, drop}
+use lib.Ieee.{binary64, toBits}
 use Rattle.float64.specs.Arithmetic.{_*ᶠ_}
 use Rattle.float64.specs.Pick.{pick}
 use Rattle.libm.specs.Exp.{exp}
 use Rattle.matrix.specs.declared.Pair.{Pair}
 use Rattle.likelihood.specs.declared.population_focei.Observation.{Observation}
-use Rattle.cache.specs.Cache.{Cache}
 use Rattle.cache.specs.Kept.{Entry, Evaluated, cachedRows, appended, Stands}
 use Rattle.evaluation.specs.Claim.{replyRows}
 use Rattle.evaluation.specs.Subject.{finish}
@@ -22,13 +21,13 @@ use Rattle.evaluation.specs.declared.Evaluation.the-variants as E
 use Rattle.evaluation.specs.declared.Sums.{Sums}
 use Rattle.admission.specs.declared.Setup.{Setup}
 use Rattle.admission.specs.declared.Lent.{Lent}
-use Rattle.admission.specs.declared.Admission.the-variants.{Accepted}
 use Rattle.subjects.specs.Subjects.{fitOf}
 use Rattle.subjects.specs.declared.Step.the-variants.{Asked}
 use Rattle.sessions.specs.Machine.{Machine, call, set, Act, run}
 use Rattle.population.specs.Kept.{words}
-use Rattle.session.specs.Session.{Held, Call, objective, reply, failure, evaluated, session, opened, opens}
+use Rattle.session.specs.Session.{Held, Call, objective, reply, failure, evaluated, session, opened}
 use Rattle.claims.specs.LetIn.{wantedPoint}
+use Rattle.claims.specs.Setup.{Granted}
 
 -- the words of an optional override: whether there is one, and which
 abbrev pub hasOverride : AdditiveSd → ℕ
@@ -117,9 +116,8 @@ module _ (setup : Setup) (counts : List ℕ) (observations : List Observation) w
 
 -- in the session that an accepted setup opened: nothing is kept yet, and so it goes on after any list of calls
 abbrev pub EveryEvaluation : Type 0
-EveryEvaluation = (setup : Setup) (counts : List ℕ) (observations : List Observation) → T (fits binary64 (setup .«eta_bound»))
-    → setup .«max_evaluations» < 4294967296 → (lent : Lent) (results : List ℕ) → length observations ≡ lent .observations
-    → length results ≡ lent .results → opens words setup counts observations lent ≡ Accepted
+EveryEvaluation = (setup : Setup) (counts : List ℕ) (observations : List Observation) (lent : Lent) (results : List ℕ)
+    → Granted setup counts observations lent results
     → let begun = opened words setup counts lent results in
     Keeping setup counts observations begun []
     × ((acts : List (Act (M setup counts observations)))

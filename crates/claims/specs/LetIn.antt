@@ -3,10 +3,8 @@
 use mathlib.Core.Path.{_≡_}
 use mathlib.Core.Bool.{true, false}
 use mathlib.Core.List.{List}
-use Prim.Native.Nat.{ℕ, _<_}
-use lib.Dec.{T}
+use Prim.Native.Nat.{ℕ}
 use lib.ListN.{length}
-use lib.Ieee.{binary64, fits}
 use Rattle.matrix.specs.declared.Pair.{Pair}
 use Rattle.likelihood.specs.declared.population_focei.Observation.{Observation}
 use Rattle.admission.specs.Admission.{isNoOmega, isNoShape, withParameters}
@@ -21,8 +19,9 @@ use Rattle.subjects.specs.declared.Place.the-variants.{Subject}
 use Rattle.subjects.specs.declared.Step.the-variants.{Refused}
 use Rattle.sessions.specs.Machine.{on, call, Act, run}
 use Rattle.population.specs.Kept.{words}
-use Rattle.session.specs.Session.{Held, Call, objective, reply, failure, isStanding, whenAdmitted, begun, over, admitted, allChecked, enterObjective, enterReply, enterFailure, answered, session, opened, opens}
+use Rattle.session.specs.Session.{Held, Call, objective, reply, failure, isStanding, whenAdmitted, begun, over, admitted, allChecked, enterObjective, enterReply, enterFailure, answered, session, opened}
 use Rattle.claims.specs.Inner.{pointWanted}
+use Rattle.claims.specs.Setup.{Granted}
 
 module _ (setup : Setup) (counts : List ℕ) (observations : List Observation) where
   -- what 1 to 5 say of an objective with these parameters
@@ -60,11 +59,8 @@ module _ (setup : Setup) (counts : List ℕ) (observations : List Observation) w
     pub never19 : (c : Call) → Ruled c h → (place : Place)
         → call (session words setup counts observations) c h .answer ≡ Refused 19 place → ⊥
 
--- after any list of calls, in the session that an accepted setup opened: `lent` counts the observations and the results that are there.
--- eta_bound is a float of the format, and max_evaluations a u32, as every value of the code is.
+-- after any list of calls, in the session that an accepted setup opened
 abbrev pub EveryCall : Type 0
-EveryCall = (setup : Setup) (counts : List ℕ) (observations : List Observation) → T (fits binary64 (setup .«eta_bound»))
-    → setup .«max_evaluations» < 4294967296 → (lent : Lent) (results : List ℕ) → length observations ≡ lent .observations
-    → length results ≡ lent .results → opens words setup counts observations lent ≡ Accepted
-    → let M = session words setup counts observations in
+EveryCall = (setup : Setup) (counts : List ℕ) (observations : List Observation) (lent : Lent) (results : List ℕ)
+    → Granted setup counts observations lent results → let M = session words setup counts observations in
     (acts : List (Act M)) → LetIn setup counts observations (run M (opened words setup counts lent results) acts)

@@ -9,7 +9,7 @@ use Prim.Native.Nat.{ℕ, zero, suc, _+_, _*_, _<_}
 use lib.Dec.{T}
 use lib.IntN.{pos}
 use lib.ListN.{length, getD}
-use lib.Ieee.{Float, binary64, fits, toBits, ofInt, eq, le}
+use lib.Ieee.{Float, binary64, toBits, ofInt, eq, le}
 use Rattle.float64.specs.Arithmetic.{_+ᶠ_, _-ᶠ_, _*ᶠ_, _/ᶠ_, word, one, two}
 use Rattle.float64.specs.Float64.{clamp, nonfinite}
 use Rattle.float64.specs.Pick.{pick}
@@ -22,7 +22,6 @@ use Rattle.histories.specs.Terms2.{IsFlat}
 use Rattle.admission.specs.declared.Setup.{Setup}
 use Rattle.admission.specs.declared.Parameters.{Parameters}
 use Rattle.admission.specs.declared.Lent.{Lent}
-use Rattle.admission.specs.declared.Admission.the-variants.{Accepted}
 use Rattle.subjects.specs.declared.Step.{Step}
 use Rattle.subjects.specs.declared.Step.the-variants as Answer
 use Rattle.sessions.specs.Log.{Entry, Every, Searched, in-mode, searches}
@@ -31,8 +30,9 @@ use Rattle.sessions.specs.Machine.{Machine, Outcome, call, Act, calls, sets, se
 use Rattle.sessions.specs.Observed.{Meaning, asked, finished, refused, View, call-log, log}
 use Rattle.sessions.specs.Rules.{Rules, Trial}
 use Rattle.population.specs.Kept.{words}
-use Rattle.session.specs.Session.{Held, Call, objective, reply, failure, opened, opens, session}
+use Rattle.session.specs.Session.{Held, Call, objective, reply, failure, opened, session}
 use Rattle.claims.specs.Inner.{Inner, inner1, inner2, view}
+use Rattle.claims.specs.Setup.{Granted}
 
 -- ---- of any machine
 
@@ -295,8 +295,7 @@ module _ (setup : Setup) (counts : List ℕ) (observations : List Observation) (
   }
 
   abbrev pub Shows : Type 0
-  Shows = T (fits binary64 (setup .«eta_bound»)) → setup .«max_evaluations» < 4294967296 → (lent : Lent) (results : List ℕ)
-      → length observations ≡ lent .observations → length results ≡ lent .results → opens words setup counts observations lent ≡ Accepted
+  Shows = (lent : Lent) (results : List ℕ) → Granted setup counts observations lent results
       → (o : Objective (I .rules) (session words setup counts observations) (view words setup counts observations I))
       → (acts : List (Act (session words setup counts observations)))
       → Shown (I .rules) (session words setup counts observations) (view words setup counts observations I) showing o

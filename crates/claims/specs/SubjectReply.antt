@@ -3,9 +3,7 @@
 use mathlib.Core.Path.{_≡_}
 use mathlib.Core.Bool.{true}
 use mathlib.Core.List.{List}
-use Prim.Native.Nat.{ℕ, _<_}
-use lib.Dec.{T}
-use lib.Ieee.{binary64, fits}
+use Prim.Native.Nat.{ℕ}
 use lib.ListN.{length, take, drop}
 use Rattle.float64.specs.Answer.{given}
 use Rattle.likelihood.specs.declared.population_focei.Observation.{Observation}
@@ -18,11 +16,12 @@ use Rattle.sessions.specs.Machine.{Act, run}
 use Rattle.population.specs.Kept.{words}
 use Rattle.population.specs.Population.{rowsOf}
 use Rattle.session.specs.Calls.{heldOf, lentBy}
-use Rattle.session.specs.Session.{allChecked, isStanding, reply, opens, opened, session}
+use Rattle.session.specs.Session.{allChecked, isStanding, reply, opened, session}
 use Rattle.session.specs.declared.State.{State}
 use Rattle.session_words.specs.SessionWords.{loadedState}
 use Rattle.hosting.specs.Hosting.{callOver}
 use Rattle.word_replies.specs.SubjectReplies.{subjectReplyOver}
+use Rattle.claims.specs.Setup.{Granted}
 
 -- those of the subject that the state stands at
 abbrev pub ownOf : List ℕ → List Observation → State → List Observation
@@ -41,9 +40,8 @@ EverySubjectReply = (setup : Setup) (counts : List ℕ) (observations : List Obs
 -- so in every session that an accepted setup opened, wherever it stands: the words that are lent are those of the state that its calls
 -- have come to
 abbrev pub InEverySession : Type 0
-InEverySession = (setup : Setup) (counts : List ℕ) (observations : List Observation) → T (fits binary64 (setup .«eta_bound»))
-    → setup .«max_evaluations» < 4294967296 → (lent : Lent) (before : List ℕ) → length observations ≡ lent .observations
-    → length before ≡ lent .results → opens words setup counts observations lent ≡ Accepted
+InEverySession = (setup : Setup) (counts : List ℕ) (observations : List Observation) (lent : Lent) (before : List ℕ)
+    → Granted setup counts observations lent before
     → (acts : List (Act (session words setup counts observations))) (tally : Tally) (state answer cache work warm results : List ℕ)
     → (said : List ℕ) (s : State) → loadedState state ≡ given s
     → heldOf s tally cache work warm results

@@ -2,21 +2,20 @@
 use mathlib.Core.Path.{_≡_}
 use mathlib.Core.List.{List}
 use Prim.Native.Nat.{ℕ, suc, _+_, _*_, _≤_, _<_}
-use lib.Dec.{T, eqb}
+use lib.Dec.{eqb}
 use lib.ListN.{length, getD}
-use lib.Ieee.{binary64, fits}
 use Rattle.float64.specs.Pick.{pick}
 use Rattle.likelihood.specs.declared.population_focei.Observation.{Observation}
 use Rattle.admission.specs.declared.Setup.{Setup}
 use Rattle.admission.specs.declared.Lent.{Lent}
-use Rattle.admission.specs.declared.Admission.the-variants.{Accepted}
 use Rattle.subjects.specs.declared.Place.the-variants.{Nowhere, Subject, Observation as AtObservation}
 use Rattle.subjects.specs.declared.Step.{Step}
 use Rattle.subjects.specs.declared.Step.the-variants.{Asked, Finished, Refused}
 use Rattle.sessions.specs.Machine.{call, Act, run}
 use Rattle.population.specs.Kept.{words}
-use Rattle.session.specs.Session.{Held, Call, session, opened, opens}
+use Rattle.session.specs.Session.{Held, Call, session, opened}
 use Rattle.claims.specs.Shown.{before}
+use Rattle.claims.specs.Setup.{Granted}
 
 module _ (setup : Setup) (counts : List ℕ) where
   -- the result words of the subjects from i on, with their predictions, and the warm starts of those from k on, are as they were
@@ -43,9 +42,7 @@ module _ (setup : Setup) (counts : List ℕ) where
 
 -- one call more, after any list of calls, in the session that an accepted setup opened
 abbrev pub EveryUnwritten : Type 0
-EveryUnwritten = (setup : Setup) (counts : List ℕ) (observations : List Observation) → T (fits binary64 (setup .«eta_bound»))
-    → setup .«max_evaluations» < 4294967296 → (lent : Lent) (results : List ℕ) → length observations ≡ lent .observations
-    → length results ≡ lent .results → opens words setup counts observations lent ≡ Accepted
-    → let M = session words setup counts observations in
+EveryUnwritten = (setup : Setup) (counts : List ℕ) (observations : List Observation) (lent : Lent) (results : List ℕ)
+    → Granted setup counts observations lent results → let M = session words setup counts observations in
     (acts : List (Act M)) (c : Call) → let h = run M (opened words setup counts lent results) acts in
     let r = call M c h in Unwritten setup counts h (r .answer) (r .state)
