@@ -27,7 +27,8 @@ use Rattle.admission.specs.declared.Admission.the-variants.{Accepted, Re
 unfoldable pub isBeyond : Float → Float → Float → Bool
 isBeyond x low high = pick (le low x) (pick (le x high) false true) true
 
--- ---- 1: effects 1 or 2; subjects 1 to 4,096; observations at least 1 for each, at most 100,000 in all; the counts add up to the records lent
+-- ---- 1: effects 1 or 2; subjects 1 to 4,096; observations at least 1 for each, at most 100,000 in all; the counts add up to the records
+-- lent
 
 abbrev pub larger : ℕ → ℕ → ℕ
 larger a b = pick (ltb a b) b a
@@ -70,7 +71,8 @@ isNoOmega setup =
     (pick (ne (setup .omega01) (setup .omega10)) true
     (isNone (inversePositive (omegaOf setup))))))
 
--- ---- 3: eta_bound 2^-10 to 16; gradient_tolerance finite, above 0; width 1 to 64; K 1 to 100,000; the override finite, not below 0, none with two effects
+-- ---- 3: eta_bound 2^-10 to 16; gradient_tolerance finite, above 0; width 1 to 64; K 1 to 100,000; the override finite, not below 0,
+-- none with two effects
 
 unfoldable pub isNoOverride : ℕ → AdditiveSd → Bool
 isNoOverride effects Own = false
@@ -89,8 +91,8 @@ isNoShape setup =
     (pick (ltb mostRows (setup .k)) true
     (isNoOverride (setup .effects) (setup .«additive_sd»)))))))
 
--- ---- 5: work words 12 times the largest subject's observations, kept words 24 K, warm words the effects of each subject, results 2 for each observation and 3 for
--- each subject
+-- ---- 5: work words 12 times the largest subject's observations, kept words 24 K, warm words the effects of each subject, results 2 for
+-- each observation and 3 for each subject
 
 unfoldable pub isShort : Setup → ℕ → ℕ → ℕ → Lent → Bool
 isShort setup subjects total largest lent =

@@ -27,7 +27,8 @@ pub fn keep(
     cache: &mut [u64],
     work: &[u64],
 ) -> Kept
-    ensures { λ r. ⌜ keptWith r (now (cache .exit)) ≡ keep fit (now (counts .entry)) subject tally eta sums (cacheOf (now (cache .entry)) order) (now (work .entry)) ⌝ }
+    ensures { λ r. ⌜ keptWith r (now (cache .exit))
+        ≡ keep fit (now (counts .entry)) subject tally eta sums (cacheOf (now (cache .entry)) order) (now (work .entry)) ⌝ }
 {
     let terms = questions::terms_of(sums);
     let rows = population::rows_of(counts, subject);

@@ -41,8 +41,10 @@ unfoldable pub hash : CacheKey → ℕ
 hash key =
     mixed
     (wrapped
-    (wrapped (wrapped (part (key .subject) 0x9e37_79b1 0x85eb_ca77) (part (key .theta0) 0xc2b2_ae3d 0x27d4_eb2f)) (wrapped (part (key .theta1) 0x1656_67b1 0xd3a2_646d) (part (key .eta0) 0xfd70_46c5 0xb55a_4f09)))
-    (wrapped (wrapped (part (key .eta1) 0x8f1b_bcdd 0x6ed9_eba1) (part (key .«has_additive») 0x5a82_7999 0xca62_c1d7)) (part (key .additive) 0xb7e1_5163 0x7f4a_7c15)))
+    (wrapped (wrapped (part (key .subject) 0x9e37_79b1 0x85eb_ca77) (part (key .theta0) 0xc2b2_ae3d 0x27d4_eb2f))
+    (wrapped (part (key .theta1) 0x1656_67b1 0xd3a2_646d) (part (key .eta0) 0xfd70_46c5 0xb55a_4f09)))
+    (wrapped (wrapped (part (key .eta1) 0x8f1b_bcdd 0x6ed9_eba1) (part (key .«has_additive») 0x5a82_7999 0xca62_c1d7))
+    (part (key .additive) 0xb7e1_5163 0x7f4a_7c15)))
 
 -- the chain, by the low half; the high half, which stands beside the link; and the bit of its chain's filter
 unfoldable pub headOf : ℕ → ℕ → ℕ
@@ -156,7 +158,8 @@ unfoldable pub find : List ℕ → ℕ → CacheOrder → CacheKey → Found
 find w k order key =
     pick (isRoom k)
     (pick (ltb k (order .next - order .oldest)) Nothing
-    (pick (hasBit (filterOf w (chain k key)) (bitOf key)) (walk (order .next - order .oldest) w k (order .oldest) (bits key) key (latestOf w (chain k key))) Nothing))
+    (pick (hasBit (filterOf w (chain k key)) (bitOf key))
+    (walk (order .next - order .oldest) w k (order .oldest) (bits key) key (latestOf w (chain k key))) Nothing))
     Nothing
 
 -- ---- reading a slot
@@ -221,7 +224,8 @@ written w k oldest entry row key terms n rows from =
     let head = chain k key in
     let w1 = putRing 16 w (entryPlace k entry) 16 0 (entryWords key terms n row) 0 0 in
     let w2 = putRing (rowWords * n) w1 (rowsFrom * k) (rowWords * k) (rowWords * row) rows from 0 in
-    set (set w2 (linkPlace k entry) (latestOf w head + bits key * half)) head (entry + withBit (latestOf w head) oldest (filterOf w head) (bitOf key) * half)
+    set (set w2 (linkPlace k entry) (latestOf w head + bits key * half)) head
+    (entry + withBit (latestOf w head) oldest (filterOf w head) (bitOf key) * half)
 
 -- rows, at most k, all of them lent, beside at most k entries, and numbers in range
 unfoldable pub isKept : ℕ → CacheOrder → ℕ → ℕ → ℕ → Bool
@@ -249,5 +253,6 @@ placed w k l next next-row key terms n rows from =
 unfoldable pub insert : List ℕ → ℕ → CacheOrder → CacheKey → CachedTerms → ℕ → List ℕ → ℕ → Cache
 insert w k o key terms n rows from =
     pick (isKept k o n (length rows) from)
-    (placed w k (evict (o .next - o .oldest) w k (k - n) (o .next) (o .«next_row») (o .oldest) (o .«first_row»)) (o .next) (o .«next_row») key terms n rows from)
+    (placed w k (evict (o .next - o .oldest) w k (k - n) (o .next) (o .«next_row») (o .oldest) (o .«first_row»))
+    (o .next) (o .«next_row») key terms n rows from)
     (after o w)

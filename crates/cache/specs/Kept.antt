@@ -1,4 +1,5 @@
--- Document 01's kept evaluations: the list of entries that the words stand for, the oldest first; and what the source's HashMap and VecDeque do with such a list.
+-- Document 01's kept evaluations: the list of entries that the words stand for, the oldest first; and what the source's HashMap and
+-- VecDeque do with such a list.
 use mathlib.Core.Path.{_≡_}
 use mathlib.Core.List.{List, [], _∷_, _++_}
 use mathlib.Core.Option.{Option, none, some}

@@ -1,4 +1,5 @@
--- Whether a reply is let in that lends the observations of the awaited subject alone: 19, then 1 to 5 of what is lent, and what its observations are added to.
+-- Whether a reply is let in that lends the observations of the awaited subject alone: 19, then 1 to 5 of what is lent, and what its
+-- observations are added to.
 use mathlib.Core.List.{List}
 use Prim.Native.Nat.{ℕ}
 use Rattle.float64.specs.Pick.{pick}
@@ -27,7 +28,8 @@ use Rattle.session.specs.declared.Admitted.{Admitted}
 unfoldable pub awaitedPoint : Setup → List ℕ → ℕ → State → Tally → Wanted
 awaitedPoint setup counts n state tally =
     pick (state .progress .awaits)
-    (pick (isStanding setup counts n tally (state .progress)) (wantedBy (fitOf setup (state .parameters)) (state .progress)) (Wants.Refused 19))
+    (pick (isStanding setup counts n tally (state .progress)) (wantedBy (fitOf setup (state .parameters)) (state .progress))
+    (Wants.Refused 19))
     (Wants.Refused 19)
 
 -- the checks of what is lent count where a point is wanted; else 19
@@ -39,16 +41,24 @@ awaitedFor admission (Wants.Refused number) = unawaited
 -- what is begun with a reply that is let in, over the observations lent from number `from` up to, but without, `to`
 unfoldable pub admittedOver : Setup → Trial → List ℕ → Awaited → ℕ → ℕ → Admission → Admitted
 admittedOver setup trial reply awaited from to A.Accepted =
-    record { awaited = awaited; from = from; to = to; evaluation = begin reply (setup .width) (setup .effects) (setup .«output_budget»); trial = trial }
+    record {
+      awaited = awaited;
+      from = from;
+      to = to;
+      evaluation = begin reply (setup .width) (setup .effects) (setup .«output_budget»);
+      trial = trial;
+    }
 admittedOver setup trial reply awaited from to (A.Refused number) = nothingAdmitted awaited trial number
 admittedOver setup trial reply awaited from to (A.Unsound at) = nothingAdmitted awaited trial 4
 
 -- the positions are within the most observations that there can be, since not all are lent
 unfoldable pub subjectAwaited : Setup → List ℕ → Lent → Check → State → Tally → Awaited
 subjectAwaited setup counts lent check state tally =
-    awaitedFor (subjectChecks (withParameters setup (state .parameters)) counts (state .progress .subject) lent check) (awaitedPoint setup counts mostRows state tally)
+    awaitedFor (subjectChecks (withParameters setup (state .parameters)) counts (state .progress .subject) lent check)
+    (awaitedPoint setup counts mostRows state tally)
 
 unfoldable pub admitSubjectReply : Setup → List ℕ → Lent → Check → State → Tally → List ℕ → Admitted
 admitSubjectReply setup counts lent check state tally reply =
     let awaited = subjectAwaited setup counts lent check state tally in
-    admittedOver setup (trialBy setup state (rowsOf counts (state .progress .subject))) reply awaited 0 (lent .observations) (awaited .admission)
+    admittedOver setup (trialBy setup state (rowsOf counts (state .progress .subject))) reply awaited 0 (lent .observations)
+    (awaited .admission)

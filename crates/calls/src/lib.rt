@@ -33,7 +33,9 @@ pub fn open(
     warm: &mut [u64],
     results: &[u64],
 ) -> Begun
-    ensures { λ r. ⌜ begunWith r (now (cache .exit)) (now (work .exit)) (now (warm .exit)) ≡ openedBy setup (now (counts .entry)) observations check tally (now (cache .entry)) (now (work .entry)) (now (warm .entry)) (now (results .entry)) ⌝ }
+    ensures { λ r. ⌜ begunWith r (now (cache .exit)) (now (work .exit)) (now (warm .exit))
+        ≡ openedBy setup (now (counts .entry)) observations check tally (now (cache .entry)) (now (work .entry)) (now (warm .entry))
+        (now (results .entry)) ⌝ }
 {
     let lent = session::lent_by(observations, cache, work, warm, results);
     match setup_checks::checks(setup, counts, lent, check) {
@@ -76,7 +78,10 @@ pub fn begin_objective(
     warm: &mut [u64],
     results: &mut [u64],
 ) -> Called
-    ensures { λ r. ⌜ called r (now (cache .entry)) (now (work .exit)) (now (warm .exit)) (now (results .exit)) ≡ entered setup (now (counts .entry)) (enterObjective words setup (now (counts .entry)) observations check parameters (heldOf state tally (now (cache .entry)) (now (work .entry)) (now (warm .entry)) (now (results .entry)))) ⌝ }
+    ensures { λ r. ⌜ called r (now (cache .entry)) (now (work .exit)) (now (warm .exit)) (now (results .exit))
+        ≡ entered setup (now (counts .entry))
+        (enterObjective words setup (now (counts .entry)) observations check parameters
+        (heldOf state tally (now (cache .entry)) (now (work .entry)) (now (warm .entry)) (now (results .entry)))) ⌝ }
 {
     let lent = session::lent_by(observations, cache, work, warm, results);
     let progress = state.progress;
@@ -111,7 +116,10 @@ pub fn fail(
     warm: &[u64],
     results: &[u64],
 ) -> Called
-    ensures { λ r. ⌜ called r (now (cache .entry)) (now (work .exit)) (now (warm .entry)) (now (results .entry)) ≡ entered setup (now (counts .entry)) (enterFailure words setup (now (counts .entry)) observations check (heldOf state tally (now (cache .entry)) (now (work .entry)) (now (warm .entry)) (now (results .entry)))) ⌝ }
+    ensures { λ r. ⌜ called r (now (cache .entry)) (now (work .exit)) (now (warm .entry)) (now (results .entry))
+        ≡ entered setup (now (counts .entry))
+        (enterFailure words setup (now (counts .entry)) observations check
+        (heldOf state tally (now (cache .entry)) (now (work .entry)) (now (warm .entry)) (now (results .entry)))) ⌝ }
 {
     let lent = session::lent_by(observations, cache, work, warm, results);
     let awaited = call_checks::admit_awaited(setup, state, tally, check, lent, counts);

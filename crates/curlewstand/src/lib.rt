@@ -78,7 +78,8 @@ pub extern "C" fn curlewstand_row_terms(
     terms: &mut [f64; 3],
 ) -> u32
     ensures { λ r. ⌜ r ≡ numberOf (rowTerms (observationOf value additive proportional) prediction «f_eta» additive) ⌝ }
-    ensures { λ _. ⌜ now (terms .exit) ≡ termsOr (now (terms .entry)) (rowTerms (observationOf value additive proportional) prediction «f_eta» additive) ⌝ }
+    ensures { λ _. ⌜ now (terms .exit)
+        ≡ termsOr (now (terms .entry)) (rowTerms (observationOf value additive proportional) prediction «f_eta» additive) ⌝ }
 {
     let observation = Observation {
         output: 0,
@@ -112,7 +113,8 @@ pub extern "C" fn curlewstand_add_row(
 ) -> u32
     ensures { λ r. ⌜ r ≡ numberOf (rowVariance (observationOf value additive proportional) prediction (now («f_eta» .entry))) ⌝ }
     ensures { λ _. ⌜ sums (now (nll .exit)) (now (score .exit)) (now (information .exit))
-        ≡ addRow (observationOf value additive proportional) prediction (now («f_eta» .entry)) (sums (now (nll .entry)) (now (score .entry)) (now (information .entry))) ⌝ }
+        ≡ addRow (observationOf value additive proportional) prediction (now («f_eta» .entry))
+        (sums (now (nll .entry)) (now (score .entry)) (now (information .entry))) ⌝ }
 {
     let observation = Observation {
         output: 0,

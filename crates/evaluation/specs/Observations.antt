@@ -55,4 +55,5 @@ checkObservation width counts observation (Unsound place) = Unsound place
 
 abbrev pub checkObservations : ℕ → List ℕ → List Observation → Check → Check
 checkObservations width counts [] check = check
-checkObservations width counts (observation ∷ rest) check = checkObservations width counts rest (checkObservation width counts observation check)
+checkObservations width counts (observation ∷ rest) check =
+    checkObservations width counts rest (checkObservation width counts observation check)

@@ -50,7 +50,9 @@ pub extern "C" fn curlewstand_individual_values(
     individual: &mut [f64; 2],
 ) -> u32
     ensures { λ r. ⌜ r ≡ numberOf (individualValues (pairOf (now (theta .entry))) (pairOf (now (eta .entry))) effects) ⌝ }
-    ensures { λ _. ⌜ now (individual .exit) ≡ orOld (now (individual .entry)) (floatsOf (individualValues (pairOf (now (theta .entry))) (pairOf (now (eta .entry))) effects)) ⌝ }
+    ensures { λ _. ⌜ now (individual .exit)
+        ≡ orOld (now (individual .entry))
+        (floatsOf (individualValues (pairOf (now (theta .entry))) (pairOf (now (eta .entry))) effects)) ⌝ }
 {
     let typical = pair_of(*theta);
     let effect = pair_of(*eta);
@@ -152,7 +154,8 @@ pub extern "C" fn curlewstand_evaluate(
     work: &mut [u64],
     out: &mut [u64],
 ) -> u32
-    ensures { λ r. ⌜ evaluated r (now (work .exit)) (now (out .exit)) ≡ evaluate (now (observations .entry)) question (now (reply .entry)) (now (work .entry)) (now (out .entry)) ⌝ }
+    ensures { λ r. ⌜ evaluated r (now (work .exit)) (now (out .exit))
+        ≡ evaluate (now (observations .entry)) question (now (reply .entry)) (now (work .entry)) (now (out .entry)) ⌝ }
 {
     let start = beginning(question, reply);
     let evaluation = observations::add_observations(
@@ -198,7 +201,8 @@ pub extern "C" fn curlewstand_check_observations(
     counts: &[u64],
     place: &mut [u64],
 ) -> u32
-    ensures { λ r. ⌜ answered r (now (place .exit)) ≡ checkAll (now (observations .entry)) width (now (counts .entry)) (now (place .entry)) ⌝ }
+    ensures { λ r. ⌜ answered r (now (place .exit))
+        ≡ checkAll (now (observations .entry)) width (now (counts .entry)) (now (place .entry)) ⌝ }
 {
     let first = first_check();
     let check = observations::check_observations(

@@ -72,7 +72,8 @@ module _ (input counts observations : List ℕ) where
 
 -- ---- what is printed
 
--- of the end; a question that is left after 10,001 answers is printed as 19, but no session has one: each raises the evaluations, of which there are 10,000
+-- of the end; a question that is left after 10,001 answers is printed as 19, but no session has one: each raises the evaluations, of
+-- which there are 10,000
 unfoldable pub ended : List ℕ → State → Tally → List ℕ → Step → List ℕ
 ended counts state tally results (Asked eta individual) = refusalLine 19 Nowhere
 ended counts state tally results (Finished x) = finished x (tally .calls .0) (shrinkage state (length counts)) counts results
@@ -83,7 +84,9 @@ endOf counts r = ended counts (stateOf (r .state)) (r .state .whole .tally) (r .
 
 unfoldable pub whenOpened : List ℕ → List ℕ → List ℕ → List ℕ → Setting → Opening → List ℕ
 whenOpened input counts observations results s (Opens.Opened state) =
-    endOf counts (play input counts observations 10001 (begun counts observations (heldOf state (s .begun .tally) (s .cache) (s .work) (s .warm) results)))
+    endOf counts
+    (play input counts observations 10001
+    (begun counts observations (heldOf state (s .begun .tally) (s .cache) (s .work) (s .warm) results)))
 whenOpened input counts observations results s (Opens.Refused number place) = refusalLine number place
 
 -- with the session's words as they are lent to setup
@@ -94,7 +97,8 @@ fitted input counts observations cache work warm results =
 
 -- 24 K words for the kept evaluations; 12 work words, a warm start and five results for each of 256 records
 unfoldable pub lent : List ℕ → ℕ → List ℕ
-lent input subjects = fitted input (counts input subjects) (observations input) (replicate 1536 0) (replicate 3072 0) (replicate 256 0) (replicate 1280 0)
+lent input subjects =
+    fitted input (counts input subjects) (observations input) (replicate 1536 0) (replicate 3072 0) (replicate 256 0) (replicate 1280 0)
 
 unfoldable pub whenRecords : List ℕ → Cohort → List ℕ
 whenRecords input (Cohorts.Subjects n) = lent input n

@@ -69,7 +69,9 @@ fn answer(
     results: &mut [u64],
 ) -> Called
     requires { ⌜ (length (now input) ≤ 12288) × (1024 ≤ length (now reply)) ⌝ }
-    ensures { λ r. ⌜ called r (now (cache .exit)) (now (work .exit)) (now (warm .exit)) (now (results .exit)) ≡ replied (now (input .entry)) (now (counts .entry)) (now (observations .entry)) (heldOf (at .state) (at .tally) (now (cache .entry)) (now (work .entry)) (now (warm .entry)) (now (results .entry))) individual ⌝ }
+    ensures { λ r. ⌜ called r (now (cache .exit)) (now (work .exit)) (now (warm .exit)) (now (results .exit))
+        ≡ replied (now (input .entry)) (now (counts .entry)) (now (observations .entry))
+        (heldOf (at .state) (at .tally) (now (cache .entry)) (now (work .entry)) (now (warm .entry)) (now (results .entry))) individual ⌝ }
 {
     let state = at.state;
     let tally = at.tally;
@@ -104,7 +106,9 @@ fn play(
     results: &mut [u64],
 ) -> Called
     requires { ⌜ (length (now input) ≤ 12288) × (1024 ≤ length (now reply)) ⌝ }
-    ensures { λ r. ⌜ called r (now (cache .exit)) (now (work .exit)) (now (warm .exit)) (now (results .exit)) ≡ play (now (input .entry)) (now (counts .entry)) (now (observations .entry)) 10001 (called first (now (cache .entry)) (now (work .entry)) (now (warm .entry)) (now (results .entry))) ⌝ }
+    ensures { λ r. ⌜ called r (now (cache .exit)) (now (work .exit)) (now (warm .exit)) (now (results .exit))
+        ≡ play (now (input .entry)) (now (counts .entry)) (now (observations .entry)) 10001
+        (called first (now (cache .entry)) (now (work .entry)) (now (warm .entry)) (now (results .entry))) ⌝ }
 {
     let mut at = first;
     let mut left = QUESTIONS;
@@ -140,7 +144,8 @@ fn play(
 // What is printed of the end. A question that is left, which no session has, is printed as 19.
 fn told(at: Called, counts: &[u64], results: &[u64], out: &mut [u8]) -> usize
     requires { ⌜ length (now counts) ≤ 256 ⌝ }
-    ensures { λ r. ⌜ written r (now (out .exit)) ≡ write (ended (now (counts .entry)) (at .state) (at .tally) (now (results .entry)) (at .step)) (written 0 (now (out .entry))) ⌝ }
+    ensures { λ r. ⌜ written r (now (out .exit))
+        ≡ write (ended (now (counts .entry)) (at .state) (at .tally) (now (results .entry)) (at .step)) (written 0 (now (out .entry))) ⌝ }
 {
     let state = at.state;
     let tally = at.tally;
@@ -169,7 +174,10 @@ fn run(
     results: &mut [u64],
 ) -> Called
     requires { ⌜ (length (now input) ≤ 12288) × (1024 ≤ length (now reply)) ⌝ }
-    ensures { λ r. ⌜ called r (now (cache .exit)) (now (work .exit)) (now (warm .exit)) (now (results .exit)) ≡ play (now (input .entry)) (now (counts .entry)) (now (observations .entry)) 10001 (begun (now (counts .entry)) (now (observations .entry)) (heldOf state tally (now (cache .entry)) (now (work .entry)) (now (warm .entry)) (now (results .entry)))) ⌝ }
+    ensures { λ r. ⌜ called r (now (cache .exit)) (now (work .exit)) (now (warm .exit)) (now (results .exit))
+        ≡ play (now (input .entry)) (now (counts .entry)) (now (observations .entry)) 10001
+        (begun (now (counts .entry)) (now (observations .entry))
+        (heldOf state tally (now (cache .entry)) (now (work .entry)) (now (warm .entry)) (now (results .entry)))) ⌝ }
 {
     let setup = settings();
     let parameters = first_parameters();
@@ -211,7 +219,9 @@ fn fit(
     out: &mut [u8],
 ) -> usize
     requires { ⌜ (length (now input) ≤ 12288) × (1024 ≤ length (now reply)) × (length (now counts) ≤ 256) ⌝ }
-    ensures { λ r. ⌜ written r (now (out .exit)) ≡ write (fitted (now (input .entry)) (now (counts .entry)) (now (observations .entry)) (now (cache .entry)) (now (work .entry)) (now (warm .entry)) (now (results .entry))) (written 0 (now (out .entry))) ⌝ }
+    ensures { λ r. ⌜ written r (now (out .exit))
+        ≡ write (fitted (now (input .entry)) (now (counts .entry)) (now (observations .entry)) (now (cache .entry)) (now (work .entry))
+        (now (warm .entry)) (now (results .entry))) (written 0 (now (out .entry))) ⌝ }
 {
     let setup = settings();
     let none = Tally {

@@ -1,4 +1,5 @@
--- Rust's operators on f64, as a definition writes them: each is lib.Ieee's operation at binary64, rounded once. `word w` is the float whose bits are w.
+-- Rust's operators on f64, as a definition writes them: each is lib.Ieee's operation at binary64, rounded once. `word w` is the float
+-- whose bits are w.
 use Prim.Native.Nat.{ℕ}
 use lib.Ieee.{Float, binary64, ofBits, add, sub, mul, div}
 

@@ -44,7 +44,10 @@ pub extern "C" fn curlewstand_setup(
     warm: &mut [u64],
     results: &[u64],
 ) -> u32
-    ensures { λ r. ⌜ out (done r (now (tally .exit))) (now (state .exit)) (now (answer .exit)) (now (cache .exit)) (now (work .exit)) (now (warm .exit)) (now (results .entry)) ≡ setupOver (setupOf setup) (now (counts .entry)) (now (observations .entry)) (now (tally .entry)) (now (state .entry)) (now (answer .entry)) (now (cache .entry)) (now (work .entry)) (now (warm .entry)) (now (results .entry)) ⌝ }
+    ensures { λ r. ⌜ out (done r (now (tally .exit))) (now (state .exit)) (now (answer .exit)) (now (cache .exit)) (now (work .exit))
+        (now (warm .exit)) (now (results .entry))
+        ≡ setupOver (setupOf setup) (now (counts .entry)) (now (observations .entry)) (now (tally .entry)) (now (state .entry))
+        (now (answer .entry)) (now (cache .entry)) (now (work .entry)) (now (warm .entry)) (now (results .entry)) ⌝ }
 {
     let before = lending::tally_now(tally);
     let check = check_lent(setup, observations, counts);
@@ -81,7 +84,11 @@ pub extern "C" fn curlewstand_objective(
     warm: &mut [u64],
     results: &mut [u64],
 ) -> u32
-    ensures { λ r. ⌜ out (done r (now (tally .exit))) (now (state .exit)) (now (answer .exit)) (now (cache .entry)) (now (work .exit)) (now (warm .exit)) (now (results .exit)) ≡ callOver (setupOf setup) (now (counts .entry)) (now (observations .entry)) (now (tally .entry)) (now (state .entry)) (now (answer .entry)) (now (cache .entry)) (now (work .entry)) (now (warm .entry)) (now (results .entry)) (objective (parametersOf parameters)) ⌝ }
+    ensures { λ r. ⌜ out (done r (now (tally .exit))) (now (state .exit)) (now (answer .exit)) (now (cache .entry)) (now (work .exit))
+        (now (warm .exit)) (now (results .exit))
+        ≡ callOver (setupOf setup) (now (counts .entry)) (now (observations .entry)) (now (tally .entry)) (now (state .entry))
+        (now (answer .entry)) (now (cache .entry)) (now (work .entry)) (now (warm .entry)) (now (results .entry))
+        (objective (parametersOf parameters)) ⌝ }
 {
     let before = lending::tally_now(tally);
     let check = check_lent(setup, observations, counts);
@@ -120,7 +127,10 @@ fn reply_checked(
     results: &mut [u64],
 ) -> Done
     requires { ⌜ check ≡ allChecked (setupOf setup) (now counts) (now observations) ⌝ }
-    ensures { λ r. ⌜ out r (now (state .exit)) (now (answer .exit)) (now (cache .exit)) (now (work .exit)) (now (warm .exit)) (now (results .exit)) ≡ callOver (setupOf setup) (now (counts .entry)) (now (observations .entry)) tally (now (state .entry)) (now (answer .entry)) (now (cache .entry)) (now (work .entry)) (now (warm .entry)) (now (results .entry)) (replies (now (reply .entry))) ⌝ }
+    ensures { λ r. ⌜ out r (now (state .exit)) (now (answer .exit)) (now (cache .exit)) (now (work .exit)) (now (warm .exit))
+        (now (results .exit))
+        ≡ callOver (setupOf setup) (now (counts .entry)) (now (observations .entry)) tally (now (state .entry)) (now (answer .entry))
+        (now (cache .entry)) (now (work .entry)) (now (warm .entry)) (now (results .entry)) (replies (now (reply .entry))) ⌝ }
 {
     let n = observations.len();
     let lent = session::lent_of(n, cache.len(), work.len(), warm.len(), results.len());
@@ -158,7 +168,11 @@ pub extern "C" fn curlewstand_reply(
     warm: &mut [u64],
     results: &mut [u64],
 ) -> u32
-    ensures { λ r. ⌜ out (done r (now (tally .exit))) (now (state .exit)) (now (answer .exit)) (now (cache .exit)) (now (work .exit)) (now (warm .exit)) (now (results .exit)) ≡ callOver (setupOf setup) (now (counts .entry)) (now (observations .entry)) (now (tally .entry)) (now (state .entry)) (now (answer .entry)) (now (cache .entry)) (now (work .entry)) (now (warm .entry)) (now (results .entry)) (replies (now (reply .entry))) ⌝ }
+    ensures { λ r. ⌜ out (done r (now (tally .exit))) (now (state .exit)) (now (answer .exit)) (now (cache .exit)) (now (work .exit))
+        (now (warm .exit)) (now (results .exit))
+        ≡ callOver (setupOf setup) (now (counts .entry)) (now (observations .entry)) (now (tally .entry)) (now (state .entry))
+        (now (answer .entry)) (now (cache .entry)) (now (work .entry)) (now (warm .entry)) (now (results .entry))
+        (replies (now (reply .entry))) ⌝ }
 {
     let before = lending::tally_now(tally);
     let check = check_lent(setup, observations, counts);
@@ -194,7 +208,10 @@ pub extern "C" fn curlewstand_failure(
     warm: &[u64],
     results: &[u64],
 ) -> u32
-    ensures { λ r. ⌜ out (done r (now (tally .exit))) (now (state .exit)) (now (answer .exit)) (now (cache .entry)) (now (work .exit)) (now (warm .entry)) (now (results .entry)) ≡ callOver (setupOf setup) (now (counts .entry)) (now (observations .entry)) (now (tally .entry)) (now (state .entry)) (now (answer .entry)) (now (cache .entry)) (now (work .entry)) (now (warm .entry)) (now (results .entry)) failure ⌝ }
+    ensures { λ r. ⌜ out (done r (now (tally .exit))) (now (state .exit)) (now (answer .exit)) (now (cache .entry)) (now (work .exit))
+        (now (warm .entry)) (now (results .entry))
+        ≡ callOver (setupOf setup) (now (counts .entry)) (now (observations .entry)) (now (tally .entry)) (now (state .entry))
+        (now (answer .entry)) (now (cache .entry)) (now (work .entry)) (now (warm .entry)) (now (results .entry)) failure ⌝ }
 {
     let before = lending::tally_now(tally);
     let check = check_lent(setup, observations, counts);

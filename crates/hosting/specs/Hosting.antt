@@ -60,7 +60,11 @@ setupOf s = record {
 }
 
 unfoldable pub parametersOf : SessionParameters → Parameters
-parametersOf p = record { theta = record { first = p .theta; second = p .«theta_2» }; omega = p .omega; «additive_sd» = additiveSd (p .«has_additive») (p .additive) }
+parametersOf p = record {
+  theta = record { first = p .theta; second = p .«theta_2» };
+  omega = p .omega;
+  «additive_sd» = additiveSd (p .«has_additive») (p .additive);
+}
 
 -- ---- the same as it stands in memory: for each float its 64 bits, for max_evaluations 32. `setup_of` and `parameters_of` promise that all
 -- that a host can hand over is of this form, so that nothing has to be asked of it.
@@ -149,7 +153,9 @@ placeWords number (At.Observation subject observation) = answerWords 2 number 2 
 
 -- for each case of a step, its words
 unfoldable pub answerOf : Step → AnswerWords
-answerOf (Says.Asked eta individual) = answerWords 0 (toBits binary64 (eta .first)) (toBits binary64 (eta .second)) (toBits binary64 (individual .first)) (toBits binary64 (individual .second))
+answerOf (Says.Asked eta individual) =
+    answerWords 0 (toBits binary64 (eta .first)) (toBits binary64 (eta .second)) (toBits binary64 (individual .first))
+    (toBits binary64 (individual .second))
 answerOf (Says.Finished objective) = answerWords 1 (toBits binary64 objective) 0 0 0
 answerOf (Says.Refused number place) = placeWords number place
 
@@ -177,14 +183,17 @@ toldAs r state answer = record { done = r; state = state; answer = answer }
 unfoldable pub told : Called → List ℕ → List ℕ → Told
 told c state answer =
     let number = numberOf (c .step) in
-    toldAs (record { number = number; tally = c .tally }) (pick (isUnaltered number) state (savedState (c .state) state)) (answered (answerOf (c .step)) answer)
+    toldAs (record { number = number; tally = c .tally }) (pick (isUnaltered number) state (savedState (c .state) state))
+    (answered (answerOf (c .step)) answer)
 
 abbrev pub noState : Tally → Done
 noState tally = record { number = 19; tally = tally }
 
 unfoldable pub openedTo : Tally → List ℕ → List ℕ → Opening → Told
-openedTo tally state answer (Opens.Opened next) = toldAs (record { number = 0; tally = tally }) (savedState next state) (answered (answerWords 1 0 0 0 0) answer)
-openedTo tally state answer (Opens.Refused number place) = toldAs (record { number = number; tally = tally }) state (answered (placeWords number place) answer)
+openedTo tally state answer (Opens.Opened next) =
+    toldAs (record { number = 0; tally = tally }) (savedState next state) (answered (answerWords 1 0 0 0 0) answer)
+openedTo tally state answer (Opens.Refused number place) =
+    toldAs (record { number = number; tally = tally }) state (answered (placeWords number place) answer)
 
 unfoldable pub opened : Begun → List ℕ → List ℕ → Told
 opened b state answer = openedTo (b .tally) state answer (b .opening)
@@ -208,11 +217,13 @@ out r state answer cache work warm results = outOf (toldAs r state answer) cache
 abbrev pub did : Ran (Held words) Step → List ℕ → List ℕ → Out
 did z state answer =
     let w = z .state .whole in
-    outOf (told (record { state = stateOf (z .state); tally = w .tally; step = z .answer }) state answer) (w .kept .words) (w .work) (w .warm) (w .results)
+    outOf (told (record { state = stateOf (z .state); tally = w .tally; step = z .answer }) state answer)
+    (w .kept .words) (w .work) (w .warm) (w .results)
 
 -- the words are no state: 19
 abbrev pub unknown : Tally → List ℕ → List ℕ → List ℕ → List ℕ → List ℕ → List ℕ → Out
-unknown tally state answer cache work warm results = out (noState tally) state (answered (placeWords 19 At.Nowhere) answer) cache work warm results
+unknown tally state answer cache work warm results =
+    out (noState tally) state (answered (placeWords 19 At.Nowhere) answer) cache work warm results
 
 unfoldable pub withState : (State → Out) → Out → Answer State → Out
 withState f other (given s) = f s
@@ -223,15 +234,22 @@ module _ (setup : Setup) (counts : List ℕ) (n : ℕ) (check : Check) (tally : 
   settled s = outOf (opened (s .begun) state answer) (s .cache) (s .work) (s .warm) results
 
   unfoldable pub openWith : Out
-  openWith = pick (ltb (length state) 63) (unknown tally state answer cache work warm results) (settled (openedBy setup counts n check tally cache work warm results))
+  openWith =
+      pick (ltb (length state) 63) (unknown tally state answer cache work warm results)
+      (settled (openedBy setup counts n check tally cache work warm results))
 
   unfoldable pub objectiveWith : Parameters → Out
   objectiveWith parameters =
-      withState (λ s. did (entered setup counts (enterObjective words setup counts n check parameters (heldOf s tally cache work warm results))) state answer) (unknown tally state answer cache work warm results) (loadedState state)
+      withState
+      (λ s. did (entered setup counts (enterObjective words setup counts n check parameters (heldOf s tally cache work warm results)))
+      state answer)
+      (unknown tally state answer cache work warm results) (loadedState state)
 
   unfoldable pub failureWith : Out
   failureWith =
-      withState (λ s. did (entered setup counts (enterFailure words setup counts n check (heldOf s tally cache work warm results))) state answer) (unknown tally state answer cache work warm results) (loadedState state)
+      withState
+      (λ s. did (entered setup counts (enterFailure words setup counts n check (heldOf s tally cache work warm results))) state answer)
+      (unknown tally state answer cache work warm results) (loadedState state)
 
 -- ---- a reply's two parts
 
@@ -241,13 +259,17 @@ admitWith setup counts lent check tally reply (refused n) = unadmitted
 
 unfoldable pub finishWith : Setup → List ℕ → Awaited → Evaluation → Tally → List ℕ → List ℕ → List ℕ → List ℕ → List ℕ → List ℕ → Out
 finishWith setup counts a e tally state answer cache work warm results =
-    withState (λ s. did (finishReply setup counts a e (heldOf s tally cache work warm results)) state answer) (unknown tally state answer cache work warm results) (loadedState state)
+    withState (λ s. did (finishReply setup counts a e (heldOf s tally cache work warm results)) state answer)
+    (unknown tally state answer cache work warm results) (loadedState state)
 
 -- ---- the calls, over the observations
 
-module _ (setup : Setup) (counts : List ℕ) (observations : List Observation) (tally : Tally) (state answer cache work warm results : List ℕ) where
+module _ (setup : Setup) (counts : List ℕ) (observations : List Observation) (tally : Tally)
+    (state answer cache work warm results : List ℕ) where
   unfoldable pub setupOver : Out
   setupOver = openWith setup counts (length observations) (allChecked setup counts observations) tally state answer cache work warm results
 
   unfoldable pub callOver : Call → Out
-  callOver c = withState (λ s. did (call (session words setup counts observations) c (heldOf s tally cache work warm results)) state answer) (unknown tally state answer cache work warm results) (loadedState state)
+  callOver c =
+      withState (λ s. did (call (session words setup counts observations) c (heldOf s tally cache work warm results)) state answer)
+      (unknown tally state answer cache work warm results) (loadedState state)

@@ -63,7 +63,8 @@ fn raised(first_row: usize, next_row: usize, n: usize) -> usize
 // The oldest go until at most `room` rows are left.
 fn evict(words: &[u64], k: usize, room: usize, order: CacheOrder) -> CacheOrder
     requires { ⌜ (0 < k) × (k ≤ 100000) ⌝ }
-    ensures { λ r. ⌜ r ≡ evict (order .next - order .oldest) (now (words .entry)) k room (order .next) (order .«next_row») (order .oldest) (order .«first_row») ⌝ }
+    ensures { λ r. ⌜ r ≡ evict (order .next - order .oldest) (now (words .entry)) k room
+        (order .next) (order .«next_row») (order .oldest) (order .«first_row») ⌝ }
 {
     let mut oldest = order.oldest;
     let mut first_row = order.first_row;
@@ -241,7 +242,8 @@ fn write_entry(
     rows: &[u64],
     from: usize,
 )
-    requires { ⌜ (0 < k) × (k ≤ 100000) × (n ≤ k) × (entry < half) × (row < 1152921504606846976) × (from + rowWords * n < 18446744073709551616) ⌝ }
+    requires { ⌜ (0 < k) × (k ≤ 100000) × (n ≤ k) × (entry < half) × (row < 1152921504606846976)
+        × (from + rowWords * n < 18446744073709551616) ⌝ }
     ensures { λ _. ⌜ now (words .exit) ≡ written (now (words .entry)) k oldest entry row key terms n (now (rows .entry)) from ⌝ }
 {
     let hash = hash(key);

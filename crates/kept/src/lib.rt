@@ -59,7 +59,8 @@ pub extern "C" fn curlewstand_cache_find(
     slot: &mut usize,
 ) -> bool
     ensures { λ r. ⌜ r ≡ isFound (find (now (words .entry)) k (orderOf (now (order .entry))) (keyOf (now (key .entry)))) ⌝ }
-    ensures { λ _. ⌜ now (slot .exit) ≡ slotOr (now (slot .entry)) (find (now (words .entry)) k (orderOf (now (order .entry))) (keyOf (now (key .entry)))) ⌝ }
+    ensures { λ _. ⌜ now (slot .exit)
+        ≡ slotOr (now (slot .entry)) (find (now (words .entry)) k (orderOf (now (order .entry))) (keyOf (now (key .entry)))) ⌝ }
 {
     let at = order_of(*order);
     let wanted = key_of(*key);
@@ -114,8 +115,12 @@ pub extern "C" fn curlewstand_cache_insert(
     rows: &[u64],
     from: usize,
 )
-    ensures { λ _. ⌜ now (words .exit) ≡ insert (now (words .entry)) k (orderOf (now (order .entry))) (keyOf (now (key .entry))) (termsFrom (now (terms .entry))) n (now (rows .entry)) from .words ⌝ }
-    ensures { λ _. ⌜ now (order .exit) ≡ orderWords (insert (now (words .entry)) k (orderOf (now (order .entry))) (keyOf (now (key .entry))) (termsFrom (now (terms .entry))) n (now (rows .entry)) from .order) ⌝ }
+    ensures { λ _. ⌜ now (words .exit)
+        ≡ insert (now (words .entry)) k (orderOf (now (order .entry))) (keyOf (now (key .entry))) (termsFrom (now (terms .entry))) n
+        (now (rows .entry)) from .words ⌝ }
+    ensures { λ _. ⌜ now (order .exit)
+        ≡ orderWords (insert (now (words .entry)) k (orderOf (now (order .entry))) (keyOf (now (key .entry)))
+        (termsFrom (now (terms .entry))) n (now (rows .entry)) from .order) ⌝ }
 {
     let at = order_of(*order);
     let new = key_of(*key);

@@ -74,7 +74,8 @@ fn copy_run(words: &[u64], from: usize, n: usize, out: &mut [u64], to: usize)
 // Copies n words of a slot's rows to `out`, from word `to` on: those before the end of their ring, then
 // those from its beginning on.
 fn copy_words(words: &[u64], k: usize, slot: usize, n: usize, out: &mut [u64], to: usize)
-    requires { ⌜ (0 < k) × (k ≤ 100000) × (n ≤ rowWords * k) × ((rowsFrom + rowWords) * k ≤ length (now words)) × (to + n ≤ length (now out)) ⌝ }
+    requires { ⌜ (0 < k) × (k ≤ 100000) × (n ≤ rowWords * k) × ((rowsFrom + rowWords) * k ≤ length (now words))
+        × (to + n ≤ length (now out)) ⌝ }
     ensures { λ _. ⌜ now (out .exit) ≡ rowsTo (now (words .entry)) k slot n (now (out .entry)) to ⌝ }
 {
     let first = number(read(words, entry_place(k, slot) + 15));

@@ -104,7 +104,8 @@ passed fit rows kept left progress work go notKept = worked (reached fit progres
 unfoldable pub through : Fit → ℕ → Cache → ℕ → Progress → List ℕ → Worked Reached
 through fit rows kept zero progress work = worked (reached fit progress zero) work
 through fit rows kept (suc n) progress work =
-    passed fit rows kept (suc n) progress work (λ p w. through fit rows kept n p w) (keptPoint fit (progress .subject) kept (B.wantedBy fit progress))
+    passed fit rows kept (suc n) progress work (λ p w. through fit rows kept n p w)
+    (keptPoint fit (progress .subject) kept (B.wantedBy fit progress))
 
 -- with what is in hand first
 unfoldable pub throughFrom : Fit → ℕ → Cache → ℕ → InHand → Progress → List ℕ → Worked Reached

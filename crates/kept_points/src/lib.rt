@@ -145,7 +145,8 @@ fn through_kept_1d(
     work: &mut [u64],
 ) -> Reached1
     requires { ⌜ (fit .effects ≡ 2 → ⊥) ⌝ }
-    ensures { λ r. ⌜ worked (reached1 start r) (now (work .exit)) ≡ throughFrom fit rows (cacheOf (now (cache .entry)) order) fuel hand start (now (work .entry)) ⌝ }
+    ensures { λ r. ⌜ worked (reached1 start r) (now (work .exit))
+        ≡ throughFrom fit rows (cacheOf (now (cache .entry)) order) fuel hand start (now (work .entry)) ⌝ }
 {
     let settings = points::settings(fit, start);
     let mut search = start.search;
@@ -207,7 +208,8 @@ fn through_kept_2d(
     work: &mut [u64],
 ) -> Reached2
     requires { ⌜ fit .effects ≡ 2 ⌝ }
-    ensures { λ r. ⌜ worked (reached2 start r) (now (work .exit)) ≡ throughFrom fit rows (cacheOf (now (cache .entry)) order) fuel hand start (now (work .entry)) ⌝ }
+    ensures { λ r. ⌜ worked (reached2 start r) (now (work .exit))
+        ≡ throughFrom fit rows (cacheOf (now (cache .entry)) order) fuel hand start (now (work .entry)) ⌝ }
 {
     let settings = points::settings_2d(fit, start);
     let mut search = start.search_2d;
@@ -248,7 +250,9 @@ pub fn through_kept(
     cache: &[u64],
     work: &mut [u64],
 ) -> Reached
-    ensures { λ r. ⌜ worked r (now (work .exit)) ≡ throughFrom fit (rowsOf (now (counts .entry)) (progress .subject)) (cacheOf (now (cache .entry)) order) fuel hand progress (now (work .entry)) ⌝ }
+    ensures { λ r. ⌜ worked r (now (work .exit))
+        ≡ throughFrom fit (rowsOf (now (counts .entry)) (progress .subject)) (cacheOf (now (cache .entry)) order) fuel hand progress
+        (now (work .entry)) ⌝ }
 {
     let rows = population::rows_of(counts, progress.subject);
     if fit.effects == 2 {

@@ -13,4 +13,5 @@ done number tally = record { number = number; tally = tally }
 
 -- the evaluation of a reply, with the work words that it has written
 abbrev pub evaluateOver : List Observation → Admitted → List ℕ → List ℕ → Evaluating
-evaluateOver observations a reply work = addObservations (a .trial) reply (take (a .to - a .from) (drop (a .from) observations)) (evaluating (a .evaluation) work)
+evaluateOver observations a reply work =
+    addObservations (a .trial) reply (take (a .to - a .from) (drop (a .from) observations)) (evaluating (a .evaluation) work)

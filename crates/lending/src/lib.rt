@@ -29,7 +29,8 @@ pub fn evaluate(
     reply: &[u64],
     work: &mut [u64],
 ) -> Evaluation
-    ensures { λ r. ⌜ evaluating r (now (work .exit)) ≡ evaluateOver (now (observations .entry)) admitted (now (reply .entry)) (now (work .entry)) ⌝ }
+    ensures { λ r. ⌜ evaluating r (now (work .exit))
+        ≡ evaluateOver (now (observations .entry)) admitted (now (reply .entry)) (now (work .entry)) ⌝ }
 {
     observations::add_observations(
         observations,

@@ -53,5 +53,6 @@ addScore score row f-eta =
 unfoldable pub addInformation : List (List Float) → Row2 → List Float → List (List Float)
 addInformation information row f-eta =
     let r-eta = row .«r_eta» in
-    let sum : ℕ → ℕ → Float = λ i j. entry information i j +ᶠ informationTerm (row .variance) (at f-eta i) (at f-eta j) (at r-eta i) (at r-eta j) in
+    let sum : ℕ → ℕ → Float = λ i j.
+    entry information i j +ᶠ informationTerm (row .variance) (at f-eta i) (at f-eta j) (at r-eta i) (at r-eta j) in
     pair (pair (sum 0 0) (sum 0 1)) (pair (sum 1 0) (sum 1 1))

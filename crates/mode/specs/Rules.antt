@@ -124,7 +124,8 @@ entered s x =
       best = pick (isCloser (x .left) (x .right)) (x .left) (x .right);
     }
 
--- 13 and 14 leave the search on the grid. So does a grid without a cell, which only a NaN score makes: the start's right end is not above 0.
+-- 13 and 14 leave the search on the grid. So does a grid without a cell, which only a NaN score makes: the start's right end is not above
+-- 0.
 unfoldable pub chosen : Settings → Search → Search
 chosen s x =
     pick (ltb (x .count) 17) x

@@ -1,5 +1,5 @@
--- The rules of the two-effect search, `mode` and `mode_from_seed` of population_focei_2d.rs: which point it asks for, and what an evaluated point makes of it.
--- Matrices and their operations are matrix's.
+-- The rules of the two-effect search, `mode` and `mode_from_seed` of population_focei_2d.rs: which point it asks for, and what an
+-- evaluated point makes of it. Matrices and their operations are matrix's.
 use mathlib.Core.Bool.{Bool, true, false}
 use mathlib.Core.List.{List}
 use Prim.Native.Nat.{ℕ, zero, suc, _+_, _-_, _*_, _^_}
@@ -130,12 +130,30 @@ better s seed c best = pick (eqb seed 0) c (pick (lt (joint s c) (joint s best))
 -- outside of any round
 unfoldable pub between : Stage2 → ℕ → Conditional2 → Conditional2 → Search2
 between stage seed current best =
-    record { stage = stage; seed = seed; round = 0; reduction = 0; current = current; trial = of nought nought; decrease = nought; best = best }
+    record {
+      stage = stage;
+      seed = seed;
+      round = 0;
+      reduction = 0;
+      current = current;
+      trial = of nought nought;
+      decrease = nought;
+      best = best;
+    }
 
 -- a trial is awaited
 unfoldable pub trying : ℕ → ℕ → ℕ → Conditional2 → Conditional2 → NewtonStep → Pair → Search2
 trying seed round reduction current best step trial =
-    record { stage = Trial; seed = seed; round = round; reduction = reduction; current = current; trial = trial; decrease = decrease step trial; best = best }
+    record {
+      stage = Trial;
+      seed = seed;
+      round = round;
+      reduction = reduction;
+      current = current;
+      trial = trial;
+      decrease = decrease step trial;
+      best = best;
+    }
 
 -- the rounds of a start are over at c, its candidate
 unfoldable pub finish : Settings2 → ℕ → Conditional2 → Conditional2 → Search2

@@ -1,4 +1,5 @@
--- How the code goes on after an evaluated point: it decides first where, and then goes on through a start's rounds in one place. These definitions are between its functions; what is said of a search cites Rules alone.
+-- How the code goes on after an evaluated point: it decides first where, and then goes on through a start's rounds in one place. These
+-- definitions are between its functions; what is said of a search cites Rules alone.
 use Prim.Native.Nat.{ℕ, _+_, _-_}
 use lib.Dec.{ltb}
 use lib.Ieee.{Float, le}

@@ -40,7 +40,9 @@ pub fn add_observations(
     reply: &[u64],
     work: &mut [u64],
 ) -> Evaluation
-    ensures { λ r. ⌜ evaluating r (now (work .exit)) ≡ addObservations trial (now (reply .entry)) (take (to - from) (drop from (now (observations .entry)))) (evaluating evaluation (now (work .entry))) ⌝ }
+    ensures { λ r. ⌜ evaluating r (now (work .exit))
+        ≡ addObservations trial (now (reply .entry)) (take (to - from) (drop from (now (observations .entry))))
+        (evaluating evaluation (now (work .entry))) ⌝ }
 {
     let end = smaller(to, observations.len());
     let mut sums = evaluation;

@@ -88,7 +88,8 @@ nextSubject fit counts progress tally mode rows warm work =
     let squares = progress .«eta_squares» +ᶠ mode .eta .first *ᶠ mode .eta .first in
     let subject = raised (progress .subject) 1 in
     pick (ltb subject (length counts))
-    (worked (On (B.beginSubject subject (raised (progress .first) rows) (warmOf warm (fit .effects) subject) ofv squares)) (zeros (length work)))
+    (worked (On (B.beginSubject subject (raised (progress .first) rows) (warmOf warm (fit .effects) subject) ofv squares))
+    (zeros (length work)))
     (worked (Halt (B.objectiveOf progress tally ofv squares)) work)
 
 -- a turn with all that it may write
@@ -103,11 +104,13 @@ ended t work warm results = record { turned = t; work = work; warm = warm; resul
 
 -- 16, the warm start, 17, the results
 unfoldable pub closing : Fit → List ℕ → Progress → Tally → ℕ → List ℕ → List ℕ → List ℕ → Closed → Ended
-closing fit counts progress tally rows work warm results NotPositive = ended (Halt (B.refusedBy progress tally 16 (Subject (progress .subject)))) work warm results
+closing fit counts progress tally rows work warm results NotPositive =
+    ended (Halt (B.refusedBy progress tally 16 (Subject (progress .subject)))) work warm results
 closing fit counts progress tally rows work warm results (Positive mode) =
     let stored = warmStored (fit .effects) (progress .subject) (mode .eta) warm in
     let next = nextSubject fit counts progress tally mode rows stored work in
-    let fitted = fittedWritten (length counts) (progress .first) work rows (resultWritten (progress .subject) (mode .eta) (mode .nll) results) in
+    let fitted = fittedWritten (length counts) (progress .first) work rows
+    (resultWritten (progress .subject) (mode .eta) (mode .nll) results) in
     pick (isSameGrid work rows) (ended (next .value) (next .work) stored fitted)
     (ended (Halt (B.refusedBy progress tally 17 (Subject (progress .subject)))) work stored results)
 
@@ -152,7 +155,14 @@ pub record Whole (S : Store) : Type 0 where
   pub results : List ℕ
 
 abbrev pub wholeOf : (S : Store) → Progress → Tally → S .Kept → List ℕ → List ℕ → List ℕ → Whole S
-wholeOf S progress tally kept work warm results = record { progress = progress; tally = tally; kept = kept; work = work; warm = warm; results = results }
+wholeOf S progress tally kept work warm results = record {
+  progress = progress;
+  tally = tally;
+  kept = kept;
+  work = work;
+  warm = warm;
+  results = results;
+}
 
 unfoldable pub moved : (S : Store) → Tally → S .Kept → List ℕ → List ℕ → List ℕ → Turned → Moved (Whole S) Step
 moved S tally kept work warm results (On progress) = on (wholeOf S progress tally kept work warm results)
@@ -188,4 +198,9 @@ receive S fit counts progress tally eta sums kept work =
     let rows = rowsOf counts (progress .subject) in
     let after = S .keep kept (fit .k) (B.keyOf fit (progress .subject) eta) (B.termsOf sums) rows work (block rows 3) in
     let t = take fit rows progress eta sums work in
-    record { progress = t .value; tally = record { calls = tally .calls; «cached_rows» = record { 0 = S .rows after } }; kept = after; work = t .work }
+    record {
+      progress = t .value;
+      tally = record { calls = tally .calls; «cached_rows» = record { 0 = S .rows after } };
+      kept = after;
+      work = t .work;
+    }

@@ -83,7 +83,8 @@ fn next_subject(
     work: &mut [u64],
     warm: &[u64],
 ) -> Turned
-    ensures { λ r. ⌜ worked r (now (work .exit)) ≡ nextSubject fit (now (counts .entry)) progress tally mode rows (now (warm .entry)) (now (work .entry)) ⌝ }
+    ensures { λ r. ⌜ worked r (now (work .exit))
+        ≡ nextSubject fit (now (counts .entry)) progress tally mode rows (now (warm .entry)) (now (work .entry)) ⌝ }
 {
     let ofv = progress.ofv + mode.term;
     let eta_squares = progress.eta_squares + mode.eta.first * mode.eta.first;
@@ -107,7 +108,8 @@ pub fn at_mode(
     warm: &mut [u64],
     results: &mut [u64],
 ) -> Turned
-    ensures { λ r. ⌜ ended r (now (work .exit)) (now (warm .exit)) (now (results .exit)) ≡ atMode fit (now (counts .entry)) progress tally (now (work .entry)) (now (warm .entry)) (now (results .entry)) ⌝ }
+    ensures { λ r. ⌜ ended r (now (work .exit)) (now (warm .exit)) (now (results .exit))
+        ≡ atMode fit (now (counts .entry)) progress tally (now (work .entry)) (now (warm .entry)) (now (results .entry)) ⌝ }
 {
     let subject = progress.subject;
     let rows = rows_of(counts, subject);

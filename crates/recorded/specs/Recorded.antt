@@ -46,4 +46,5 @@ replyOf rows = reply rows
 -- setup, with what is found of these observations
 abbrev pub openOf : Setup → List ℕ → List ℕ → Tally → List ℕ → List ℕ → List ℕ → List ℕ → Setting
 openOf setup counts observations tally cache work warm results =
-    openedBy setup counts (length (observationsOf observations)) (allChecked setup counts (observationsOf observations)) tally cache work warm results
+    openedBy setup counts (length (observationsOf observations)) (allChecked setup counts (observationsOf observations))
+    tally cache work warm results

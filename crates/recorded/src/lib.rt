@@ -97,7 +97,9 @@ pub fn add_words(
     reply: &[u64],
     work: &mut [u64],
 ) -> Evaluation
-    ensures { λ r. ⌜ evaluating r (now (work .exit)) ≡ addObservations trial (now (reply .entry)) (take (to - from) (drop from (observationsOf (now (words .entry))))) (evaluating evaluation (now (work .entry))) ⌝ }
+    ensures { λ r. ⌜ evaluating r (now (work .exit))
+        ≡ addObservations trial (now (reply .entry)) (take (to - from) (drop from (observationsOf (now (words .entry)))))
+        (evaluating evaluation (now (work .entry))) ⌝ }
 {
     let end = smaller(to, count_of(words));
     let mut sums = evaluation;

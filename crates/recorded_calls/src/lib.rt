@@ -22,7 +22,9 @@ pub fn open(
     warm: &mut [u64],
     results: &[u64],
 ) -> Begun
-    ensures { λ r. ⌜ begunWith r (now (cache .exit)) (now (work .exit)) (now (warm .exit)) ≡ openOf setup (now (counts .entry)) (now (observations .entry)) tally (now (cache .entry)) (now (work .entry)) (now (warm .entry)) (now (results .entry)) ⌝ }
+    ensures { λ r. ⌜ begunWith r (now (cache .exit)) (now (work .exit)) (now (warm .exit))
+        ≡ openOf setup (now (counts .entry)) (now (observations .entry)) tally (now (cache .entry)) (now (work .entry))
+        (now (warm .entry)) (now (results .entry)) ⌝ }
 {
     let check = recorded::check_words(observations, setup.width, counts);
     let n = recorded::count_of(observations);
@@ -42,7 +44,9 @@ pub fn objective(
     warm: &mut [u64],
     results: &mut [u64],
 ) -> Called
-    ensures { λ r. ⌜ called r (now (cache .entry)) (now (work .exit)) (now (warm .exit)) (now (results .exit)) ≡ callOf setup (now (counts .entry)) (now (observations .entry)) (objective parameters) (heldOf state tally (now (cache .entry)) (now (work .entry)) (now (warm .entry)) (now (results .entry))) ⌝ }
+    ensures { λ r. ⌜ called r (now (cache .entry)) (now (work .exit)) (now (warm .exit)) (now (results .exit))
+        ≡ callOf setup (now (counts .entry)) (now (observations .entry)) (objective parameters)
+        (heldOf state tally (now (cache .entry)) (now (work .entry)) (now (warm .entry)) (now (results .entry))) ⌝ }
 {
     let check = recorded::check_words(observations, setup.width, counts);
     let n = recorded::count_of(observations);
@@ -74,7 +78,9 @@ pub fn reply(
     warm: &mut [u64],
     results: &mut [u64],
 ) -> Called
-    ensures { λ r. ⌜ called r (now (cache .exit)) (now (work .exit)) (now (warm .exit)) (now (results .exit)) ≡ callOf setup (now (counts .entry)) (now (observations .entry)) (replyOf (now (reply .entry))) (heldOf state tally (now (cache .entry)) (now (work .entry)) (now (warm .entry)) (now (results .entry))) ⌝ }
+    ensures { λ r. ⌜ called r (now (cache .exit)) (now (work .exit)) (now (warm .exit)) (now (results .exit))
+        ≡ callOf setup (now (counts .entry)) (now (observations .entry)) (replyOf (now (reply .entry)))
+        (heldOf state tally (now (cache .entry)) (now (work .entry)) (now (warm .entry)) (now (results .entry))) ⌝ }
 {
     let check = recorded::check_words(observations, setup.width, counts);
     let n = recorded::count_of(observations);
@@ -117,7 +123,9 @@ pub fn failure(
     warm: &[u64],
     results: &[u64],
 ) -> Called
-    ensures { λ r. ⌜ called r (now (cache .entry)) (now (work .exit)) (now (warm .entry)) (now (results .entry)) ≡ callOf setup (now (counts .entry)) (now (observations .entry)) failure (heldOf state tally (now (cache .entry)) (now (work .entry)) (now (warm .entry)) (now (results .entry))) ⌝ }
+    ensures { λ r. ⌜ called r (now (cache .entry)) (now (work .exit)) (now (warm .entry)) (now (results .entry))
+        ≡ callOf setup (now (counts .entry)) (now (observations .entry)) failure
+        (heldOf state tally (now (cache .entry)) (now (work .entry)) (now (warm .entry)) (now (results .entry))) ⌝ }
 {
     let check = recorded::check_words(observations, setup.width, counts);
     let n = recorded::count_of(observations);

@@ -1,4 +1,5 @@
--- Document 01's records: 48 bytes, no header, little-endian: subject and reserved word of 32 bits, then value, additive, proportional, base, slope.
+-- Document 01's records: 48 bytes, no header, little-endian: subject and reserved word of 32 bits, then value, additive, proportional,
+-- base, slope.
 use mathlib.Core.Bool.{Bool}
 use mathlib.Core.List.{List, [], _∷_, _++_}
 use Prim.Native.Nat.{ℕ, zero, suc, _+_, _*_, _/_, _%_}
@@ -86,7 +87,8 @@ rowAt input individual i =
 -- the rows of so many records from i on, as far as there are records
 unfoldable pub repliedFrom : ℕ → List ℕ → Float → ℕ → List ℕ
 repliedFrom zero input individual i = []
-repliedFrom (suc left) input individual i = pick (ltb i (records input)) (rowAt input individual i ++ repliedFrom left input individual (i + 1)) []
+repliedFrom (suc left) input individual i =
+    pick (ltb i (records input)) (rowAt input individual i ++ repliedFrom left input individual (i + 1)) []
 
 unfoldable pub reply : List ℕ → ℕ → ℕ → Float → List ℕ
 reply input first rows individual = repliedFrom rows input individual first

@@ -181,7 +181,8 @@ fn row(input: &[u8], i: usize, individual: f64, out: &mut [u64], at: usize) -> u
 
 // The rows of so many records from the first on, as far as there are records.
 pub fn reply(input: &[u8], first: usize, rows: usize, individual: f64, out: &mut [u64]) -> usize
-    ensures { λ r. ⌜ written r (now (out .exit)) ≡ write (reply (now (input .entry)) first rows individual) (written 0 (now (out .entry))) ⌝ }
+    ensures { λ r. ⌜ written r (now (out .exit))
+        ≡ write (reply (now (input .entry)) first rows individual) (written 0 (now (out .entry))) ⌝ }
 {
     let records = input.len() / RECORD_BYTES;
     let mut end = 0;

@@ -28,7 +28,9 @@ fn follow(
     warm: &mut [u64],
     results: &mut [u64],
 ) -> Called
-    ensures { λ r. ⌜ called r (now (cache .exit)) (now (work .exit)) (now (warm .exit)) (now (results .exit)) ≡ followed setup (now (counts .entry)) eta evaluation (heldOf state tally (now (cache .entry)) (now (work .entry)) (now (warm .entry)) (now (results .entry))) ⌝ }
+    ensures { λ r. ⌜ called r (now (cache .exit)) (now (work .exit)) (now (warm .exit)) (now (results .exit))
+        ≡ followed setup (now (counts .entry)) eta evaluation
+        (heldOf state tally (now (cache .entry)) (now (work .entry)) (now (warm .entry)) (now (results .entry))) ⌝ }
 {
     let parameters = state.parameters;
     let progress = state.progress;
@@ -71,7 +73,9 @@ pub fn finish_reply(
     warm: &mut [u64],
     results: &mut [u64],
 ) -> Called
-    ensures { λ r. ⌜ called r (now (cache .exit)) (now (work .exit)) (now (warm .exit)) (now (results .exit)) ≡ finishReply setup (now (counts .entry)) (admitted .awaited) evaluation (heldOf state tally (now (cache .entry)) (now (work .entry)) (now (warm .entry)) (now (results .entry))) ⌝ }
+    ensures { λ r. ⌜ called r (now (cache .exit)) (now (work .exit)) (now (warm .exit)) (now (results .exit))
+        ≡ finishReply setup (now (counts .entry)) (admitted .awaited) evaluation
+        (heldOf state tally (now (cache .entry)) (now (work .entry)) (now (warm .entry)) (now (results .entry))) ⌝ }
 {
     let awaited = admitted.awaited;
     let admission = awaited.admission;

@@ -47,7 +47,8 @@ unfoldable pub subjectLine : ℕ → ℕ → List ℕ
 subjectLine subject eta = line 83 (decimal subject ∷ hexadecimal eta ∷ [])
 
 unfoldable pub fittedLine : ℕ → ℕ → ℕ → ℕ → List ℕ
-fittedLine subject observation population individual = line 70 (decimal subject ∷ decimal observation ∷ hexadecimal population ∷ hexadecimal individual ∷ [])
+fittedLine subject observation population individual =
+    line 70 (decimal subject ∷ decimal observation ∷ hexadecimal population ∷ hexadecimal individual ∷ [])
 
 unfoldable pub shrinkageLine : Float → List ℕ
 shrinkageLine shrinkage = line 72 (hexadecimal (toBits binary64 shrinkage) ∷ [])

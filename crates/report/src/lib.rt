@@ -91,7 +91,8 @@ fn fitted_line(
     population: u64,
     individual: u64,
 ) -> usize
-    ensures { λ r. ⌜ written r (now (out .exit)) ≡ write (fittedLine subject observation population individual) (written at (now (out .entry))) ⌝ }
+    ensures { λ r. ⌜ written r (now (out .exit))
+        ≡ write (fittedLine subject observation population individual) (written at (now (out .entry))) ⌝ }
 {
     let letter = writing::byte(out, at, b'F');
     let numbered = decimal_field(out, letter, subject);
@@ -112,7 +113,8 @@ fn shrinkage_line(out: &mut [u8], at: usize, shrinkage: f64) -> usize
 // Eta of every subject: the results have three words for each.
 fn subject_lines(out: &mut [u8], at: usize, subjects: usize, results: &[u64]) -> usize
     requires { ⌜ subjects ≤ 4096 ⌝ }
-    ensures { λ r. ⌜ written r (now (out .exit)) ≡ write (subjectLines subjects 0 (now (results .entry))) (written at (now (out .entry))) ⌝ }
+    ensures { λ r. ⌜ written r (now (out .exit))
+        ≡ write (subjectLines subjects 0 (now (results .entry))) (written at (now (out .entry))) ⌝ }
 {
     let mut end = at;
     let mut subject = 0;
@@ -133,7 +135,8 @@ fn fitted_lines(
     results: &[u64],
 ) -> usize
     requires { ⌜ (rows ≤ 100000) × (first ≤ 1000000000) ⌝ }
-    ensures { λ r. ⌜ written r (now (out .exit)) ≡ write (fittedLines rows subject 0 first (now (results .entry))) (written at (now (out .entry))) ⌝ }
+    ensures { λ r. ⌜ written r (now (out .exit))
+        ≡ write (fittedLines rows subject 0 first (now (results .entry))) (written at (now (out .entry))) ⌝ }
 {
     let mut end = at;
     let mut i = 0;
@@ -151,7 +154,8 @@ fn fitted_lines(
 // Those of all subjects.
 fn all_fitted(out: &mut [u8], at: usize, subjects: usize, counts: &[u64], results: &[u64]) -> usize
     requires { ⌜ subjects ≤ 4096 ⌝ }
-    ensures { λ r. ⌜ written r (now (out .exit)) ≡ write (allFitted subjects 0 (3 * subjects) (now (counts .entry)) (now (results .entry))) (written at (now (out .entry))) ⌝ }
+    ensures { λ r. ⌜ written r (now (out .exit))
+        ≡ write (allFitted subjects 0 (3 * subjects) (now (counts .entry)) (now (results .entry))) (written at (now (out .entry))) ⌝ }
 {
     let mut end = at;
     let mut subject = 0;
@@ -184,7 +188,8 @@ pub fn finished(
     counts: &[u64],
     results: &[u64],
 ) -> usize
-    ensures { λ r. ⌜ written r (now (out .exit)) ≡ write (finished objective evaluations shrinkage (now (counts .entry)) (now (results .entry))) (written at (now (out .entry))) ⌝ }
+    ensures { λ r. ⌜ written r (now (out .exit))
+        ≡ write (finished objective evaluations shrinkage (now (counts .entry)) (now (results .entry))) (written at (now (out .entry))) ⌝ }
 {
     let subjects = subjects_of(counts);
     let first = objective_line(out, at, objective, evaluations);

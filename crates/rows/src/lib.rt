@@ -246,7 +246,8 @@ pub fn add_observation(
     reply: &[u64],
     work: &mut [u64],
 ) -> Evaluation
-    ensures { λ r. ⌜ evaluating r (now (work .exit)) ≡ addObservation trial (now (reply .entry)) observation (evaluating evaluation (now (work .entry))) ⌝ }
+    ensures { λ r. ⌜ evaluating r (now (work .exit))
+        ≡ addObservation trial (now (reply .entry)) observation (evaluating evaluation (now (work .entry))) ⌝ }
 {
     match evaluation {
         Evaluation::Running(sums) => add_to(sums, observation, trial, reply, work),

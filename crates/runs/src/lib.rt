@@ -30,7 +30,11 @@ pub fn run(
     warm: &mut [u64],
     results: &mut [u64],
 ) -> Called
-    ensures { λ r. ⌜ called r (now (cache .entry)) (now (work .exit)) (now (warm .exit)) (now (results .exit)) ≡ run setup (now (counts .entry)) (held words (state .parameters) (wholeFrom (fitOf setup (state .parameters)) (now (counts .entry)) hand (state .progress) tally (cacheOf (now (cache .entry)) (state .order)) (now (work .entry)) (now (warm .entry)) (now (results .entry)))) ⌝ }
+    ensures { λ r. ⌜ called r (now (cache .entry)) (now (work .exit)) (now (warm .exit)) (now (results .exit))
+        ≡ run setup (now (counts .entry))
+        (held words (state .parameters)
+        (wholeFrom (fitOf setup (state .parameters)) (now (counts .entry)) hand (state .progress) tally
+        (cacheOf (now (cache .entry)) (state .order)) (now (work .entry)) (now (warm .entry)) (now (results .entry)))) ⌝ }
 {
     let parameters = state.parameters;
     let progress = state.progress;

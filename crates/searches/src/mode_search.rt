@@ -39,7 +39,8 @@ pub extern "C" fn curlewstand_mode_request(
     point: &mut f64,
 ) -> u32
     ensures { λ r. ⌜ r ≡ requestNumber (requested (settingsOf «eta_bound» omega tolerance warm) (now (search .entry))) ⌝ }
-    ensures { λ _. ⌜ now (point .exit) ≡ pointOr (now (point .entry)) (requested (settingsOf «eta_bound» omega tolerance warm) (now (search .entry))) ⌝ }
+    ensures { λ _. ⌜ now (point .exit)
+        ≡ pointOr (now (point .entry)) (requested (settingsOf «eta_bound» omega tolerance warm) (now (search .entry))) ⌝ }
 {
     let settings = Settings {
         eta_bound,
@@ -75,8 +76,11 @@ pub extern "C" fn curlewstand_mode_advance(
     score: f64,
     information: f64,
 ) -> u32
-    ensures { λ r. ⌜ r ≡ numberOf (advanced (settingsOf «eta_bound» omega tolerance warm) (now (search .entry)) (pointOf eta nll score information)) ⌝ }
-    ensures { λ _. ⌜ now (search .exit) ≡ orOld (now (search .entry)) (advanced (settingsOf «eta_bound» omega tolerance warm) (now (search .entry)) (pointOf eta nll score information)) ⌝ }
+    ensures { λ r. ⌜ r ≡ numberOf
+        (advanced (settingsOf «eta_bound» omega tolerance warm) (now (search .entry)) (pointOf eta nll score information)) ⌝ }
+    ensures { λ _. ⌜ now (search .exit)
+        ≡ orOld (now (search .entry))
+        (advanced (settingsOf «eta_bound» omega tolerance warm) (now (search .entry)) (pointOf eta nll score information)) ⌝ }
 {
     let settings = Settings {
         eta_bound,

@@ -69,8 +69,11 @@ pub extern "C" fn curlewstand_mode_2d_request(
     search: &[u64; 25],
     point: &mut [f64; 2],
 ) -> u32
-    ensures { λ r. ⌜ r ≡ requestNumber (requested (settingsOf «eta_bound» (now (precision .entry)) (now (warm .entry))) (now (search .entry))) ⌝ }
-    ensures { λ _. ⌜ now (point .exit) ≡ pointOr (now (point .entry)) (requested (settingsOf «eta_bound» (now (precision .entry)) (now (warm .entry))) (now (search .entry))) ⌝ }
+    ensures { λ r. ⌜ r ≡ requestNumber
+        (requested (settingsOf «eta_bound» (now (precision .entry)) (now (warm .entry))) (now (search .entry))) ⌝ }
+    ensures { λ _. ⌜ now (point .exit)
+        ≡ pointOr (now (point .entry))
+        (requested (settingsOf «eta_bound» (now (precision .entry)) (now (warm .entry))) (now (search .entry))) ⌝ }
 {
     let settings = settings_of(eta_bound, *precision, *warm);
     let words = *search;
@@ -100,8 +103,13 @@ pub extern "C" fn curlewstand_mode_2d_advance(
     score: &[f64; 2],
     information: &[[f64; 2]; 2],
 ) -> u32
-    ensures { λ r. ⌜ r ≡ numberOf (advanced (settingsOf «eta_bound» (now (precision .entry)) (now (warm .entry))) (now (search .entry)) (pointOf (now (eta .entry)) nll (now (score .entry)) (now (information .entry)))) ⌝ }
-    ensures { λ _. ⌜ now (search .exit) ≡ orOld (now (search .entry)) (advanced (settingsOf «eta_bound» (now (precision .entry)) (now (warm .entry))) (now (search .entry)) (pointOf (now (eta .entry)) nll (now (score .entry)) (now (information .entry)))) ⌝ }
+    ensures { λ r. ⌜ r ≡ numberOf
+        (advanced (settingsOf «eta_bound» (now (precision .entry)) (now (warm .entry))) (now (search .entry))
+        (pointOf (now (eta .entry)) nll (now (score .entry)) (now (information .entry)))) ⌝ }
+    ensures { λ _. ⌜ now (search .exit)
+        ≡ orOld (now (search .entry))
+        (advanced (settingsOf «eta_bound» (now (precision .entry)) (now (warm .entry))) (now (search .entry))
+        (pointOf (now (eta .entry)) nll (now (score .entry)) (now (information .entry)))) ⌝ }
 {
     let settings = settings_of(eta_bound, *precision, *warm);
     let c = point_of(*eta, nll, *score, *information);

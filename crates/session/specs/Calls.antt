@@ -45,7 +45,8 @@ use Rattle.session.specs.declared.Admitted.{Admitted}
 
 -- a state with the tally and the lent words
 abbrev pub heldOf : State → Tally → List ℕ → List ℕ → List ℕ → List ℕ → Held words
-heldOf state tally cache work warm results = held words (state .parameters) (wholeOf words (state .progress) tally (cacheOf cache (state .order)) work warm results)
+heldOf state tally cache work warm results =
+    held words (state .parameters) (wholeOf words (state .progress) tally (cacheOf cache (state .order)) work warm results)
 
 -- what a call gave back, with the words as it left them
 abbrev pub called : Called → List ℕ → List ℕ → List ℕ → List ℕ → Ran (Held words) Step
@@ -71,7 +72,11 @@ refusedAs state tally number place = record { state = state; tally = tally; step
 -- one that ends the objective
 abbrev pub endedAs : State → Tally → ℕ → Place → Called
 endedAs state tally number place =
-    record { state = record { parameters = state .parameters; progress = idle (state .progress); order = state .order }; tally = tally; step = Refused number place }
+    record {
+      state = record { parameters = state .parameters; progress = idle (state .progress); order = state .order };
+      tally = tally;
+      step = Refused number place;
+    }
 
 -- ---- setup
 
@@ -96,8 +101,10 @@ begunWith r cache work warm = record { begun = r; cache = cache; work = work; wa
 unfoldable pub opening : Setup → List ℕ → Lent → Tally → List ℕ → List ℕ → List ℕ → List ℕ → Admission → Setting
 opening setup counts lent tally cache work warm results A.Accepted =
     let h = opened words setup counts lent results in
-    begunWith (record { opening = Opens.Opened (stateOf h); tally = h .whole .tally }) (h .whole .kept .words) (h .whole .work) (h .whole .warm)
-opening setup counts lent tally cache work warm results (A.Refused number) = begunWith (record { opening = Opens.Refused number At.Nowhere; tally = tally }) cache work warm
+    begunWith (record { opening = Opens.Opened (stateOf h); tally = h .whole .tally }) (h .whole .kept .words) (h .whole .work)
+    (h .whole .warm)
+opening setup counts lent tally cache work warm results (A.Refused number) =
+    begunWith (record { opening = Opens.Refused number At.Nowhere; tally = tally }) cache work warm
 opening setup counts lent tally cache work warm results (A.Unsound at) =
     begunWith (record { opening = Opens.Refused 4 (At.Observation (at .subject) (at .observation)); tally = tally }) cache work warm
 
@@ -109,7 +116,11 @@ openedBy setup counts n check tally cache work warm results =
 -- ---- a new objective
 
 unfoldable pub startOf : Parameters → List ℕ → ℕ → CacheOrder → State
-startOf parameters warm effects order = record { parameters = parameters; progress = beginSubject 0 0 (warmOf warm effects 0) (word 0) (word 0); order = order }
+startOf parameters warm effects order = record {
+  parameters = parameters;
+  progress = beginSubject 0 0 (warmOf warm effects 0) (word 0) (word 0);
+  order = order;
+}
 
 unfoldable pub admitObjective : Setup → List ℕ → Lent → Check → Parameters → Progress → Tally → Admission
 admitObjective setup counts lent check parameters progress tally =
@@ -123,14 +134,18 @@ abbrev pub unawaited : Awaited
 unawaited = record { admission = A.Refused 19; eta = record { first = word 0; second = word 0 } }
 
 unfoldable pub awaitedAt : Setup → List ℕ → Lent → Check → Parameters → Wanted → Awaited
-awaitedAt setup counts lent check parameters (Wants.Point eta) = record { admission = checks (withParameters setup parameters) counts lent check; eta = eta }
+awaitedAt setup counts lent check parameters (Wants.Point eta) = record {
+  admission = checks (withParameters setup parameters) counts lent check;
+  eta = eta;
+}
 awaitedAt setup counts lent check parameters Wants.Mode = unawaited
 awaitedAt setup counts lent check parameters (Wants.Refused number) = unawaited
 
 unfoldable pub admitAwaited : Setup → List ℕ → Lent → Check → State → Tally → Awaited
 admitAwaited setup counts lent check state tally =
     pick (state .progress .awaits)
-    (pick (isStanding setup counts (lent .observations) tally (state .progress)) (awaitedAt setup counts lent check (state .parameters) (wantedBy (fitOf setup (state .parameters)) (state .progress))) unawaited)
+    (pick (isStanding setup counts (lent .observations) tally (state .progress))
+    (awaitedAt setup counts lent check (state .parameters) (wantedBy (fitOf setup (state .parameters)) (state .progress))) unawaited)
     unawaited
 
 abbrev pub trialBy : Setup → State → ℕ → Trial
@@ -148,7 +163,9 @@ nothingAdmitted awaited trial number = record { awaited = awaited; from = 0; to 
 
 -- a reply to no state
 abbrev pub unadmitted : Admitted
-unadmitted = nothingAdmitted unawaited (record { individual = record { first = word 0; second = word 0 }; «additive_sd» = Own; width = 0; effects = 0; block = 0 }) 19
+unadmitted =
+    nothingAdmitted unawaited
+    (record { individual = record { first = word 0; second = word 0 }; «additive_sd» = Own; width = 0; effects = 0; block = 0 }) 19
 
 unfoldable pub admittedBy : Setup → List ℕ → ℕ → State → List ℕ → Awaited → Admission → Admitted
 admittedBy setup counts n state reply awaited A.Accepted =
@@ -160,8 +177,10 @@ admittedBy setup counts n state reply awaited A.Accepted =
       evaluation = begin reply (setup .width) (setup .effects) (setup .«output_budget»);
       trial = trialBy setup state rows;
     }
-admittedBy setup counts n state reply awaited (A.Refused number) = nothingAdmitted awaited (trialBy setup state (rowsOf counts (state .progress .subject))) number
-admittedBy setup counts n state reply awaited (A.Unsound at) = nothingAdmitted awaited (trialBy setup state (rowsOf counts (state .progress .subject))) 4
+admittedBy setup counts n state reply awaited (A.Refused number) =
+    nothingAdmitted awaited (trialBy setup state (rowsOf counts (state .progress .subject))) number
+admittedBy setup counts n state reply awaited (A.Unsound at) =
+    nothingAdmitted awaited (trialBy setup state (rowsOf counts (state .progress .subject))) 4
 
 unfoldable pub admitReply : Setup → List ℕ → Lent → Check → State → Tally → List ℕ → Admitted
 admitReply setup counts lent check state tally reply =
@@ -170,11 +189,14 @@ admitReply setup counts lent check state tally reply =
 
 -- the end of the evaluation at eta, with the work words that it has written, and then the loop
 unfoldable pub followed : Setup → List ℕ → Pair → Evaluation → Held words → Ran (Held words) Step
-followed setup counts eta e h = entered setup counts (replied words setup counts (fitOf setup (h .parameters)) eta h (h .whole .work) (finish e))
+followed setup counts eta e h =
+    entered setup counts (replied words setup counts (fitOf setup (h .parameters)) eta h (h .whole .work) (finish e))
 
 unfoldable pub finishReply : Setup → List ℕ → Awaited → Evaluation → Held words → Ran (Held words) Step
 finishReply setup counts awaited e h =
-    entered setup counts (whenAdmitted words setup counts h (replied words setup counts (fitOf setup (h .parameters)) (awaited .eta) h (h .whole .work) (finish e)) (awaited .admission))
+    entered setup counts
+    (whenAdmitted words setup counts h
+    (replied words setup counts (fitOf setup (h .parameters)) (awaited .eta) h (h .whole .work) (finish e)) (awaited .admission))
 
 -- ---- a finished objective, with one effect
 

@@ -1,4 +1,5 @@
--- A session's calls, over any store of kept evaluations S: new objective, reply, failure. The setup, the counts and the observations are the same for all of them.
+-- A session's calls, over any store of kept evaluations S: new objective, reply, failure. The setup, the counts and the observations are
+-- the same for all of them.
 use mathlib.Core.Bool.{Bool, false}
 use mathlib.Core.List.{List}
 use Prim.Native.Nat.{ℕ, _+_}
@@ -119,7 +120,8 @@ module _ (S : Store) (setup : Setup) (counts : List ℕ) where
   abbrev pub opened : Lent → List ℕ → Held S
   opened lent results =
       held S noParameters
-      (wholeOf S (beginSubject 0 0 (record { first = word 0; second = word 0 }) (word 0) (word 0)) noTally (S .cleared (lent .cache)) (zeros (lent .work)) (zeros (lent .warm)) results)
+      (wholeOf S (beginSubject 0 0 (record { first = word 0; second = word 0 }) (word 0) (word 0)) noTally (S .cleared (lent .cache))
+      (zeros (lent .work)) (zeros (lent .warm)) results)
 
   -- a new objective
   unfoldable pub begun : Parameters → Whole S → Held S
@@ -131,7 +133,8 @@ module _ (S : Store) (setup : Setup) (counts : List ℕ) where
   unfoldable pub over : ℕ → Place → Held S → Moved (Held S) Step
   over number place h =
       let w = h .whole in
-      halt (Refused number place) (held S (h .parameters) (wholeOf S (idle (w .progress)) (w .tally) (w .kept) (zeros (length (w .work))) (w .warm) (w .results)))
+      halt (Refused number place)
+      (held S (h .parameters) (wholeOf S (idle (w .progress)) (w .tally) (w .kept) (zeros (length (w .work))) (w .warm) (w .results)))
 
   abbrev pub trialOf : Fit → Progress → Trial
   trialOf fit p = record {
@@ -163,7 +166,8 @@ module _ (S : Store) (setup : Setup) (counts : List ℕ) where
   unfoldable pub setWarm : List ℕ → Held S → Held S
   setWarm warm h =
       let w = h .whole in
-      pick (eqb (length warm) (length (w .warm))) (held S (h .parameters) (wholeOf S (w .progress) (w .tally) (w .kept) (w .work) warm (w .results))) h
+      pick (eqb (length warm) (length (w .warm)))
+      (held S (h .parameters) (wholeOf S (w .progress) (w .tally) (w .kept) (w .work) warm (w .results))) h
 
 -- ---- 19, and 1 to 5 of what is lent: n observations, of which `check` was found
 
@@ -174,7 +178,8 @@ module _ (S : Store) (setup : Setup) (counts : List ℕ) (n : ℕ) (check : Chec
   unfoldable pub enterObjective : Parameters → Held S → Moved (Held S) Step
   enterObjective parameters h =
       pick (h .whole .progress .awaits) (unaltered S setup counts 19 At.Nowhere h)
-      (pick (isStanding setup counts n (h .whole .tally) (h .whole .progress)) (whenAdmitted S setup counts h (on (begun S setup counts parameters (h .whole))) (admitted parameters (h .whole)))
+      (pick (isStanding setup counts n (h .whole .tally) (h .whole .progress))
+      (whenAdmitted S setup counts h (on (begun S setup counts parameters (h .whole))) (admitted parameters (h .whole)))
       (unaltered S setup counts 19 At.Nowhere h))
 
   -- 19: a point is awaited; then 1 to 5; and then what the call does with it
@@ -186,7 +191,8 @@ module _ (S : Store) (setup : Setup) (counts : List ℕ) (n : ℕ) (check : Chec
   unfoldable pub whenAwaited : Held S → (Pair → Moved (Held S) Step) → Moved (Held S) Step
   whenAwaited h go =
       pick (h .whole .progress .awaits)
-      (pick (isStanding setup counts n (h .whole .tally) (h .whole .progress)) (atWanted h go (wantedBy (fitOf setup (h .parameters)) (h .whole .progress))) (unaltered S setup counts 19 At.Nowhere h))
+      (pick (isStanding setup counts n (h .whole .tally) (h .whole .progress))
+      (atWanted h go (wantedBy (fitOf setup (h .parameters)) (h .whole .progress))) (unaltered S setup counts 19 At.Nowhere h))
       (unaltered S setup counts 19 At.Nowhere h)
 
   -- the simulator failed: 8
@@ -215,7 +221,8 @@ module _ (S : Store) (setup : Setup) (counts : List ℕ) (observations : List Ob
       replied S setup counts fit eta h (e .work) (finish (e .evaluation))
 
   unfoldable pub enterReply : List ℕ → Held S → Moved (Held S) Step
-  enterReply words h = whenAwaited S setup counts (length observations) (allChecked setup counts observations) h (λ eta. answered words eta h)
+  enterReply words h =
+      whenAwaited S setup counts (length observations) (allChecked setup counts observations) h (λ eta. answered words eta h)
 
   unfoldable pub enter : Call → Held S → Moved (Held S) Step
   enter (objective parameters) h = enterObjective S setup counts (length observations) (allChecked setup counts observations) parameters h

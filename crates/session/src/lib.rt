@@ -72,7 +72,9 @@ pub fn lent_by(
     warm: &[u64],
     results: &[u64],
 ) -> Lent
-    ensures { λ r. ⌜ r ≡ lentBy observations (length (now (cache .entry))) (length (now (work .entry))) (length (now (warm .entry))) (length (now (results .entry))) ⌝ }
+    ensures { λ r. ⌜ r ≡ lentBy
+        observations (length (now (cache .entry))) (length (now (work .entry))) (length (now (warm .entry)))
+        (length (now (results .entry))) ⌝ }
 {
     Lent {
         observations,

@@ -97,7 +97,8 @@ flag holds = pick holds 1 0
 -- whether it awaits a reply, and the objective's parameters
 unfoldable pub objectiveWords : Bool → Parameters → List ℕ
 objectiveWords awaits p =
-    flag awaits ∷ bits (p .theta .first) ∷ bits (p .theta .second) ∷ bits (p .omega) ∷ hasAdditive (p .«additive_sd») ∷ additiveWord (p .«additive_sd») ∷ []
+    flag awaits ∷ bits (p .theta .first) ∷ bits (p .theta .second) ∷ bits (p .omega) ∷ hasAdditive (p .«additive_sd»)
+    ∷ additiveWord (p .«additive_sd») ∷ []
 
 unfoldable pub progressWords : Progress → List ℕ
 progressWords p =

@@ -1,5 +1,5 @@
--- A machine that runs sessions: a call enters it, and it turns until it has an answer. A session is any list of calls, with what the host sets
--- between them.
+-- A machine that runs sessions: a call enters it, and it turns until it has an answer. A session is any list of calls, with what the host
+-- sets between them.
 use mathlib.Core.Bool.{Bool}
 use mathlib.Core.List.{List, [], _∷_}
 use Prim.Native.Nat.{ℕ, zero, suc}

@@ -27,7 +27,8 @@ fn served(
     warm: &mut [u64],
     results: &mut [u64],
 ) -> Turned
-    ensures { λ r. ⌜ ended r (now (work .exit)) (now (warm .exit)) (now (results .exit)) ≡ unkept fit (now (counts .entry)) progress tally (now (work .entry)) (now (warm .entry)) (now (results .entry)) wanted ⌝ }
+    ensures { λ r. ⌜ ended r (now (work .exit)) (now (warm .exit)) (now (results .exit))
+        ≡ unkept fit (now (counts .entry)) progress tally (now (work .entry)) (now (warm .entry)) (now (results .entry)) wanted ⌝ }
 {
     match wanted {
         Wanted::Point(eta) => Turned::Halt(questions::ask(fit, progress, tally, eta)),
@@ -62,7 +63,9 @@ fn turn(
     warm: &mut [u64],
     results: &mut [u64],
 ) -> Turned
-    ensures { λ r. ⌜ ended r (now (work .exit)) (now (warm .exit)) (now (results .exit)) ≡ cleared (unkept fit (now (counts .entry)) progress tally (now (work .entry)) (now (warm .entry)) (now (results .entry)) wanted) ⌝ }
+    ensures { λ r. ⌜ ended r (now (work .exit)) (now (warm .exit)) (now (results .exit))
+        ≡ cleared (unkept fit (now (counts .entry)) progress tally (now (work .entry)) (now (warm .entry)) (now (results .entry))
+        wanted) ⌝ }
 {
     let turned = served(fit, counts, progress, tally, wanted, work, warm, results);
     if is_over(turned) {
@@ -87,7 +90,10 @@ pub fn requests(
     warm: &mut [u64],
     results: &mut [u64],
 ) -> Halted
-    ensures { λ r. ⌜ ran r (cacheOf (now (cache .entry)) order) (now (work .exit)) (now (warm .exit)) (now (results .exit)) ≡ loop (turn words fit (now (counts .entry))) spent fuel (wholeFrom fit (now (counts .entry)) hand start tally (cacheOf (now (cache .entry)) order) (now (work .entry)) (now (warm .entry)) (now (results .entry))) ⌝ }
+    ensures { λ r. ⌜ ran r (cacheOf (now (cache .entry)) order) (now (work .exit)) (now (warm .exit)) (now (results .exit))
+        ≡ loop (turn words fit (now (counts .entry))) spent fuel
+        (wholeFrom fit (now (counts .entry)) hand start tally (cacheOf (now (cache .entry)) order) (now (work .entry)) (now (warm .entry))
+        (now (results .entry))) ⌝ }
 {
     let mut here = start;
     let mut given = hand;

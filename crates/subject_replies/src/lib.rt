@@ -43,7 +43,10 @@ fn reply_checked(
     results: &mut [u64],
 ) -> Done
     requires { ⌜ check ≡ subjectChecked (setupOf setup) (now counts) (now observations) (now state) ⌝ }
-    ensures { λ r. ⌜ out r (now (state .exit)) (now (answer .exit)) (now (cache .exit)) (now (work .exit)) (now (warm .exit)) (now (results .exit)) ≡ subjectReplyOver (setupOf setup) (now (counts .entry)) (now (observations .entry)) tally (now (state .entry)) (now (answer .entry)) (now (cache .entry)) (now (work .entry)) (now (warm .entry)) (now (results .entry)) (now (reply .entry)) ⌝ }
+    ensures { λ r. ⌜ out r (now (state .exit)) (now (answer .exit)) (now (cache .exit)) (now (work .exit)) (now (warm .exit))
+        (now (results .exit))
+        ≡ subjectReplyOver (setupOf setup) (now (counts .entry)) (now (observations .entry)) tally (now (state .entry))
+        (now (answer .entry)) (now (cache .entry)) (now (work .entry)) (now (warm .entry)) (now (results .entry)) (now (reply .entry)) ⌝ }
 {
     let n = observations.len();
     let lent = session::lent_of(n, cache.len(), work.len(), warm.len(), results.len());
@@ -88,7 +91,10 @@ pub extern "C" fn curlewstand_subject_reply(
     warm: &mut [u64],
     results: &mut [u64],
 ) -> u32
-    ensures { λ r. ⌜ out (done r (now (tally .exit))) (now (state .exit)) (now (answer .exit)) (now (cache .exit)) (now (work .exit)) (now (warm .exit)) (now (results .exit)) ≡ subjectReplyOver (setupOf setup) (now (counts .entry)) (now (observations .entry)) (now (tally .entry)) (now (state .entry)) (now (answer .entry)) (now (cache .entry)) (now (work .entry)) (now (warm .entry)) (now (results .entry)) (now (reply .entry)) ⌝ }
+    ensures { λ r. ⌜ out (done r (now (tally .exit))) (now (state .exit)) (now (answer .exit)) (now (cache .exit)) (now (work .exit))
+        (now (warm .exit)) (now (results .exit))
+        ≡ subjectReplyOver (setupOf setup) (now (counts .entry)) (now (observations .entry)) (now (tally .entry)) (now (state .entry))
+        (now (answer .entry)) (now (cache .entry)) (now (work .entry)) (now (warm .entry)) (now (results .entry)) (now (reply .entry)) ⌝ }
 {
     let before = lending::tally_now(tally);
     let first = word_replies::subject_first(state);

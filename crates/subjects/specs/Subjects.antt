@@ -129,7 +129,8 @@ wanted2 s x = wants2 (R2.request s x)
 
 unfoldable pub wantedBy : Fit → Progress → Wanted
 wantedBy fit progress =
-    pick (eqb (fit .effects) 2) (wanted2 (settings2 fit progress) (progress .«search_2d»)) (wanted1 (settings fit progress) (progress .search))
+    pick (eqb (fit .effects) 2) (wanted2 (settings2 fit progress) (progress .«search_2d»))
+    (wanted1 (settings fit progress) (progress .search))
 
 -- ---- kept evaluations: subject, the bits of theta and eta, and with one effect of the optional override. Omega is not in the key.
 
@@ -319,13 +320,18 @@ counted tally = record { calls = record { 0 = tally .calls .0 + 1 }; «cached_ro
 
 -- question 7, of an evaluation that is counted
 unfoldable pub askFor : Progress → Tally → Pair → Answer Pair → Halted
-askFor progress tally eta (given individual) = record { progress = awaiting progress individual; tally = tally; step = Asked eta individual }
+askFor progress tally eta (given individual) = record {
+  progress = awaiting progress individual;
+  tally = tally;
+  step = Asked eta individual;
+}
 askFor progress tally eta (refused number) = refusedBy progress tally number (Subject (progress .subject))
 
 -- question 6
 unfoldable pub ask : Fit → Progress → Tally → Pair → Halted
 ask fit progress tally eta =
-    pick (ltb (tally .calls .0) (fit .«max_evaluations»)) (askFor progress (counted tally) eta (individualValues (fit .theta) eta (fit .effects)))
+    pick (ltb (tally .calls .0) (fit .«max_evaluations»))
+    (askFor progress (counted tally) eta (individualValues (fit .theta) eta (fit .effects)))
     (refusedBy progress tally 6 (Subject (progress .subject)))
 
 unfoldable pub isOver : Step → Bool
@@ -344,7 +350,8 @@ closed1 fit best rows =
     (Positive (record {
       eta = record { first = best .eta; second = word 0 };
       nll = best .nll;
-      term = two *ᶠ best .nll -ᶠ ofInt binary64 (pos rows) *ᶠ log2pi +ᶠ best .eta *ᶠ best .eta /ᶠ fit .omega +ᶠ log (fit .omega *ᶠ curvature);
+      term = two *ᶠ best .nll -ᶠ ofInt binary64 (pos rows) *ᶠ log2pi +ᶠ best .eta *ᶠ best .eta /ᶠ fit .omega
+          +ᶠ log (fit .omega *ᶠ curvature);
     })))
 
 abbrev pub precisionOf : Fit → List (List Float)
@@ -360,7 +367,8 @@ closedWith fit best rows (some inverse det) =
     Positive (record {
       eta = best .eta;
       nll = best .nll;
-      term = two *ᶠ best .nll -ᶠ ofInt binary64 (pos rows) *ᶠ log2pi +ᶠ dot eta (product (precisionOf fit) eta) +ᶠ log (fit .«det_omega» *ᶠ det);
+      term = two *ᶠ best .nll -ᶠ ofInt binary64 (pos rows) *ᶠ log2pi +ᶠ dot eta (product (precisionOf fit) eta)
+          +ᶠ log (fit .«det_omega» *ᶠ det);
     })
 closedWith fit best rows none = NotPositive
 

@@ -27,7 +27,10 @@ pub fn open(
     warm: &mut [u64],
     results: &[u64],
 ) -> Done
-    ensures { λ r. ⌜ out r (now (state .exit)) (now (answer .exit)) (now (cache .exit)) (now (work .exit)) (now (warm .exit)) (now (results .entry)) ≡ openWith (setupOf setup) (now (counts .entry)) observations check tally (now (state .entry)) (now (answer .entry)) (now (cache .entry)) (now (work .entry)) (now (warm .entry)) (now (results .entry)) ⌝ }
+    ensures { λ r. ⌜ out r (now (state .exit)) (now (answer .exit)) (now (cache .exit)) (now (work .exit)) (now (warm .exit))
+        (now (results .entry))
+        ≡ openWith (setupOf setup) (now (counts .entry)) observations check tally (now (state .entry)) (now (answer .entry))
+        (now (cache .entry)) (now (work .entry)) (now (warm .entry)) (now (results .entry)) ⌝ }
 {
     if state.len() < STATE_WORDS {
         return hosting::no_state(tally, answer);
@@ -62,7 +65,10 @@ pub fn begin_objective(
     warm: &mut [u64],
     results: &mut [u64],
 ) -> Done
-    ensures { λ r. ⌜ out r (now (state .exit)) (now (answer .exit)) (now (cache .entry)) (now (work .exit)) (now (warm .exit)) (now (results .exit)) ≡ objectiveWith (setupOf setup) (now (counts .entry)) observations check tally (now (state .entry)) (now (answer .entry)) (now (cache .entry)) (now (work .entry)) (now (warm .entry)) (now (results .entry)) (parametersOf parameters) ⌝ }
+    ensures { λ r. ⌜ out r (now (state .exit)) (now (answer .exit)) (now (cache .entry)) (now (work .exit)) (now (warm .exit))
+        (now (results .exit))
+        ≡ objectiveWith (setupOf setup) (now (counts .entry)) observations check tally (now (state .entry)) (now (answer .entry))
+        (now (cache .entry)) (now (work .entry)) (now (warm .entry)) (now (results .entry)) (parametersOf parameters) ⌝ }
 {
     match session_words::load(state) {
         LoadedState::Given(at) => {
@@ -99,7 +105,10 @@ pub fn fail(
     warm: &[u64],
     results: &[u64],
 ) -> Done
-    ensures { λ r. ⌜ out r (now (state .exit)) (now (answer .exit)) (now (cache .entry)) (now (work .exit)) (now (warm .entry)) (now (results .entry)) ≡ failureWith (setupOf setup) (now (counts .entry)) observations check tally (now (state .entry)) (now (answer .entry)) (now (cache .entry)) (now (work .entry)) (now (warm .entry)) (now (results .entry)) ⌝ }
+    ensures { λ r. ⌜ out r (now (state .exit)) (now (answer .exit)) (now (cache .entry)) (now (work .exit)) (now (warm .entry))
+        (now (results .entry))
+        ≡ failureWith (setupOf setup) (now (counts .entry)) observations check tally (now (state .entry)) (now (answer .entry))
+        (now (cache .entry)) (now (work .entry)) (now (warm .entry)) (now (results .entry)) ⌝ }
 {
     match session_words::load(state) {
         LoadedState::Given(at) => {

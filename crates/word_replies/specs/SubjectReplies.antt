@@ -1,4 +1,5 @@
--- A reply that lends the observations of the awaited subject alone, as a host makes it. The tally and the words are lent as for any call of the session.
+-- A reply that lends the observations of the awaited subject alone, as a host makes it. The tally and the words are lent as for any call
+-- of the session.
 use mathlib.Core.List.{List}
 use Prim.Native.Nat.{ℕ, _-_}
 use lib.ListN.{length, getD, take, drop}
@@ -29,8 +30,10 @@ unfoldable pub admitSubjectWith : Setup → List ℕ → Lent → Check → Tall
 admitSubjectWith setup counts lent check tally reply (given s) = admitSubjectReply setup counts lent check s tally reply
 admitSubjectWith setup counts lent check tally reply (refused n) = unadmitted
 
--- it is let in or not; the observations are added to its evaluation, none where it is not let in; and the rest is as for a reply that lends all of them
-unfoldable pub subjectReplyOver : Setup → List ℕ → List Observation → Tally → List ℕ → List ℕ → List ℕ → List ℕ → List ℕ → List ℕ → List ℕ → Out
+-- it is let in or not; the observations are added to its evaluation, none where it is not let in; and the rest is as for a reply that
+-- lends all of them
+unfoldable pub subjectReplyOver : Setup → List ℕ → List Observation → Tally → List ℕ → List ℕ → List ℕ → List ℕ → List ℕ → List ℕ → List ℕ
+    → Out
 subjectReplyOver setup counts observations tally state answer cache work warm results reply =
     let lent = lentBy (length observations) (length cache) (length work) (length warm) (length results) in
     let a = admitSubjectWith setup counts lent (subjectChecked setup counts observations state) tally reply (loadedState state) in

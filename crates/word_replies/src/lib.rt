@@ -25,7 +25,8 @@ pub fn admit_reply(
     reply: &[u64],
     state: &mut [u64],
 ) -> Admitted
-    ensures { λ r. ⌜ (r ≡ admitWith (setupOf setup) (now (counts .entry)) lent check tally (now (reply .entry)) (loadedState (now (state .entry)))) × (now (state .exit) ≡ now (state .entry)) ⌝ }
+    ensures { λ r. ⌜ (r ≡ admitWith (setupOf setup) (now (counts .entry)) lent check tally (now (reply .entry))
+        (loadedState (now (state .entry)))) × (now (state .exit) ≡ now (state .entry)) ⌝ }
 {
     match session_words::load(state) {
         LoadedState::Given(at) => {
@@ -66,7 +67,8 @@ pub fn admit_subject_reply(
     reply: &[u64],
     state: &mut [u64],
 ) -> Admitted
-    ensures { λ r. ⌜ (r ≡ admitSubjectWith (setupOf setup) (now (counts .entry)) lent check tally (now (reply .entry)) (loadedState (now (state .entry)))) × (now (state .exit) ≡ now (state .entry)) ⌝ }
+    ensures { λ r. ⌜ (r ≡ admitSubjectWith (setupOf setup) (now (counts .entry)) lent check tally (now (reply .entry))
+        (loadedState (now (state .entry)))) × (now (state .exit) ≡ now (state .entry)) ⌝ }
 {
     match session_words::load(state) {
         LoadedState::Given(at) => {
@@ -91,7 +93,10 @@ pub fn finish_reply(
     warm: &mut [u64],
     results: &mut [u64],
 ) -> Done
-    ensures { λ r. ⌜ out r (now (state .exit)) (now (answer .exit)) (now (cache .exit)) (now (work .exit)) (now (warm .exit)) (now (results .exit)) ≡ finishWith (setupOf setup) (now (counts .entry)) (admitted .awaited) evaluation tally (now (state .entry)) (now (answer .entry)) (now (cache .entry)) (now (work .entry)) (now (warm .entry)) (now (results .entry)) ⌝ }
+    ensures { λ r. ⌜ out r (now (state .exit)) (now (answer .exit)) (now (cache .exit)) (now (work .exit)) (now (warm .exit))
+        (now (results .exit))
+        ≡ finishWith (setupOf setup) (now (counts .entry)) (admitted .awaited) evaluation tally (now (state .entry)) (now (answer .entry))
+        (now (cache .entry)) (now (work .entry)) (now (warm .entry)) (now (results .entry)) ⌝ }
 {
     match session_words::load(state) {
         LoadedState::Given(at) => {

@@ -1,4 +1,5 @@
--- The work words, four blocks of a subject's rows, and the results. Beyond 4,096 subjects and 100,000 rows, which no session has, the largest numbers stand in.
+-- The work words, four blocks of a subject's rows, and the results. Beyond 4,096 subjects and 100,000 rows, which no session has, the
+-- largest numbers stand in.
 use mathlib.Core.Bool.{Bool, true, false}
 use mathlib.Core.List.{List, [], _∷_}
 use Prim.Native.Nat.{ℕ, zero, suc, _+_, _-_, _*_}

@@ -1,4 +1,5 @@
--- Bytes or words written one after the other into what is lent: the place after the last, and all that is lent. At its end nothing is written.
+-- Bytes or words written one after the other into what is lent: the place after the last, and all that is lent. At its end nothing is
+-- written.
 use mathlib.Core.List.{List, [], _∷_, _++_}
 use Prim.Native.Nat.{ℕ, zero, suc, _+_, _*_, _/_, _%_}
 use lib.Dec.{ltb}
