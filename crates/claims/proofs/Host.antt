@@ -42,6 +42,7 @@ use Rattle.word_replies.specs.SubjectReplies.{subjectReplyOver}
 use Rattle.claims.specs.Inner.{Inner, inner1, inner2, view}
 use Rattle.claims.specs.Claim.{Holds3}
 use Rattle.claims.specs.Refusals.{AltersNothing, opens, calls, replies, Lending, does, number}
+use Rattle.claims.specs.Runs.{Original, original1, original2, AllRuns}
 use Rattle.claims.specs.Setup.{Granted}
 use Rattle.claims.specs.Shown.{before, Reads, reads1, reads2, Shows}
 use Rattle.claims.specs.SubjectReply.{ownOf}
@@ -63,6 +64,7 @@ use Rattle.claims.proofs.Standing.{Standing}
 use Rattle.claims.proofs.Stores.{Trusted, words-trusted}
 use Rattle.claims.proofs.SubjectReply.{in-every-session}
 use Rattle.claims.proofs.Turns.{turns}
+use Rattle.claims.proofs.Runs.{every-run}
 use Rattle.claims.proofs.Unwritten.{every-unwritten}
 use Rattle.claims.proofs.Written.{every-word}
 
@@ -359,17 +361,19 @@ module _ (l : Lending) (f : FitsSetup (l .setup)) (e : number l opens ≡ 0) whe
     stood ds = subst (λ (o : Out). Stood l I Q f passes (hosted l (left o) ds) (actsOf l ds)) (sym (settled-by .same))
         (deeds-on l I Q f passes ds _ [] (record { is = first-is; sound = first-sound l I Q f passes }))
 
-    is-hosted : (L : Reads I) → Holds3 words (l .setup) (l .counts) (l .observations) I → Shows (l .setup) (l .counts) (l .observations) I L → (ds : List Deed) → Hosted I L l ds
-    is-hosted L holds words-show ds =
+    is-hosted : (L : Reads I) (O : Original (I .rules)) → Holds3 words (l .setup) (l .counts) (l .observations) I → AllRuns (l .setup) (l .counts) (l .observations) I O
+        → Shows (l .setup) (l .counts) (l .observations) I L → (ds : List Deed) → Hosted I L O l ds
+    is-hosted L O holds all-runs words-show ds =
         let d = stood ds in
         record {
           is = d .is;
           demand3 = holds (f .bound) (f .most) (lent l) (l .results) passes (actsOf l ds);
+          runs = all-runs (lent l) (l .results) (granted l f passes) (actsOf l ds);
           shows = λ o. words-show (lent l) (l .results) (granted l f passes) o (actsOf l ds);
           evaluates = every-evaluation (l .setup) (l .counts) (l .observations) (lent l) (l .results) (granted l f passes) .1 (actsOf l ds);
           unwritten = every-unwritten (l .setup) (l .counts) (l .observations) (lent l) (l .results) (granted l f passes) (actsOf l ds);
           tells = λ c. over-tells l c _ _ (d .is);
-          tells-own = λ said. subst (λ (o : Out). Told o (now I L l ds) (call (M l) (reply said) (reached l ds) .answer)) (sym (own-is l I Q f passes _ _ d said))
+          tells-own = λ said. subst (λ (o : Out). Told o (now I L O l ds) (call (M l) (reply said) (reached l ds) .answer)) (sym (own-is l I Q f passes _ _ d said))
               (over-tells l (reply said) _ _ (d .is));
         }
 
@@ -377,6 +381,8 @@ pub every-host : EveryHost
 every-host setup counts observations memory e ds =
     let l = lending (setupFrom setup) counts observations memory in
     let f = setup-fits setup in (
-      λ one. is-hosted l f e inner1 (subst (Suits inner1) (sym one) suits1) reads1 (every-session (l .setup) counts observations .0 one) (every-word (l .setup) counts observations .0 one) ds,
-      λ two. is-hosted l f e inner2 (subst (Suits inner2) (sym two) suits2) reads2 (every-session (l .setup) counts observations .1 two) (every-word (l .setup) counts observations .1 two) ds,
+      λ one. is-hosted l f e inner1 (subst (Suits inner1) (sym one) suits1) reads1 original1 (every-session (l .setup) counts observations .0 one)
+          (every-run (l .setup) counts observations .0 one) (every-word (l .setup) counts observations .0 one) ds,
+      λ two. is-hosted l f e inner2 (subst (Suits inner2) (sym two) suits2) reads2 original2 (every-session (l .setup) counts observations .1 two)
+          (every-run (l .setup) counts observations .1 two) (every-word (l .setup) counts observations .1 two) ds,
     )

@@ -27,6 +27,7 @@ pub mod Refusals
 pub mod Remaining
 pub mod Requests
 pub mod Results
+pub mod Runs
 pub mod Searches
 pub mod Session
 pub mod Standing

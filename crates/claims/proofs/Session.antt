@@ -128,7 +128,7 @@ some-room setup e =
     let n = not-first _ _ no (v .1) in
     positive (setup .k) (not-first _ _ no (n .1) .0)
 
-for-words : (setup : Setup) (counts : List ℕ) (observations : List Observation) (I : Inner) → Suits I (setup .effects) → Holds3 words setup counts observations I
+pub for-words : (setup : Setup) (counts : List ℕ) (observations : List Observation) (I : Inner) → Suits I (setup .effects) → Holds3 words setup counts observations I
 for-words setup counts observations I Q bound limit lent results e acts =
     let a = accepts setup counts lent (N.allChecked setup counts observations) e in
     holds words setup counts observations I Q (words-trusted (setup .k) (some-room setup (a .shape-in)) (shape-low {b = false} setup (sym (a .shape-in)) refl)) bound limit lent results a acts

@@ -24,6 +24,7 @@ use Rattle.claims.specs.Inner.{Inner, inner1, inner2, view}
 use Rattle.claims.specs.Refusals.{opens, calls, replies, Lending, does, number}
 use Rattle.claims.specs.Evaluations.{Evaluates}
 use Rattle.claims.specs.Unwritten.{Unwritten}
+use Rattle.claims.specs.Runs.{Original, original1, original2, Runs}
 use Rattle.claims.specs.Shown.{Objective, before, Reads, reads1, reads2, showing, Shown}
 
 -- ---- what a host has and does
@@ -137,7 +138,7 @@ Told o m a = (o .told .done .number ≡ numberOf a) × (o .told .answer ≡ answ
 
 -- ---- the claim
 
-module _ (I : Inner) (L : Reads I) (l : Lending) (ds : List Deed) where
+module _ (I : Inner) (L : Reads I) (O : Original (I .rules)) (l : Lending) (ds : List Deed) where
   abbrev pub viewed : View (I .rules) (M l)
   viewed = view words (l .setup) (l .counts) (l .observations) I
 
@@ -150,6 +151,8 @@ module _ (I : Inner) (L : Reads I) (l : Lending) (ds : List Deed) where
     pub is : Is now (reached l ds)
     -- of which demand 3 is said
     pub demand3 : Demand3 (I .rules) (I .claims) (M l) viewed (first l) (actsOf l ds)
+    -- each of its searches is a run of the source's
+    pub runs : Runs (I .rules) O (M l) viewed (first l) (actsOf l ds)
     -- and what these words show of the log
     pub shows : (o : Objective (I .rules) (M l) viewed)
         → Shown (I .rules) (M l) viewed (showing (l .setup) (l .counts) (l .observations) I L) o (first l) (actsOf l ds)
@@ -167,4 +170,4 @@ abbrev pub EveryHost : Type 0
 EveryHost = (setup : SetupBits) (counts : List ℕ) (observations : List Observation) (memory : Lends)
     → let l = lending (setupFrom setup) counts observations memory in
     number l opens ≡ 0 → (ds : List Deed)
-    → (l .setup .effects ≡ 1 → Hosted inner1 reads1 l ds) × (l .setup .effects ≡ 2 → Hosted inner2 reads2 l ds)
+    → (l .setup .effects ≡ 1 → Hosted inner1 reads1 original1 l ds) × (l .setup .effects ≡ 2 → Hosted inner2 reads2 original2 l ds)
