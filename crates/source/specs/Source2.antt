@@ -43,6 +43,7 @@ nowhere = record {
   i11 = word 0;
 }
 
+-- of a best candidate, which there is after six starts
 abbrev pub unwrap : Option Conditional2 → Conditional2
 unwrap none = nowhere
 unwrap (some a) = a
