@@ -19,12 +19,13 @@ use Rattle.histories.specs.Histories.{Answered}
 use Rattle.histories.specs.History as H1
 use Rattle.histories.specs.History2 as H2
 use Rattle.likelihood.specs.declared.population_focei.Observation.{Observation}
-use Rattle.source.specs.Run.{Run, done, ask, stop, Said, asks, found, refused, said, play, Asked}
+use Rattle.source.specs.Run.{Run, done, ask, stop, Said, asks, found, refused, said, play, AskedAt}
 use Rattle.source.specs.Source as S1
 use Rattle.source.specs.Source2 as S2
 use Rattle.source.specs.Claim as K1
 use Rattle.source.specs.Claim2 as K2
 use Rattle.source.proofs.One.{one-effect}
+use Rattle.source.proofs.Tells.{asked-of}
 use Rattle.source.proofs.Two.{two-effects}
 use Rattle.admission.specs.declared.Setup.{Setup}
 use Rattle.subjects.specs.declared.Wanted.{Wanted}
@@ -161,7 +162,7 @@ module _ (s : Settings) (h : List C.Conditional) (f : H1.Follows s h) where
   is-source : K1.OneSource s given
   is-source = one-effect s given (numbers 17 s _ h f)
 
-  asked1 : Asked (S1.mode s) given
+  asked1 : AskedAt (λ c. c .eta) (S1.mode s) given
   asked1 = is-source .path (subst (H1.Follows s) (sym (lifted h)) f)
 
   search1 : K1.led s given .search ≡ H1.after s h
@@ -169,7 +170,7 @@ module _ (s : Settings) (h : List C.Conditional) (f : H1.Follows s h) where
 
   says1 : original1 .says s h ≡ tell (wants1 (request s (H1.after s h))) (H1.after s h .best)
   says1 =
-      said-map (λ (m : K1.Told). m .0) K1.view (play (S1.mode s) given) ∙ ap (map-said (λ (m : K1.Told). m .0)) (is-source .same asked1)
+      said-map (λ (m : K1.Told). m .0) K1.view (play (S1.mode s) given) ∙ ap (map-said (λ (m : K1.Told). m .0)) (is-source .same (asked-of (λ c. c .eta) (S1.mode s) given asked1))
       ∙ tells1 (request s (K1.led s given .search)) _ ∙ ap (λ (x : Search). tell (wants1 (request s x)) (x .best)) search1
 
 speaks1 : Speaks inner1 original1
@@ -186,7 +187,7 @@ says2 : (s : Settings2) (h : List Conditional2) → H2.Follows s h → original2
 says2 s h f =
     let o = two-effects s h in
     said-map (λ (m : Conditional2 × Conditional2). m .0) (λ m. m) (play (S2.mode s) h)
-    ∙ ap (map-said (λ (m : Conditional2 × Conditional2). m .0)) (o .same (o .path f)) ∙ tells2 (R2.request s (H2.after s h)) _
+    ∙ ap (map-said (λ (m : Conditional2 × Conditional2). m .0)) (o .same (asked-of (λ c. c .eta) (S2.mode s) h (o .path f))) ∙ tells2 (R2.request s (H2.after s h)) _
 
 speaks2 : Speaks inner2 original2
 speaks2 = record { path = λ s h f. two-effects s h .path f; same = says2 }

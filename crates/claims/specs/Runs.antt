@@ -7,7 +7,7 @@ use mathlib.Core.List.{List, [], _∷_, map}
 use Prim.Native.Nat.{ℕ}
 use Rattle.mode.specs.declared.population_focei.Conditional as C
 use Rattle.likelihood.specs.declared.population_focei.Observation.{Observation}
-use Rattle.source.specs.Run.{Said, asks, found, refused, said, play, Asked}
+use Rattle.source.specs.Run.{Said, asks, found, refused, said, play, AskedAt}
 use Rattle.source.specs.Source as One
 use Rattle.source.specs.Source2 as Two
 use Rattle.source.specs.Claim.{bare}
@@ -25,7 +25,7 @@ use Rattle.claims.specs.Setup.{Granted}
 -- ---- the source's search, as a session's rules have settings, points and evaluations
 
 pub record Original (R : Rules) : Type 1 where
-  -- each of these evaluations is asked for by its run, after those before it; and what the run says after all of them
+  -- each of these evaluations is of the point that its run asks for after those before it; and what the run says after all of them
   pub Asks : R .Settings → List (R .Conditional) → Type 0
   pub says : R .Settings → List (R .Conditional) → Said (R .Point) (R .Conditional)
 
@@ -35,12 +35,15 @@ lift c = record { eta = c .eta; nll = c .nll; score = c .score; information = c 
 
 abbrev pub original1 : Original rules1
 original1 = record {
-  Asks = λ s h. Asked (One.mode s) (map lift h);
+  Asks = λ s h. AskedAt (λ c. c .eta) (One.mode s) (map lift h);
   says = λ s h. said (λ m. bare (m .0)) (play (One.mode s) (map lift h));
 }
 
 abbrev pub original2 : Original rules2
-original2 = record { Asks = λ s h. Asked (Two.mode s) h; says = λ s h. said (λ m. m .0) (play (Two.mode s) h) }
+original2 = record {
+  Asks = λ s h. AskedAt (λ c. c .eta) (Two.mode s) h;
+  says = λ s h. said (λ m. m .0) (play (Two.mode s) h);
+}
 
 -- ---- of any machine
 

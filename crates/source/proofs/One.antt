@@ -50,9 +50,9 @@ asked-said s g p e = ap (λ q. toldBy q (led s g .search .best, led s g .blocks 
 abbrev Steps : Settings → List Conditional → List Conditional → Type 0
 Steps s g h = FollowsFrom s (led s g .search) (map bare h)
 
-steps : (s : Settings) (g : List Conditional) (c : Conditional) (h : List Conditional) → Steps s g (c ∷ h) → ((p : Float) × (told s g ≡ asks p)) × Steps s (push g c) h
+steps : (s : Settings) (g : List Conditional) (c : Conditional) (h : List Conditional) → Steps s g (c ∷ h) → (told s g ≡ asks (c .eta)) × Steps s (push g c) h
 unfolding Answered
-steps s g c h w = ((c .eta, asked-said s g (c .eta) (w .0 .asked)), subst (λ x. FollowsFrom s (x .search) (map bare h)) (sym (led-push (step s) begin g c)) (w .1))
+steps s g c h w = (asked-said s g (c .eta) (w .0 .asked), subst (λ x. FollowsFrom s (x .search) (map bare h)) (sym (led-push (step s) begin g c)) (w .1))
 
 pub one-effect : OneEffect
 unfolding Histories.ledFrom
@@ -60,6 +60,6 @@ one-effect s h n =
     let f : AllFine Fine [] h = fine 17 [] h refl n in
     record {
       same = λ q. says Fine view (told s) (mode s) [] h (tells s) f q;
-      path = λ w. trodden Fine view (told s) (Steps s) (steps s) (mode s) [] h (tells s) f w;
+      path = λ w. trodden Fine view (told s) (λ c. c .eta) (Steps s) (steps s) (mode s) [] h (tells s) f w;
       search = led-search s h begin;
     }

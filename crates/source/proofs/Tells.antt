@@ -7,7 +7,7 @@ use Prim.Native.Nat.{_+_}
 use lib.ListN.{length, length-append}
 use Rattle.float64.specs.Pick.{pick}
 use Rattle.histories.specs.Histories.{ledFrom}
-use Rattle.source.specs.Run.{Run, done, ask, stop, _>>=_, play, Asked, Said, asks, found, refused, said}
+use Rattle.source.specs.Run.{Run, done, ask, stop, _>>=_, play, Asked, AskedAt, Said, asks, found, refused, said}
 
 abbrev pub push : {A : Type 0} → List A → A → List A
 push l a = l ++ (a ∷ [])
@@ -46,6 +46,16 @@ Asking (asks p) = Unit
 Asking (found m) = ⊥
 Asking (refused n) = ⊥
 
+same-point : {P B : Type 0} {p q : P} → _≡_ {A = Said P B} (asks p) (asks q) → p ≡ q
+same-point e = cc
+
+pub asked-of : {P C A : Type 0} (at : C → P) (r : Run P C A) (h : List C) → AskedAt at r h → Asked r h
+unfolding Asked AskedAt
+asked-of at r [] w = tt
+asked-of at (done a) (c ∷ h) w = w
+asked-of at (ask p k) (c ∷ h) w = asked-of at (k c) h (w .1)
+asked-of at (stop n) (c ∷ h) w = w
+
 module _ {P C A B : Type 0} (Fine : List C → C → Type 0) (view : A → B) (answer : List C → Said P B) where
   unfoldable pub Tells : Run P C A → List C → Type 0
   Tells (done a) g = answer g ≡ found (view a)
@@ -62,13 +72,14 @@ module _ {P C A B : Type 0} (Fine : List C → C → Type 0) (view : A → B) (a
   says (stop n) g (c ∷ h) t f q = absurd q
 
   -- a history h after g is a path of the run where the answer asks for each of its points
-  pub trodden : (Steps : List C → List C → Type 0)
-      → ((g : List C) (c : C) (h : List C) → Steps g (c ∷ h) → ((p : P) × (answer g ≡ asks p)) × Steps (push g c) h)
-      → (r : Run P C A) (g h : List C) → Tells r g → AllFine Fine g h → Steps g h → Asked r h
-  unfolding Tells AllFine Asked Asking
-  trodden Steps law (done a) g [] t f w = tt
-  trodden Steps law (ask p k) g [] t f w = tt
-  trodden Steps law (stop n) g [] t f w = tt
-  trodden Steps law (done a) g (c ∷ h) t f w = subst Asking (sym (law g c h w .0 .1) ∙ t) tt
-  trodden Steps law (ask p k) g (c ∷ h) t f w = trodden Steps law (k c) (push g c) h (t .1 c (f .0)) (f .1) (law g c h w .1)
-  trodden Steps law (stop n) g (c ∷ h) t f w = subst Asking (sym (law g c h w .0 .1) ∙ t) tt
+  pub trodden : (at : C → P) (Steps : List C → List C → Type 0)
+      → ((g : List C) (c : C) (h : List C) → Steps g (c ∷ h) → (answer g ≡ asks (at c)) × Steps (push g c) h)
+      → (r : Run P C A) (g h : List C) → Tells r g → AllFine Fine g h → Steps g h → AskedAt at r h
+  unfolding Tells AllFine AskedAt Asking
+  trodden at Steps law (done a) g [] t f w = tt
+  trodden at Steps law (ask p k) g [] t f w = tt
+  trodden at Steps law (stop n) g [] t f w = tt
+  trodden at Steps law (done a) g (c ∷ h) t f w = subst Asking (sym (law g c h w .0) ∙ t) tt
+  trodden at Steps law (ask p k) g (c ∷ h) t f w =
+      (same-point (sym (law g c h w .0) ∙ t .0), trodden at Steps law (k c) (push g c) h (t .1 c (f .0)) (f .1) (law g c h w .1))
+  trodden at Steps law (stop n) g (c ∷ h) t f w = subst Asking (sym (law g c h w .0) ∙ t) tt

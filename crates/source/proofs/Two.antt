@@ -174,9 +174,9 @@ asked-said s g p e = ap (λ q. toldBy q (after s g .best, getD g 0 nowhere)) e
 abbrev Steps : Settings2 → List Conditional2 → List Conditional2 → Type 0
 Steps s g h = FollowsFrom s (after s g) h
 
-steps : (s : Settings2) (g : List Conditional2) (c : Conditional2) (h : List Conditional2) → Steps s g (c ∷ h) → ((p : Pair) × (told s g ≡ asks p)) × Steps s (push g c) h
+steps : (s : Settings2) (g : List Conditional2) (c : Conditional2) (h : List Conditional2) → Steps s g (c ∷ h) → (told s g ≡ asks (c .eta)) × Steps s (push g c) h
 unfolding Answered
-steps s g c h w = ((c .eta, asked-said s g (c .eta) (w .0 .asked)), subst (λ x. FollowsFrom s x h) (sym (led-push (R.advance s) R.start g c)) (w .1))
+steps s g c h w = (asked-said s g (c .eta) (w .0 .asked), subst (λ x. FollowsFrom s x h) (sym (led-push (R.advance s) R.start g c)) (w .1))
 
 every : (g h : List Conditional2) → AllFine Fine g h
 unfolding AllFine
@@ -187,5 +187,5 @@ pub two-effects : TwoEffects
 unfolding ledFrom
 two-effects s h = record {
   same = λ q. says Fine (λ m. m) (told s) (mode s) [] h (tells s) (every [] h) q;
-  path = λ w. trodden Fine (λ m. m) (told s) (Steps s) (steps s) (mode s) [] h (tells s) (every [] h) w;
+  path = λ w. trodden Fine (λ m. m) (told s) (λ c. c .eta) (Steps s) (steps s) (mode s) [] h (tells s) (every [] h) w;
 }

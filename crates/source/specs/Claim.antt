@@ -19,7 +19,7 @@ use Rattle.histories.specs.Histories.{ledFrom}
 use Rattle.histories.specs.History.{after, Follows}
 use Rattle.work.specs.declared.Sources.{Sources}
 use Rattle.subjects.specs.Subjects.{sources1}
-use Rattle.source.specs.Run.{Said, asks, found, refused, said, play, Asked}
+use Rattle.source.specs.Run.{Said, asks, found, refused, said, play, Asked, AskedAt}
 use Rattle.source.specs.Source.{Conditional, mode}
 
 unfoldable pub Numbers : List Conditional → Type 0
@@ -77,7 +77,7 @@ view m = (bare (m .0), m .0 .rows, m .1)
 
 pub record OneSource (s : Settings) (h : List Conditional) : Type 0 where
   pub same : Asked (mode s) h → said view (play (mode s) h) ≡ told s h
-  pub path : Follows s (map bare h) → Asked (mode s) h
+  pub path : Follows s (map bare h) → AskedAt (λ c. c .eta) (mode s) h
   pub search : led s h .search ≡ after s (map bare h)
 
 abbrev pub OneEffect : Type 0

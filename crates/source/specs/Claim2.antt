@@ -10,7 +10,7 @@ use Rattle.mode_2d.specs.declared.population_focei_2d.Request2.{Request2}
 use Rattle.mode_2d.specs.declared.population_focei_2d.Request2.the-variants.{Point, Mode, Refused}
 use Rattle.mode_2d.specs.Rules.{request}
 use Rattle.histories.specs.History2.{after, Follows}
-use Rattle.source.specs.Run.{Said, asks, found, refused, said, play, Asked}
+use Rattle.source.specs.Run.{Said, asks, found, refused, said, play, Asked, AskedAt}
 use Rattle.source.specs.Source2.{mode, nowhere}
 
 unfoldable pub toldBy : {A : Type 0} → Request2 → A → Said Pair A
@@ -24,7 +24,7 @@ told s h = toldBy (request s (after s h)) (after s h .best, getD h 0 nowhere)
 
 pub record TwoSource (s : Settings2) (h : List Conditional2) : Type 0 where
   pub same : Asked (mode s) h → said (λ m. m) (play (mode s) h) ≡ told s h
-  pub path : Follows s h → Asked (mode s) h
+  pub path : Follows s h → AskedAt (λ c. c .eta) (mode s) h
 
 abbrev pub TwoEffects : Type 0
 TwoEffects = (s : Settings2) (h : List Conditional2) → TwoSource s h

@@ -1,5 +1,6 @@
 -- A run of the source, written as the source is: statements, `for` with `break`, `?` at an evaluation. Where the source calls the
 -- simulator the run asks, and goes on with the answer.
+use mathlib.Core.Path.{_≡_}
 use mathlib.Core.Bool.{Bool}
 use mathlib.Core.List.{List, [], _∷_}
 use Prim.Native.Nat.{ℕ, zero, suc, _+_}
@@ -60,12 +61,19 @@ play (done a) (c ∷ h) = done a
 play (ask p k) (c ∷ h) = play (k c) h
 play (stop n) (c ∷ h) = stop n
 
--- each was asked for
+-- an answer was asked for each time
 unfoldable pub Asked : {P C A : Type 0} → Run P C A → List C → Type 0
 Asked r [] = Unit
 Asked (done a) (c ∷ h) = ⊥
 Asked (ask p k) (c ∷ h) = Asked (k c) h
 Asked (stop n) (c ∷ h) = ⊥
+
+-- and each is of the point that was asked for: `at` is where an answer was had
+unfoldable pub AskedAt : {P C A : Type 0} → (C → P) → Run P C A → List C → Type 0
+AskedAt at r [] = Unit
+AskedAt at (done a) (c ∷ h) = ⊥
+AskedAt at (ask p k) (c ∷ h) = (at c ≡ p) × AskedAt at (k c) h
+AskedAt at (stop n) (c ∷ h) = ⊥
 
 -- what it says next
 pub data Said (P A : Type 0) : Type 0 where
