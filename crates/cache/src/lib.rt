@@ -1,3 +1,14 @@
+ghost use mathlib.Core.Path.{_≡_};
+ghost use Prim.Native.Nat.{_-_, _%_, _≤_, _<_};
+ghost use lib.ListN.{getD, set};
+ghost use Rattle.cache.specs.Cache.{half, part, hash, headOf, hasBit, isRoom, isSame, isAt, walk, entryPlace, find};
+
+pub mod entries;
+pub mod keeping;
+
+use words::put;
+use words::read;
+
 // Document 01's kept evaluations in lent words, the oldest out first: the source's `cache` and
 // `cache_order`.
 //
@@ -9,10 +20,6 @@
 // and above it bits of its own key's hash. A number below the oldest is dead, so nothing is ever unlinked.
 //
 // Here are the types, and what finds an entry; kept_entries reads what was found, and keeping adds an entry.
-ghost use mathlib.Core.Path.{_≡_};
-ghost use Prim.Native.Nat.{_-_, _%_, _≤_, _<_};
-ghost use lib.ListN.{getD, set};
-ghost use Rattle.cache.specs.Cache.{half, part, hash, headOf, hasBit, isRoom, isSame, isAt, walk, entryPlace, find};
 
 // The layout: the words of a row, and where entries and rows begin, for each row of the room.
 pub const ROW_WORDS: usize = 3;
@@ -73,25 +80,6 @@ fn word(number: usize) -> u64
     ensures { λ r. ⌜ r ≡ number ⌝ }
 {
     number as u64
-}
-
-// Word i, or 0 beyond the end.
-pub fn read(words: &[u64], i: usize) -> u64
-    ensures { λ r. ⌜ r ≡ getD (now (words .entry)) i 0 ⌝ }
-{
-    if i < words.len() {
-        return words[i];
-    }
-    0
-}
-
-// Writes word i, and nothing beyond the end.
-pub fn put(words: &mut [u64], i: usize, value: u64)
-    ensures { λ _. ⌜ now (words .exit) ≡ set (now (words .entry)) i value ⌝ }
-{
-    if i < words.len() {
-        words[i] = value;
-    }
 }
 
 // a - b, or 0.

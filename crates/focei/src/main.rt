@@ -1,4 +1,4 @@
-// Document 01's program: reads records from standard input and writes what `fitting::focei` says of them.
+// Document 01's program: reads records from standard input and writes what `focei_fit::focei` says of them.
 // Only reading and writing are outside the proof.
 use libc::STDIN_FILENO;
 use libc::STDOUT_FILENO;
@@ -9,6 +9,6 @@ fn main() {
     // an `O` and an `H` line, an `S` and an `F` line for each of 256 records, are 30,267 bytes at most
     let mut out = [0u8; 32768];
     let got = io::read_full(STDIN_FILENO, &mut input);
-    let length = fitting::focei(&input[..got], &mut out);
+    let length = focei_fit::focei(&input[..got], &mut out);
     io::write_all(STDOUT_FILENO, &out[..length]);
 }

@@ -1,16 +1,22 @@
-// The lent observations: a subject's are added to its evaluation one after the other, and all are checked.
-// Here alone are they read.
 ghost use mathlib.Core.Path.{_≡_};
 ghost use Prim.Native.Nat.{_<_, _-_};
 ghost use lib.ListN.{length, take, drop};
-ghost use Rattle.evaluation.specs.Subject.{evaluating, addObservations};
-ghost use Rattle.evaluation.specs.Observations.{observationAt, smaller, isNoDeviation, isSound, nextPlace, checkAt, checkObservation, checkObservations};
-use evaluation::Check;
-use evaluation::Evaluation;
-use evaluation::Position;
-use evaluation::Trial;
+ghost use Rattle.subject.specs.Subject.{evaluating, addObservations};
+ghost use Rattle.words.specs.Words.{smaller};
+ghost use Rattle.subject.specs.Observations.{observationAt, isNoDeviation, isSound, nextPlace, checkAt, checkObservation, checkObservations};
+ghost use Rattle.observations.specs.Lending.{evaluateOver};
 use float64::LARGEST;
 use likelihood::population_focei::Observation;
+use search::Tally;
+use session::Admitted;
+use subject::Check;
+use subject::Evaluation;
+use subject::Position;
+use subject::Trial;
+use words::smaller;
+
+// The lent observations: a subject's are added to its evaluation one after the other, and all are checked.
+// Here alone are they read.
 
 // The one reader of a lent observation.
 fn observation_at(observations: &[Observation], i: usize) -> Observation
@@ -18,15 +24,6 @@ fn observation_at(observations: &[Observation], i: usize) -> Observation
     ensures { λ r. ⌜ r ≡ observationAt (now (observations .entry)) i ⌝ }
 {
     observations[i]
-}
-
-fn smaller(a: usize, b: usize) -> usize
-    ensures { λ r. ⌜ r ≡ smaller a b ⌝ }
-{
-    if a < b {
-        return a;
-    }
-    b
 }
 
 // The observations from number `from` up to, but without, `to`, one after the other: a subject's, where
@@ -49,7 +46,7 @@ pub fn add_observations(
     let mut i = from;
     while i < end {
         let observation = observation_at(observations, i);
-        sums = rows::add_observation(sums, observation, trial, reply, work);
+        sums = subject::rows::add_observation(sums, observation, trial, reply, work);
         i += 1;
     }
     sums
@@ -112,7 +109,7 @@ fn check_at(place: Position, observation: Observation, width: u32, counts: &[u64
     ensures { λ r. ⌜ r ≡ checkAt width (now (counts .entry)) observation place ⌝ }
 {
     if is_sound(observation, width) {
-        let count = cache::read(counts, place.subject);
+        let count = words::read(counts, place.subject);
         return Check::Sound(next_place(place, count));
     }
     Check::Unsound(place)
@@ -153,4 +150,42 @@ pub fn check_observations(
         i += 1;
     }
     checked
+}
+
+// What a call of a session is lent by reference to structs: the tally record, copied out before all that
+// decides anything and written back after it, and the observations of a reply.
+
+// The tally as it is lent.
+pub fn tally_now(tally: &mut Tally) -> Tally
+    ensures { λ r. ⌜ (r ≡ now (tally .entry)) × (now (tally .exit) ≡ now (tally .entry)) ⌝ }
+{
+    *tally
+}
+
+// And as a call leaves it.
+pub fn keep_tally(tally: &mut Tally, value: Tally)
+    ensures { λ _. ⌜ now (tally .exit) ≡ value ⌝ }
+{
+    *tally = value;
+}
+
+// The observations of a reply that is let in are added to its evaluation.
+pub fn evaluate(
+    observations: &[Observation],
+    admitted: Admitted,
+    reply: &[u64],
+    work: &mut [u64],
+) -> Evaluation
+    ensures { λ r. ⌜ evaluating r (now (work .exit))
+        ≡ evaluateOver (now (observations .entry)) admitted (now (reply .entry)) (now (work .entry)) ⌝ }
+{
+    add_observations(
+        observations,
+        admitted.from,
+        admitted.to,
+        admitted.evaluation,
+        admitted.trial,
+        reply,
+        work,
+    )
 }

@@ -12,16 +12,17 @@ use lib.Ieee.{Float, binary64, toBits}
 use Rattle.float64.specs.Arithmetic.{_+ᶠ_, _*ᶠ_, word}
 use Rattle.float64.specs.Pick.{yes, no, yesOf, noOf, cases}
 use Rattle.matrix.specs.declared.Pair.{Pair}
-use Rattle.work.specs.Work.{mostRows, zeros, isSameGrid, resultWritten, fittedWritten}
-use Rattle.subjects.specs.Subjects as B
-use Rattle.subjects.specs.declared.Tally.{Tally}
-use Rattle.subjects.specs.declared.Fit.{Fit}
-use Rattle.subjects.specs.declared.Progress.{Progress}
-use Rattle.subjects.specs.declared.Place.the-variants.{Subject}
-use Rattle.subjects.specs.declared.Halted.{Halted}
-use Rattle.subjects.specs.declared.Mode.{Mode}
-use Rattle.subjects.specs.declared.Closed.{Closed}
-use Rattle.subjects.specs.declared.Closed.the-variants.{Positive, NotPositive}
+use Rattle.words.specs.Words.{zeros}
+use Rattle.work.specs.Work.{mostRows, isSameGrid, resultWritten, fittedWritten}
+use Rattle.search.specs.Subjects as B
+use Rattle.search.specs.declared.Tally.{Tally}
+use Rattle.search.specs.declared.Fit.{Fit}
+use Rattle.search.specs.declared.Progress.{Progress}
+use Rattle.search.specs.declared.Place.the-variants.{Subject}
+use Rattle.search.specs.declared.Halted.{Halted}
+use Rattle.search.specs.declared.Mode.{Mode}
+use Rattle.search.specs.declared.Closed.{Closed}
+use Rattle.search.specs.declared.Closed.the-variants.{Positive, NotPositive}
 use Rattle.population.specs.Population.{rowsOf, warmOf, warmStored, worked, raised, nextSubject, Ended, ended, closing, atMode}
 use Rattle.population.specs.declared.Turned.{Turned}
 use Rattle.population.specs.declared.Turned.the-variants.{On, Halt}

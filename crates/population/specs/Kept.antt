@@ -5,7 +5,7 @@ use Prim.Native.Nat.{ℕ, zero, suc, _+_, _-_, _*_}
 use lib.ListN.{getD, set, length}
 use Rattle.cache.specs.Cache.{Cache, find, termsOf, copied, insert, order, rowWords}
 use Rattle.cache.specs.Kept.{Entry, lookup, cachedRows, appended}
-use Rattle.work.specs.Work.{zeros}
+use Rattle.words.specs.Words.{zeros}
 use Rattle.cache.specs.declared.CacheKey.{CacheKey}
 use Rattle.cache.specs.declared.CacheOrder.{CacheOrder}
 use Rattle.cache.specs.declared.CachedTerms.{CachedTerms}

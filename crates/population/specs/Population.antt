@@ -9,22 +9,23 @@ use lib.Ieee.{binary64, toBits}
 use Rattle.float64.specs.Arithmetic.{_+ᶠ_, _*ᶠ_, word}
 use Rattle.float64.specs.Pick.{pick}
 use Rattle.matrix.specs.declared.Pair.{Pair}
-use Rattle.evaluation.specs.declared.Sums.{Sums}
-use Rattle.work.specs.Work.{mostRows, zeros, block, moveRows, isSameGrid, resultWritten, fittedWritten}
-use Rattle.sessions.specs.Machine.{Moved, on, halt, Ran}
-use Rattle.subjects.specs.Subjects as B
-use Rattle.subjects.specs.declared.Tally.{Tally}
-use Rattle.subjects.specs.declared.Fit.{Fit}
-use Rattle.subjects.specs.declared.Progress.{Progress}
-use Rattle.subjects.specs.declared.Place.the-variants.{Nowhere, Subject}
-use Rattle.subjects.specs.declared.Step.{Step}
-use Rattle.subjects.specs.declared.Step.the-variants.{Refused}
-use Rattle.subjects.specs.declared.Halted.{Halted}
-use Rattle.subjects.specs.declared.Wanted.{Wanted}
-use Rattle.subjects.specs.declared.Wanted.the-variants as Wants
-use Rattle.subjects.specs.declared.Mode.{Mode}
-use Rattle.subjects.specs.declared.Closed.{Closed}
-use Rattle.subjects.specs.declared.Closed.the-variants.{Positive, NotPositive}
+use Rattle.subject.specs.declared.Sums.{Sums}
+use Rattle.words.specs.Words.{zeros}
+use Rattle.work.specs.Work.{mostRows, block, moveRows, isSameGrid, resultWritten, fittedWritten}
+use Rattle.machine.specs.Machine.{Moved, on, halt, Ran}
+use Rattle.search.specs.Subjects as B
+use Rattle.search.specs.declared.Tally.{Tally}
+use Rattle.search.specs.declared.Fit.{Fit}
+use Rattle.search.specs.declared.Progress.{Progress}
+use Rattle.search.specs.declared.Place.the-variants.{Nowhere, Subject}
+use Rattle.search.specs.declared.Step.{Step}
+use Rattle.search.specs.declared.Step.the-variants.{Refused}
+use Rattle.search.specs.declared.Halted.{Halted}
+use Rattle.search.specs.declared.Wanted.{Wanted}
+use Rattle.search.specs.declared.Wanted.the-variants as Wants
+use Rattle.search.specs.declared.Mode.{Mode}
+use Rattle.search.specs.declared.Closed.{Closed}
+use Rattle.search.specs.declared.Closed.the-variants.{Positive, NotPositive}
 use Rattle.cache.specs.Cache.{Cache}
 use Rattle.population.specs.Kept.{Recalled, Store, words}
 use Rattle.population.specs.declared.Turned.{Turned}

@@ -1,18 +1,24 @@
+ghost use mathlib.Core.Path.{_≡_};
+ghost use Rattle.population.specs.Population.{rowsOf, warmOf, warmStored, worked, nextSubject, ended, atMode};
+
+pub mod answers;
+pub mod kept_points;
+pub mod steps;
+
+use matrix::Pair;
+use search::Closed;
+use search::Fit;
+use search::Halted;
+use search::Mode;
+use search::Place;
+use search::Progress;
+use search::Tally;
+
 // The population objective, `population` of population_focei.rs and population_focei_2d.rs, as a machine
 // over lent words: subject after subject, a search asks for points, kept evaluations or replies answer
 // it, and its mode is added to the objective. Here are the types and definitions, the observations and
 // warm starts in lent words, and what is done with a mode; kept evaluations are in `kept_points`, replies
 // in `answers`, and the loop over the requests is in `steps`.
-ghost use mathlib.Core.Path.{_≡_};
-ghost use Rattle.population.specs.Population.{rowsOf, warmOf, warmStored, worked, nextSubject, ended, atMode};
-use matrix::Pair;
-use subjects::Closed;
-use subjects::Fit;
-use subjects::Halted;
-use subjects::Mode;
-use subjects::Place;
-use subjects::Progress;
-use subjects::Tally;
 
 // A turn of the loop over the remaining requests: it goes on, which costs no evaluation, or halts.
 pub enum Turned {
@@ -26,7 +32,7 @@ pub enum Turned {
 pub fn rows_of(counts: &[u64], subject: usize) -> usize
     ensures { λ r. ⌜ r ≡ rowsOf (now (counts .entry)) subject ⌝ }
 {
-    let count = cache::read(counts, subject) as usize;
+    let count = words::read(counts, subject) as usize;
     if count < work::MOST_ROWS {
         return count;
     }
@@ -45,12 +51,12 @@ pub fn warm_of(warm: &[u64], effects: u32, subject: usize) -> Pair
             };
         }
         return Pair {
-            first: float64::from_word(cache::read(warm, 2 * subject)),
-            second: float64::from_word(cache::read(warm, 2 * subject + 1)),
+            first: float64::from_word(words::read(warm, 2 * subject)),
+            second: float64::from_word(words::read(warm, 2 * subject + 1)),
         };
     }
     Pair {
-        first: float64::from_word(cache::read(warm, subject)),
+        first: float64::from_word(words::read(warm, subject)),
         second: 0.0,
     }
 }
@@ -62,11 +68,11 @@ fn store_warm(warm: &mut [u64], effects: u32, subject: usize, eta: Pair)
         if warm.len() <= subject {
             return;
         }
-        cache::put(warm, 2 * subject, float64::to_word(eta.first));
-        cache::put(warm, 2 * subject + 1, float64::to_word(eta.second));
+        words::put(warm, 2 * subject, float64::to_word(eta.first));
+        words::put(warm, 2 * subject + 1, float64::to_word(eta.second));
         return;
     }
-    cache::put(warm, subject, float64::to_word(eta.first));
+    words::put(warm, subject, float64::to_word(eta.first));
 }
 
 // ---- a mode
@@ -92,10 +98,10 @@ fn next_subject(
     if subject < counts.len() {
         let first = std::num::wrapping_add_usize(progress.first, rows);
         let start = warm_of(warm, fit.effects, subject);
-        work::clear(work);
-        return Turned::On(subjects::begin_subject(subject, first, start, ofv, eta_squares));
+        words::clear(work);
+        return Turned::On(search::begin_subject(subject, first, start, ofv, eta_squares));
     }
-    Turned::Halt(objective::objective_of(progress, tally, ofv, eta_squares))
+    Turned::Halt(search::objective::objective_of(progress, tally, ofv, eta_squares))
 }
 
 // The search has its mode: 16, the warm start is stored, 17, the results are written.
@@ -113,18 +119,18 @@ pub fn at_mode(
 {
     let subject = progress.subject;
     let rows = rows_of(counts, subject);
-    match objective::closed_by(fit, progress, rows as u32) {
+    match search::objective::closed_by(fit, progress, rows as u32) {
         Closed::Positive(mode) => {
             let eta = mode.eta;
             store_warm(warm, fit.effects, subject, eta);
             if work::is_same_grid(work, rows) {
-                results::write_result(results, subject, eta, mode.nll);
-                results::write_fitted(results, counts.len(), progress.first, work, rows);
+                work::results::write_result(results, subject, eta, mode.nll);
+                work::results::write_fitted(results, counts.len(), progress.first, work, rows);
                 return next_subject(fit, counts, progress, tally, mode, rows, work, warm);
             }
-            Turned::Halt(subjects::refused(progress, tally, 17, Place::Subject(subject)))
+            Turned::Halt(search::refused(progress, tally, 17, Place::Subject(subject)))
         }
-        Closed::NotPositive => Turned::Halt(subjects::refused(
+        Closed::NotPositive => Turned::Halt(search::refused(
             progress,
             tally,
             16,

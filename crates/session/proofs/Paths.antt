@@ -10,16 +10,16 @@ use Rattle.float64.specs.Arithmetic.{word}
 use Rattle.work.specs.Work.{block}
 use Rattle.cache.specs.Cache.{order}
 use Rattle.mode.specs.declared.population_focei.Stage.{Stage}
-use Rattle.evaluation.specs.declared.Check.{Check}
-use Rattle.admission.specs.Admission.{checks, withParameters}
-use Rattle.admission.specs.declared.Admission.{Admission}
-use Rattle.admission.specs.declared.Admission.the-variants as A
-use Rattle.admission.specs.declared.Lent.{Lent}
-use Rattle.admission.specs.declared.Parameters.{Parameters}
-use Rattle.admission.specs.declared.Setup.{Setup}
-use Rattle.subjects.specs.Subjects.{beginSubject}
-use Rattle.subjects.specs.declared.Progress.{Progress}
-use Rattle.subjects.specs.declared.Tally.{Tally}
+use Rattle.subject.specs.declared.Check.{Check}
+use Rattle.setup.specs.Admission.{checks, withParameters}
+use Rattle.setup.specs.declared.Admission.{Admission}
+use Rattle.setup.specs.declared.Admission.the-variants as A
+use Rattle.setup.specs.declared.Lent.{Lent}
+use Rattle.setup.specs.declared.Parameters.{Parameters}
+use Rattle.setup.specs.declared.Setup.{Setup}
+use Rattle.search.specs.Subjects.{beginSubject}
+use Rattle.search.specs.declared.Progress.{Progress}
+use Rattle.search.specs.declared.Tally.{Tally}
 use Rattle.population.specs.Population.{rowsOf}
 use Rattle.session.specs.Calls.{firstState, admitObjective, trialBy}
 use Rattle.session.specs.Session.{countWithin, searchWithin, searchWithin2, isPlaced, isStanding}

@@ -7,31 +7,31 @@ use lib.Ieee.{Float, binary64, ofInt}
 use Rattle.float64.specs.Arithmetic.{_-ᶠ_, _/ᶠ_, word, one}
 use Rattle.float64.specs.Pick.{pick}
 use Rattle.matrix.specs.declared.Pair.{Pair}
-use Rattle.evaluation.specs.Observations.{smaller}
-use Rattle.evaluation.specs.Subject.{begin, finish}
-use Rattle.evaluation.specs.declared.AdditiveSd.the-variants.{Own}
-use Rattle.evaluation.specs.declared.Check.{Check}
-use Rattle.evaluation.specs.declared.Evaluation.{Evaluation}
-use Rattle.evaluation.specs.declared.Evaluation.the-variants as E
-use Rattle.evaluation.specs.declared.Trial.{Trial}
+use Rattle.words.specs.Words.{smaller}
+use Rattle.subject.specs.Subject.{begin, finish}
+use Rattle.subject.specs.declared.AdditiveSd.the-variants.{Own}
+use Rattle.subject.specs.declared.Check.{Check}
+use Rattle.subject.specs.declared.Evaluation.{Evaluation}
+use Rattle.subject.specs.declared.Evaluation.the-variants as E
+use Rattle.subject.specs.declared.Trial.{Trial}
 use Rattle.work.specs.Work.{block}
-use Rattle.admission.specs.Admission.{checks, withParameters}
-use Rattle.admission.specs.declared.Lent.{Lent}
-use Rattle.admission.specs.declared.Parameters.{Parameters}
-use Rattle.admission.specs.declared.Setup.{Setup}
-use Rattle.admission.specs.declared.Admission.{Admission}
-use Rattle.admission.specs.declared.Admission.the-variants as A
+use Rattle.setup.specs.Admission.{checks, withParameters}
+use Rattle.setup.specs.declared.Lent.{Lent}
+use Rattle.setup.specs.declared.Parameters.{Parameters}
+use Rattle.setup.specs.declared.Setup.{Setup}
+use Rattle.setup.specs.declared.Admission.{Admission}
+use Rattle.setup.specs.declared.Admission.the-variants as A
 use Rattle.cache.specs.declared.CacheOrder.{CacheOrder}
-use Rattle.subjects.specs.Subjects.{fitOf, wantedBy, idle, beginSubject}
-use Rattle.subjects.specs.declared.Place.{Place}
-use Rattle.subjects.specs.declared.Place.the-variants as At
-use Rattle.subjects.specs.declared.Progress.{Progress}
-use Rattle.subjects.specs.declared.Tally.{Tally}
-use Rattle.subjects.specs.declared.Step.{Step}
-use Rattle.subjects.specs.declared.Step.the-variants.{Refused}
-use Rattle.subjects.specs.declared.Wanted.{Wanted}
-use Rattle.subjects.specs.declared.Wanted.the-variants as Wants
-use Rattle.sessions.specs.Machine.{Moved, Ran, ran, onward, loop}
+use Rattle.search.specs.Subjects.{fitOf, wantedBy, idle, beginSubject}
+use Rattle.search.specs.declared.Place.{Place}
+use Rattle.search.specs.declared.Place.the-variants as At
+use Rattle.search.specs.declared.Progress.{Progress}
+use Rattle.search.specs.declared.Tally.{Tally}
+use Rattle.search.specs.declared.Step.{Step}
+use Rattle.search.specs.declared.Step.the-variants.{Refused}
+use Rattle.search.specs.declared.Wanted.{Wanted}
+use Rattle.search.specs.declared.Wanted.the-variants as Wants
+use Rattle.machine.specs.Machine.{Moved, Ran, ran, onward, loop}
 use Rattle.population.specs.Kept.{cacheOf, words}
 use Rattle.population.specs.Population.{rowsOf, warmOf, wholeOf, spent}
 use Rattle.session.specs.Session.{Held, held, fuel, isStanding, whenAdmitted, opened, replied, turnHeld}

@@ -13,31 +13,32 @@ use Rattle.mode.specs.declared.population_focei.Stage.the-variants.{Grid, Warm,
 use Rattle.mode.specs.declared.population_focei.Search.{Search}
 use Rattle.mode_2d.specs.declared.population_focei_2d.Search2.{Search2}
 use Rattle.likelihood.specs.declared.population_focei.Observation.{Observation}
-use Rattle.evaluation.specs.Observations.{checkObservations}
-use Rattle.evaluation.specs.Subject.{Evaluating, evaluating, begin, addObservations, finish}
-use Rattle.evaluation.specs.declared.Trial.{Trial}
-use Rattle.evaluation.specs.declared.Check.{Check}
-use Rattle.evaluation.specs.declared.Check.the-variants.{Sound}
-use Rattle.evaluation.specs.declared.Evaluation.{Evaluation}
-use Rattle.evaluation.specs.declared.Evaluation.the-variants as E
-use Rattle.work.specs.Work.{zeros, block}
-use Rattle.admission.specs.Admission.{checks, withParameters}
-use Rattle.admission.specs.declared.Setup.{Setup}
-use Rattle.admission.specs.declared.Parameters.{Parameters}
-use Rattle.admission.specs.declared.Lent.{Lent}
-use Rattle.admission.specs.declared.Admission.{Admission}
-use Rattle.admission.specs.declared.Admission.the-variants as A
-use Rattle.subjects.specs.Subjects.{fitOf, wantedBy, idle, beginSubject}
-use Rattle.subjects.specs.declared.Tally.{Tally}
-use Rattle.subjects.specs.declared.Fit.{Fit}
-use Rattle.subjects.specs.declared.Progress.{Progress}
-use Rattle.subjects.specs.declared.Place.{Place}
-use Rattle.subjects.specs.declared.Place.the-variants as At
-use Rattle.subjects.specs.declared.Step.{Step}
-use Rattle.subjects.specs.declared.Step.the-variants.{Refused}
-use Rattle.subjects.specs.declared.Wanted.{Wanted}
-use Rattle.subjects.specs.declared.Wanted.the-variants as Wants
-use Rattle.sessions.specs.Machine.{Moved, on, halt, Machine}
+use Rattle.subject.specs.Observations.{checkObservations}
+use Rattle.subject.specs.Subject.{Evaluating, evaluating, begin, addObservations, finish}
+use Rattle.subject.specs.declared.Trial.{Trial}
+use Rattle.subject.specs.declared.Check.{Check}
+use Rattle.subject.specs.declared.Check.the-variants.{Sound}
+use Rattle.subject.specs.declared.Evaluation.{Evaluation}
+use Rattle.subject.specs.declared.Evaluation.the-variants as E
+use Rattle.words.specs.Words.{zeros}
+use Rattle.work.specs.Work.{block}
+use Rattle.setup.specs.Admission.{checks, withParameters}
+use Rattle.setup.specs.declared.Setup.{Setup}
+use Rattle.setup.specs.declared.Parameters.{Parameters}
+use Rattle.setup.specs.declared.Lent.{Lent}
+use Rattle.setup.specs.declared.Admission.{Admission}
+use Rattle.setup.specs.declared.Admission.the-variants as A
+use Rattle.search.specs.Subjects.{fitOf, wantedBy, idle, beginSubject}
+use Rattle.search.specs.declared.Tally.{Tally}
+use Rattle.search.specs.declared.Fit.{Fit}
+use Rattle.search.specs.declared.Progress.{Progress}
+use Rattle.search.specs.declared.Place.{Place}
+use Rattle.search.specs.declared.Place.the-variants as At
+use Rattle.search.specs.declared.Step.{Step}
+use Rattle.search.specs.declared.Step.the-variants.{Refused}
+use Rattle.search.specs.declared.Wanted.{Wanted}
+use Rattle.search.specs.declared.Wanted.the-variants as Wants
+use Rattle.machine.specs.Machine.{Moved, on, halt, Machine}
 use Rattle.population.specs.Kept.{Store}
 use Rattle.population.specs.Population.{rowsOf, warmOf, Whole, wholeOf, turn, spent, receive}
 

@@ -1,24 +1,28 @@
-// What a session's calls stand on, by value: what is handed from call to call, check 19, and what is let
-// in. Of the observations there is what was found of them: how many there are, and their check. Each
-// function is defined for all values and words.
 ghost use mathlib.Core.Path.{_≡_};
 ghost use lib.ListN.{length};
 ghost use Rattle.session.specs.Calls.{lentBy, refusedAs, startOf, firstState, shrinkage};
 ghost use Rattle.session.specs.Session.{firstCheck};
-use admission::Admission;
-use admission::Lent;
-use admission::Parameters;
-use admission::Setup;
+
+pub mod checks;
+
 use cache::CacheOrder;
-use evaluation::Check;
-use evaluation::Evaluation;
-use evaluation::Position;
-use evaluation::Trial;
 use matrix::Pair;
-use subjects::Place;
-use subjects::Progress;
-use subjects::Step;
-use subjects::Tally;
+use search::Place;
+use search::Progress;
+use search::Step;
+use search::Tally;
+use setup::Admission;
+use setup::Lent;
+use setup::Parameters;
+use setup::Setup;
+use subject::Check;
+use subject::Evaluation;
+use subject::Position;
+use subject::Trial;
+
+// What a session's calls stand on, by value: what is handed from call to call, check 19, and what is let
+// in. Of the observations there is what was found of them: how many there are, and their check. Each
+// function is defined for all values and words.
 
 // What a host hands from call to call: the objective's parameters, where it stands, and the positions of
 // the kept evaluations.
@@ -136,7 +140,7 @@ pub fn first_state(setup: Setup) -> State
             omega: setup.omega00,
             additive_sd,
         },
-        progress: subjects::begin_subject(0, 0, zero, 0.0, 0.0),
+        progress: search::begin_subject(0, 0, zero, 0.0, 0.0),
         order: CacheOrder {
             oldest: 1,
             next: 1,
@@ -154,7 +158,7 @@ pub fn start_of(parameters: Parameters, warm: &[u64], effects: u32, order: Cache
     let first = population::warm_of(warm, effects, 0);
     State {
         parameters,
-        progress: subjects::begin_subject(0, 0, first, 0.0, 0.0),
+        progress: search::begin_subject(0, 0, first, 0.0, 0.0),
         order,
     }
 }

@@ -17,7 +17,7 @@ use Rattle.mode.specs.declared.population_focei.Search.{Search}
 use Rattle.mode.specs.declared.population_focei.Request.{Request}
 use Rattle.mode.specs.declared.population_focei.Request.the-variants.{Point, Mode, Refused}
 use Rattle.mode.specs.Rules as R
-use Rattle.subjects.specs.Subjects.{sources1, sourcesAt, bracketSources}
+use Rattle.search.specs.Subjects.{sources1, sourcesAt, bracketSources}
 use Rattle.source.specs.Run.{Run, done, ask, stop, _>>=_, _>>_, if_then_else_, err, Flow, next, break, turn, rounds, for, asks, found, refused}
 use Rattle.source.specs.Source.{Conditional, «1e-1», Bracket, narrow}
 use Rattle.source.specs.Claim.{bare, Blocks, from, moved, State, step, begin, led, toldBy, toldAt, told, view}

@@ -8,9 +8,9 @@ use lib.Ieee.{Float}
 use Rattle.mode.specs.declared.population_focei.Settings.{Settings}
 use Rattle.mode.specs.declared.population_focei.Request.the-variants.{Point}
 use Rattle.mode.specs.Rules as R
-use Rattle.histories.specs.Histories
-use Rattle.histories.specs.Histories.{Answered}
-use Rattle.histories.specs.History.{FollowsFrom}
+use Rattle.mode_theorems.specs.Histories
+use Rattle.mode_theorems.specs.Histories.{Answered}
+use Rattle.mode_theorems.specs.History.{FollowsFrom}
 use Rattle.source.specs.Run.{asks}
 use Rattle.source.specs.Source.{Conditional, mode}
 use Rattle.source.specs.Claim.{Numbers, bare, State, step, begin, led, toldBy, told, view, OneEffect}

@@ -24,7 +24,7 @@ use Rattle.mode_2d.specs.declared.population_focei_2d.Search2.{Search2}
 use Rattle.mode_2d.specs.declared.population_focei_2d.Request2.{Request2}
 use Rattle.mode_2d.specs.declared.population_focei_2d.Request2.the-variants.{Point, Refused}
 use Rattle.mode_2d.specs.Rules as R
-use Rattle.histories.specs.History2.{after}
+use Rattle.mode_theorems.specs.History2.{after}
 use Rattle.source.specs.Run.{Run, done, _>>=_, _>>_, err, Flow, next, break, turn, rounds, for, asks}
 use Rattle.source.specs.Source2.{of, vector, precision, ok-or, nowhere, scaleOf, joint, subject, mode-from-seed}
 use Rattle.source.specs.Claim2.{toldBy, told}

@@ -21,10 +21,10 @@ use Rattle.mode.specs.declared.population_focei.Search.{Search}
 use Rattle.mode.specs.declared.population_focei.Request.{Request}
 use Rattle.mode.specs.declared.population_focei.Request.the-variants.{Point, Refused}
 use Rattle.mode.specs.Rules as R
-use Rattle.histories.specs.Histories.{ledFrom}
-use Rattle.subjects.specs.Subjects.{sources1, sourcesAt, gridSources}
-use Rattle.histories.proofs.Screen.{side, true-of, next, stays, stays-under, Bad, stays-bad, keeps-first}
-use Rattle.histories.proofs.Screen as S
+use Rattle.mode_theorems.specs.Histories.{ledFrom}
+use Rattle.search.specs.Subjects.{sources1, sourcesAt, gridSources}
+use Rattle.mode_theorems.proofs.Screen.{side, true-of, next, stays, stays-under, Bad, stays-bad, keeps-first}
+use Rattle.mode_theorems.proofs.Screen as S
 use Rattle.source.specs.Run.{Run, done, ask, stop, _>>=_, _>>_, if_then_else_, err, Flow, turn, rounds, for, refused}
 use Rattle.source.specs.Run as Runs
 use Rattle.source.specs.Source.{Conditional, at, nowhere, Pair, windowsFrom, windows, filter, any, firstOf, mode}

@@ -6,7 +6,7 @@ use mathlib.Core.Logic.{_⊎_, inl, inr}
 use Prim.Native.Nat.{_+_}
 use lib.ListN.{length, length-append}
 use Rattle.float64.specs.Pick.{pick}
-use Rattle.histories.specs.Histories.{ledFrom}
+use Rattle.mode_theorems.specs.Histories.{ledFrom}
 use Rattle.source.specs.Run.{Run, done, ask, stop, _>>=_, play, Asked, AskedAt, Said, asks, found, refused, said}
 
 abbrev pub push : {A : Type 0} → List A → A → List A

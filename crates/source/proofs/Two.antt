@@ -20,8 +20,8 @@ use Rattle.mode_2d.specs.declared.population_focei_2d.Stage2.the-variants.{Star
 use Rattle.mode_2d.specs.declared.population_focei_2d.Search2.{Search2}
 use Rattle.mode_2d.specs.declared.population_focei_2d.Request2.the-variants.{Point, Mode, Refused}
 use Rattle.mode_2d.specs.Rules as R
-use Rattle.histories.specs.Histories.{ledFrom, Answered}
-use Rattle.histories.specs.History2.{after, FollowsFrom}
+use Rattle.mode_theorems.specs.Histories.{ledFrom, Answered}
+use Rattle.mode_theorems.specs.History2.{after, FollowsFrom}
 use Rattle.source.specs.Run.{Run, done, stop, _>>=_, _>>_, err, Flow, next, turn, each, asks, found}
 use Rattle.source.specs.Source2.{of, is-none-or, nowhere, unwrap, joint, subject, mode-from-seed, mode}
 use Rattle.source.specs.Claim2.{toldBy, told, TwoEffects}

@@ -15,10 +15,10 @@ use Rattle.mode.specs.declared.population_focei.Search.{Search}
 use Rattle.mode.specs.declared.population_focei.Request.{Request}
 use Rattle.mode.specs.declared.population_focei.Request.the-variants.{Point, Mode, Refused}
 use Rattle.mode.specs.Rules.{request, advance, start}
-use Rattle.histories.specs.Histories.{ledFrom}
-use Rattle.histories.specs.History.{after, Follows}
+use Rattle.mode_theorems.specs.Histories.{ledFrom}
+use Rattle.mode_theorems.specs.History.{after, Follows}
 use Rattle.work.specs.declared.Sources.{Sources}
-use Rattle.subjects.specs.Subjects.{sources1}
+use Rattle.search.specs.Subjects.{sources1}
 use Rattle.source.specs.Run.{Said, asks, found, refused, said, play, Asked, AskedAt}
 use Rattle.source.specs.Source.{Conditional, mode}
 

@@ -9,7 +9,7 @@ use Rattle.mode_2d.specs.declared.population_focei_2d.Conditional2.{Conditional
 use Rattle.mode_2d.specs.declared.population_focei_2d.Request2.{Request2}
 use Rattle.mode_2d.specs.declared.population_focei_2d.Request2.the-variants.{Point, Mode, Refused}
 use Rattle.mode_2d.specs.Rules.{request}
-use Rattle.histories.specs.History2.{after, Follows}
+use Rattle.mode_theorems.specs.History2.{after, Follows}
 use Rattle.source.specs.Run.{Said, asks, found, refused, said, play, Asked, AskedAt}
 use Rattle.source.specs.Source2.{mode, nowhere}
 

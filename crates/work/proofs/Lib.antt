@@ -1,2 +1,4 @@
 -- Paths: the ways through the code, for its proofs.
+-- Paths: the ways through the code, for its proofs.
 pub mod Paths
+pub mod ResultsPaths

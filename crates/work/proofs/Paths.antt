@@ -15,7 +15,8 @@ use Rattle.float64.specs.Arithmetic.{word}
 use Rattle.float64.specs.Pick.{yes, no, yesOf, noOf}
 use Rattle.cache.specs.Cache.{rowWords}
 use Rattle.work.specs.declared.Sources.{Sources}
-use Rattle.work.specs.Work.{mostRows, smaller, zeros, rowsLength, block, copyWords, copyBlock, moveRows, isSameRow, sameFrom, isSameGrid}
+use Rattle.words.specs.Words.{smaller, zeros}
+use Rattle.work.specs.Work.{mostRows, rowsLength, block, copyWords, copyBlock, moveRows, isSameRow, sameFrom, isSameGrid}
 
 -- ---- what is left of n turns after i
 pub none-left : (n i : ℕ) → n ≤ i → 0 ≡ n - i
@@ -23,24 +24,6 @@ none-left n i h = omega arith
 
 pub one-more : (n i : ℕ) → i < n → suc (n - (i + 1)) ≡ n - i
 one-more n i h = omega arith
-
--- ---- clearing: the words before word i are 0
-zeros-more : (i : ℕ) → zeros i ++ (0 ∷ []) ≡ zeros (suc i)
-unfolding zeros
-zeros-more zero = refl
-zeros-more (suc i) = ap (λ (l : List ℕ). 0 ∷ l) (zeros-more i)
-
-pub none-cleared : [] ≡ zeros 0
-unfolding zeros
-none-cleared = refl
-
-pub one-cleared : (w : List ℕ) (i : ℕ) → i < length w → take i w ≡ zeros i → take (i + 1) (set w i 0) ≡ zeros (i + 1)
-one-cleared w i h e = rw add-one (take-suc-set w i 0 h ∙ ap (λ (l : List ℕ). l ++ (0 ∷ [])) e ∙ zeros-more i)
-
-pub all-cleared : (w : List ℕ) (i m : ℕ) → length w ≡ m → i ≤ m → m ≤ i → take i w ≡ zeros i → w ≡ zeros m
-all-cleared w i m l h j e =
-    let z : i ≡ m = omega arith in
-    sym (take-all i w (let n : length w ≤ i = omega arith in n)) ∙ e ∙ ap zeros z
 
 -- ---- where a block begins
 pub block-fits : {n k : ℕ} → n ≤ 300000 → k ≤ 3 → n * k ≤ 900000

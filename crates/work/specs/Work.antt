@@ -11,19 +11,13 @@ use Rattle.float64.specs.Pick.{pick}
 use Rattle.matrix.specs.declared.Pair.{Pair}
 use Rattle.cache.specs.Cache.{rowWords}
 use Rattle.work.specs.declared.Sources.{Sources}
+use Rattle.words.specs.Words.{smaller}
 
 abbrev pub mostSubjects : ℕ
 mostSubjects = 4096
 
 abbrev pub mostRows : ℕ
 mostRows = 100000
-
-abbrev pub smaller : ℕ → ℕ → ℕ
-smaller a b = b - (b - a)
-
-unfoldable pub zeros : ℕ → List ℕ
-zeros zero = []
-zeros (suc n) = 0 ∷ zeros n
 
 -- ---- the blocks: 0 the rows at eta zero, 1 the best point's, 2 the latest's, 3 the trial's
 

@@ -1,14 +1,20 @@
+ghost use mathlib.Core.Path.{_≡_};
+ghost use Prim.Native.Nat.{_+_, _*_, _≤_, _<_};
+ghost use lib.ListN.{length};
+ghost use Rattle.words.specs.Words.{smaller, zeros};
+ghost use Rattle.work.specs.Work.{rowsLength, block, copyWords, copyBlock, moveRows, isSameRow, isSameGrid};
+
+pub mod results;
+
+use cache::ROW_WORDS;
+use words::smaller;
+
 // The work words of a search. Each function is defined for all words and numbers: beyond the end a word
 // reads as 0, and nothing is written there.
 //
 // The work words are four blocks of a subject's rows, three words a row (prediction, time, side): the rows
 // at eta zero (`population_rows` of the source), those of the best point, those of the latest grid point
 // (one effect) or of the rounds' current point (two), and those of the trial that was just evaluated.
-ghost use mathlib.Core.Path.{_≡_};
-ghost use Prim.Native.Nat.{_+_, _*_, _≤_, _<_};
-ghost use lib.ListN.{length};
-ghost use Rattle.work.specs.Work.{smaller, zeros, rowsLength, block, copyWords, copyBlock, moveRows, isSameRow, isSameGrid};
-use cache::ROW_WORDS;
 
 // Document 01's largest numbers of subjects, and of observations.
 pub const MOST_SUBJECTS: usize = 4096;
@@ -29,27 +35,6 @@ pub struct Sources {
     pub population: usize,
     pub best: usize,
     pub latest: usize,
-}
-
-fn smaller(a: usize, b: usize) -> usize
-    ensures { λ r. ⌜ r ≡ smaller a b ⌝ }
-{
-    if a < b {
-        return a;
-    }
-    b
-}
-
-// Every word becomes 0.
-pub fn clear(words: &mut [u64])
-    ensures { λ _. ⌜ now (words .exit) ≡ zeros (length (now (words .entry))) ⌝ }
-{
-    let n = words.len();
-    let mut i = 0;
-    while i < n {
-        words[i] = 0;
-        i += 1;
-    }
 }
 
 // ---- blocks
@@ -87,8 +72,8 @@ fn copy_each(work: &mut [u64], n: usize, from: usize, to: usize)
 {
     let mut i = 0;
     while i < n {
-        let word = cache::read(work, from + i);
-        cache::put(work, to + i, word);
+        let word = words::read(work, from + i);
+        words::put(work, to + i, word);
         i += 1;
     }
 }
@@ -136,10 +121,10 @@ fn is_same_row(work: &[u64], a: usize, b: usize) -> bool
     requires { ⌜ (a ≤ 900000) × (b ≤ 900000) ⌝ }
     ensures { λ r. ⌜ r ≡ isSameRow (now (work .entry)) a b ⌝ }
 {
-    let time = float64::from_word(cache::read(work, a + 1));
-    let other = float64::from_word(cache::read(work, b + 1));
+    let time = float64::from_word(words::read(work, a + 1));
+    let other = float64::from_word(words::read(work, b + 1));
     if time == other {
-        return cache::read(work, a + 2) == cache::read(work, b + 2);
+        return words::read(work, a + 2) == words::read(work, b + 2);
     }
     false
 }

@@ -5,7 +5,7 @@ use crate::cohort::{
     Cell, Measured, Model, ETA_BOUND, GRADIENT_TOLERANCE, MAX_EVALUATIONS, OMEGA, THETA,
 };
 use crate::stopwatch::Stopwatch;
-use curlewstand::evaluation::Observation;
+use curlewstand::session::Observation;
 use curlewstand::session::{push_row, Omega, Parameters, Session, Setup};
 use oracle::session::{Objective, Observed, SensitivitySample, Settings, Simulator};
 use oracle::{OneEffect, TwoEffects};

@@ -27,7 +27,7 @@ pub fn draw(random: &mut Random) -> Plan {
     }
 }
 
-/// One of the sessions that the program `sessions_replay` is given too, with up
+/// One of the sessions that the program `test_sessions` is given too, with up
 /// to four subjects, every kind of simulator and every fault. Where its limit
 /// of evaluations was not fitted to it there is none, and K may be any.
 fn small(random: &mut Random) -> Plan {

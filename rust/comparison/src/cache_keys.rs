@@ -3,7 +3,7 @@
 
 use crate::random::Random;
 use crate::rules_cache::{hash, high, low, mixed, part, sum, ADDED, FACTORS, HALF};
-use curlewstand::cache::CacheKey;
+use test_exports::cache::CacheKey;
 
 /// How a key is like an earlier one.
 #[derive(Clone, Copy, Debug, PartialEq, Eq)]

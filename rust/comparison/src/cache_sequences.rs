@@ -5,7 +5,7 @@ use crate::cache_keys::{pool, Like, Made};
 use crate::kept::{Evaluation, Kept};
 use crate::random::Random;
 use crate::rules_cache::{chain, has_bits, has_key, hash, head, low, may_have};
-use curlewstand::cache::{Cache, CacheKey, CachedTerms};
+use test_exports::cache::{Cache, CacheKey, CachedTerms};
 use std::fmt::Write;
 
 /// What both sides are given. Everything else follows from it.

@@ -5,9 +5,9 @@
 
 use crate::random::Random;
 use crate::simulators::sample;
-use curlewstand::cache::{Cache, CacheKey, CachedTerms};
-use curlewstand::mode::{eta_tolerance, Conditional, Request, Search};
-use curlewstand::mode_2d::{Conditional2, Request2, Search2, Settings2};
+use test_exports::cache::{Cache, CacheKey, CachedTerms};
+use test_exports::mode::{eta_tolerance, Conditional, Request, Search};
+use test_exports::mode_2d::{Conditional2, Request2, Search2, Settings2};
 use oracle::session::{Observed, Point, Predicted, Question, Refusal, Settings, Simulator};
 use oracle::{OneEffect, TwoEffects};
 use std::cell::RefCell;
@@ -190,7 +190,7 @@ impl Session for OneEffect {
         (theta, omega, additive): Self::Given,
         mut terms: impl FnMut(Self::At) -> Option<CachedTerms>,
     ) -> Option<[f64; 2]> {
-        let settings = curlewstand::mode::Settings {
+        let settings = test_exports::mode::Settings {
             eta_bound: ETA_BOUND,
             omega,
             tolerance: eta_tolerance(TOLERANCE),

@@ -4,8 +4,8 @@
 use crate::guarded::Guarded;
 use crate::random::Random;
 use crate::rules_cache::{self, ENTRY_NUMBERS, ROW_NUMBERS};
-use curlewstand::cache::{self, AT_FIRST, MOST_ROWS};
-use curlewstand::ffi::curlewstand_cache_find;
+use test_exports::cache::{self, AT_FIRST, MOST_ROWS};
+use test_exports::ffi::curlewstand_cache_find;
 
 /// What is lent to a call.
 #[derive(Clone, Debug)]
@@ -174,7 +174,7 @@ pub fn terms(lent: &Lent) -> Compared {
     let mut ours = [0x5eed; 7];
     let Lent { words, k, slot, .. } = lent;
     unsafe {
-        curlewstand::ffi::curlewstand_cache_terms(words.as_ptr(), words.len(), *k, *slot, &mut ours)
+        test_exports::ffi::curlewstand_cache_terms(words.as_ptr(), words.len(), *k, *slot, &mut ours)
     };
     let defined = rules_cache::terms(words, *k, *slot);
     if ours != defined {

@@ -3,7 +3,7 @@
 
 use crate::cache_sessions;
 use crate::evaluations::{Asked, Lent};
-use curlewstand::evaluation::{Observation, Refusal};
+use test_exports::evaluation::{Observation, Refusal};
 use oracle::session::{Observed, Point, SensitivitySample, Settings, Simulator};
 use oracle::{OneEffect, TwoEffects};
 

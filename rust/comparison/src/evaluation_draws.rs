@@ -6,9 +6,9 @@ use crate::plausible::{self, stray, subnormal};
 use crate::random::Random;
 use crate::rules_evaluation::Reply;
 use crate::simulators::divided;
-use curlewstand::cache::ROW_WORDS;
-use curlewstand::evaluation::{Observation, OUT_WORDS};
-use curlewstand::ffi::Question;
+use test_exports::cache::ROW_WORDS;
+use test_exports::evaluation::{Observation, OUT_WORDS};
+use test_exports::ffi::Question;
 
 pub type Draw = fn(&mut Random) -> Lent;
 

@@ -4,8 +4,8 @@ use crate::evaluation_draws::Draw;
 use crate::evaluations::{compare, Ask, Lent};
 use crate::random::Random;
 use crate::rules_evaluation::{self, are_finite, Evaluated};
-use curlewstand::cache::ROW_WORDS;
-use curlewstand::evaluation::{Observation, OUT_WORDS};
+use test_exports::cache::ROW_WORDS;
+use test_exports::evaluation::{Observation, OUT_WORDS};
 use std::collections::BTreeMap;
 use std::num::FpCategory;
 

@@ -4,9 +4,9 @@
 use crate::compare::{shown, simpler_than, simplest, word_of, Simpler};
 use crate::guarded::Guarded;
 use crate::rules_evaluation::{self, subject, Evaluated, Reply};
-use curlewstand::cache::{CachedTerms, ROW_WORDS};
-use curlewstand::evaluation::{self, Observation, Refusal, OUT_WORDS};
-use curlewstand::ffi::{curlewstand_evaluate, Question};
+use test_exports::cache::{CachedTerms, ROW_WORDS};
+use test_exports::evaluation::{self, Observation, Refusal, OUT_WORDS};
+use test_exports::ffi::{curlewstand_evaluate, Question};
 use std::fmt::Write;
 
 /// What is lent to a call.

@@ -4,9 +4,9 @@ use crate::compare::{word_of, Answer};
 use crate::floats::clamped;
 use crate::rules::{self, Search, NO_SEARCH};
 use crate::rules_2d::{self, Search2};
-use curlewstand::mode::{Conditional, Request, Settings};
-use curlewstand::mode_2d::{Conditional2, Request2, Settings2};
-use curlewstand::Refusal;
+use test_exports::mode::{Conditional, Request, Settings};
+use test_exports::mode_2d::{Conditional2, Request2, Settings2};
+use test_exports::Refusal;
 
 /// The answer's code where a matrix has no inverse.
 pub const NO_INVERSE: u32 = 1;
@@ -133,7 +133,7 @@ fn effects([theta, theta_2, eta, eta_2, effects]: [f64; 5]) -> Effects {
 pub mod ours {
     use super::*;
     use crate::compare::TOUCHED;
-    use curlewstand::ffi::*;
+    use test_exports::ffi::*;
 
     const FILLED: f64 = -1.2345e67;
 
@@ -142,36 +142,36 @@ pub mod ours {
     }
 
     pub fn word([x]: [f64; 1]) -> Answer {
-        let read = curlewstand::from_word(x.to_bits());
-        Answer::words(&[word_of(read), curlewstand::to_word(x)])
+        let read = test_exports::from_word(x.to_bits());
+        Answer::words(&[word_of(read), test_exports::to_word(x)])
     }
 
     pub fn is_finite([x]: [f64; 1]) -> Answer {
-        Answer::words(&[curlewstand::is_finite(x) as u64])
+        Answer::words(&[test_exports::is_finite(x) as u64])
     }
 
     pub fn abs([x]: [f64; 1]) -> Answer {
-        Answer::floats(&[curlewstand::abs(x)])
+        Answer::floats(&[test_exports::abs(x)])
     }
 
     pub fn max([a, b]: [f64; 2]) -> Answer {
-        larger(a, b, curlewstand::max(a, b))
+        larger(a, b, test_exports::max(a, b))
     }
 
     pub fn clamp([x, low, high]: [f64; 3]) -> Answer {
-        Answer::floats(&[curlewstand::clamp(x, low, high)])
+        Answer::floats(&[test_exports::clamp(x, low, high)])
     }
 
     pub fn log([x]: [f64; 1]) -> Answer {
-        Answer::floats(&[curlewstand::log(x)])
+        Answer::floats(&[test_exports::log(x)])
     }
 
     pub fn exp([x]: [f64; 1]) -> Answer {
-        Answer::floats(&[curlewstand::exp(x)])
+        Answer::floats(&[test_exports::exp(x)])
     }
 
     pub fn determinant([a, b, c, d]: [f64; 4]) -> Answer {
-        Answer::floats(&[curlewstand::determinant([[a, b], [c, d]])])
+        Answer::floats(&[test_exports::determinant([[a, b], [c, d]])])
     }
 
     pub fn inverse_positive([a, b, c, d]: [f64; 4]) -> Answer {
@@ -186,11 +186,11 @@ pub mod ours {
     }
 
     pub fn product([a, b, c, d, v, w]: [f64; 6]) -> Answer {
-        Answer::floats(&curlewstand::product([[a, b], [c, d]], [v, w]))
+        Answer::floats(&test_exports::product([[a, b], [c, d]], [v, w]))
     }
 
     pub fn dot([a, b, c, d]: [f64; 4]) -> Answer {
-        Answer::floats(&[curlewstand::dot([a, b], [c, d])])
+        Answer::floats(&[test_exports::dot([a, b], [c, d])])
     }
 
     pub fn row_terms([value, proportional, prediction, f_eta, additive]: [f64; 5]) -> Answer {
@@ -242,7 +242,7 @@ pub mod ours {
     }
 
     pub fn eta_tolerance([gradient_tolerance]: [f64; 1]) -> Answer {
-        Answer::floats(&[curlewstand::mode::eta_tolerance(gradient_tolerance)])
+        Answer::floats(&[test_exports::mode::eta_tolerance(gradient_tolerance)])
     }
 
     pub fn mode_request(input: [f64; 24]) -> Answer {

@@ -8,8 +8,8 @@ use crate::plausible::{stray, subnormal};
 use crate::random::Random;
 use crate::rules_cache::put;
 use crate::rules_evaluation::{is_sound, unsound};
-use curlewstand::evaluation::{self, Observation, Place};
-use curlewstand::ffi::curlewstand_check_observations;
+use test_exports::evaluation::{self, Observation, Place};
+use test_exports::ffi::curlewstand_check_observations;
 use std::collections::BTreeMap;
 
 /// What is lent to a call.

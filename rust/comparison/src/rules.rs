@@ -11,8 +11,8 @@
 
 use crate::compare::word_of;
 use crate::floats::clamped;
-use curlewstand::mode::{Conditional, Request, Settings};
-use curlewstand::Refusal;
+use test_exports::mode::{Conditional, Request, Settings};
+use test_exports::Refusal;
 
 pub const GRID: u64 = 0;
 pub const WARM: u64 = 1;

@@ -4,8 +4,8 @@
 
 use crate::compare::word_of;
 use crate::floats::{clamped, power};
-use curlewstand::mode_2d::{Conditional2, Request2, Settings2};
-use curlewstand::Refusal;
+use test_exports::mode_2d::{Conditional2, Request2, Settings2};
+use test_exports::Refusal;
 
 pub const ZERO: u64 = 0;
 pub const START: u64 = 1;

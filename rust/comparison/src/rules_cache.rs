@@ -2,7 +2,7 @@
 //! over words of any kind. A word beyond the end is read as 0 and not written.
 //! Numbers are wide enough that no sum runs over.
 
-use curlewstand::cache::{MOST_ROWS, ROW_WORDS};
+use test_exports::cache::{MOST_ROWS, ROW_WORDS};
 
 /// Where links, entries and rows begin, for each row of K, and the words of an
 /// entry.

@@ -4,8 +4,8 @@
 
 use crate::compare::word_of;
 use crate::rules_cache::{at, put};
-use curlewstand::evaluation::{Observation, Place, Refusal, REFUSED_AT};
-use curlewstand::ffi::Question;
+use test_exports::evaluation::{Observation, Place, Refusal, REFUSED_AT};
+use test_exports::ffi::Question;
 use oracle::libm;
 
 const LOG_2PI: f64 = 1.8378770664093453;

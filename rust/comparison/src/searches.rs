@@ -6,7 +6,7 @@ use crate::compare::word_of;
 use crate::floats::power;
 use crate::rules::{self, point_words};
 use crate::simulators::{Model, Surroundings};
-use curlewstand::mode::{eta_tolerance, Conditional, Request, Search, Settings};
+use test_exports::mode::{eta_tolerance, Conditional, Request, Search, Settings};
 use oracle::session::{Observed, Question, Simulator};
 use oracle::OneEffect;
 

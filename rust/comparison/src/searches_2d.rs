@@ -9,7 +9,7 @@ use crate::rules_2d::{
     ROUNDS, START, TRIAL,
 };
 use crate::simulators_2d::{Model2, Surroundings2};
-use curlewstand::mode_2d::{Conditional2, Request2, Search2, Settings2};
+use test_exports::mode_2d::{Conditional2, Request2, Search2, Settings2};
 use oracle::session::{Observed, Point, Question, Simulator};
 use oracle::TwoEffects;
 

@@ -40,7 +40,7 @@ pub fn printed_example(max_evaluations: u64) -> Plan {
     }
 }
 
-/// The session of crates/marked/specs/Session2.antt, with this eta_bound and
+/// The session of crates/test_marked/specs/Session2.antt, with this eta_bound and
 /// simulator.
 pub fn worked_example(eta_bound: f64, kind: Kind2, parameters: [f64; 3]) -> Plan {
     let model = Model2 {

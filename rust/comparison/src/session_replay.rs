@@ -1,4 +1,4 @@
-//! Sessions by the program `sessions_replay` beside those told by the original.
+//! Sessions by the program `test_sessions` beside those told by the original.
 
 use crate::compare::{simplest, Simpler};
 use crate::random::Random;

@@ -1,4 +1,4 @@
-//! The words of a session script, as the program `sessions_replay` reads them,
+//! The words of a session script, as the program `test_sessions` reads them,
 //! and what it is to answer. A script is a session after the other; a session
 //! is its length, what is lent at first, and the host's acts.
 

@@ -7,7 +7,7 @@ use comparison::cache_words::{self, over_seeds};
 use comparison::kept::{Evaluation, Kept};
 use comparison::random::Random;
 use comparison::rules_cache::ENTRY_NUMBERS;
-use curlewstand::cache::{self, AT_FIRST};
+use test_exports::cache::{self, AT_FIRST};
 use std::time::Instant;
 
 /// Sequences of so many steps for each of the K.

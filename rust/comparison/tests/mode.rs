@@ -35,7 +35,7 @@ fn advances_of_any_search() {
 #[test]
 fn start_writes_every_word() {
     let mut words = [!0; 20];
-    unsafe { curlewstand::ffi::curlewstand_mode_start(&mut words) };
+    unsafe { test_exports::ffi::curlewstand_mode_start(&mut words) };
     assert_eq!(words, [0; 20]);
 }
 

@@ -92,7 +92,7 @@ fn sample(seed: u64, count: u64, draw: fn(&mut Random) -> [f64; 1]) -> Vec<f64> 
 #[test]
 fn log_is_within_one_unit() {
     let precise = Precise::new();
-    let mut ours = Largest::of("log", curlewstand::log);
+    let mut ours = Largest::of("log", test_exports::log);
     let mut stand_in = Largest::of("log of the oracle", oracle::libm::log);
     let mut arguments = classes();
     arguments.extend(log_turns());
@@ -107,7 +107,7 @@ fn log_is_within_one_unit() {
             stand_in.take(x, exact);
         }
     }
-    assert_eq!(curlewstand::log(1.).to_bits(), 0);
+    assert_eq!(test_exports::log(1.).to_bits(), 0);
     assert_eq!(oracle::libm::log(1.).to_bits(), 0);
     ours.done();
     stand_in.done();
@@ -116,7 +116,7 @@ fn log_is_within_one_unit() {
 #[test]
 fn exp_is_within_one_unit() {
     let precise = Precise::new();
-    let mut ours = Largest::of("exp", curlewstand::exp);
+    let mut ours = Largest::of("exp", test_exports::exp);
     let mut stand_in = Largest::of("exp of the oracle", oracle::libm::exp);
     let mut arguments = classes();
     arguments.extend(exp_turns());
@@ -128,7 +128,7 @@ fn exp_is_within_one_unit() {
             stand_in.take(x, exact);
         }
     }
-    for exp in [curlewstand::exp, oracle::libm::exp] {
+    for exp in [test_exports::exp, oracle::libm::exp] {
         assert_eq!(exp(0.), 1.);
         assert_eq!(exp(-0.), 1.);
     }

@@ -1,4 +1,4 @@
-//! Whole sessions: the program `sessions_replay` beside the original, every
+//! Whole sessions: the program `test_sessions` beside the original, every
 //! answer of every call.
 #![cfg(source_at_hand)]
 
@@ -70,7 +70,7 @@ const SESSIONS: u64 = 104_000;
 #[test]
 fn sessions_beside_the_original() {
     let begun = Instant::now();
-    let program = program("sessions_replay");
+    let program = program("test_sessions");
     let half = SESSIONS / 2;
     let met = std::thread::scope(|scope| {
         let other = scope.spawn(|| over_seeds(&program, half..SESSIONS));

@@ -1,5 +1,5 @@
 //! The sessions with two effects that the checker has computed
-//! (crates/marked/specs/Session2.antt), through the compiled code, and beside
+//! (crates/test_marked/specs/Session2.antt), through the compiled code, and beside
 //! the original: the words are read from that file.
 
 use curlewstand::session::{push_row, Observation, Omega, Parameters, Session, Setup, Step};
@@ -8,7 +8,7 @@ use std::path::Path;
 /// The file's text, without its comments.
 fn worked() -> String {
     let here = Path::new(env!("CARGO_MANIFEST_DIR"));
-    let file = here.join("../../crates/marked/specs/Session2.antt");
+    let file = here.join("../../crates/test_marked/specs/Session2.antt");
     let text = std::fs::read_to_string(file).expect("the worked sessions can be read");
     let lines = text.lines().filter(|line| !line.trim().starts_with("--"));
     lines.collect::<Vec<_>>().join("\n")

@@ -233,7 +233,7 @@ impl Refusal {
 }
 
 /// The sentence of a number, for the refusals of every layer.
-pub(crate) fn sentence(number: u32) -> &'static str {
+pub fn sentence(number: u32) -> &'static str {
     Reason::of(number).map_or("an unknown refusal", Reason::sentence)
 }
 

@@ -58,7 +58,6 @@
 mod progress;
 mod rows;
 
-use crate::cache::{MOST_ROWS, WORDS_FOR_A_ROW};
 use crate::ffi;
 use crate::refusal::{Place, Reason, Refusal};
 use crate::{CEILING_ONE_EFFECT, CEILING_TWO_EFFECTS};
@@ -69,6 +68,10 @@ pub use crate::ffi::{Observation, Tally};
 pub use progress::Progress;
 pub use rows::{Shape, WrongRow, push_row};
 
+/// The most rows that can be kept.
+const MOST_ROWS: usize = 100_000;
+/// The words that are lent for each row of K.
+const WORDS_FOR_A_ROW: usize = 24;
 const STATE_WORDS: usize = 63;
 const ANSWER_WORDS: usize = 5;
 /// The state's word that has the objective's omega.

@@ -1,5 +1,5 @@
 -- `main` is proved: what it writes is within its buffer. Assumes nothing.
-use Rattle.writing.proofs.Front.{within}
+use Rattle.words.proofs.Front.{within}
 use lib.Seq.{length-take-le}
 use lib.ListN.{replicate}
 use mathlib.Core.Path.{sym}

@@ -54,18 +54,18 @@ use denote.Slice.{sliceTy}
 use Rattle.likelihood.specs.declared.population_focei.Observation.{Observation}
 use Rattle.likelihood.proofs.population_focei.Observation as O
 use Rattle.likelihood.proofs.population_focei.Observation.Laws as O′
-use Rattle.evaluation.specs.declared.Check.{Check}
-use Rattle.evaluation.proofs.Check as E
-use Rattle.evaluation.proofs.Check.Laws as E′
-use Rattle.evaluation.specs.Observations.{noObservation, checkObservation, checkObservations}
-use Rattle.evaluation.proofs.Turns.{one-checked}
+use Rattle.subject.specs.declared.Check.{Check}
+use Rattle.subject.proofs.Check as E
+use Rattle.subject.proofs.Check.Laws as E′
+use Rattle.subject.specs.Observations.{noObservation, checkObservation, checkObservations}
+use Rattle.subject.proofs.Turns.{one-checked}
 use Rattle.observations.proofs.Loop.{tests}
 use Rattle.observations.proofs.Runs.{one-more, len-part, at-part, take-all, fewer, starts, within, inside, at-end, below, fits-at, fits-next, shifts, from-first}
 use Rattle.observations.proofs.check_observations.Code.Mir as body
-use Rattle.observations.proofs.smaller as j
-use Rattle.observations.proofs.smaller.Symbol as j-def
-use Rattle.observations.proofs.smaller.Symbol.{name as #j}
-use Rattle.observations.proofs.smaller.Met as j-thm
+use Rattle.words.proofs.smaller as j
+use Rattle.words.proofs.smaller.Symbol as j-def
+use Rattle.words.proofs.smaller.Symbol.{name as #j}
+use Rattle.words.proofs.smaller.Met as j-thm
 use Rattle.observations.proofs.observation_at as g
 use Rattle.observations.proofs.observation_at.Symbol as g-def
 use Rattle.observations.proofs.observation_at.Symbol.{name as #g}
@@ -308,6 +308,6 @@ check-observations-spec 𝓤 H 𝓜 𝓖 𝓡 =
     entered 𝓤 H (tripleOf 𝓤 H (𝓖 .A) f.signature (f.spec 𝓤 H (𝓖 .A) (𝓜 .mem) (𝓡 .run)))
     (tables 𝓤 H 𝓜 𝓡 code.env .C) (tables 𝓤 H 𝓜 𝓡 code.env .Λ) #f code.function (code.unfolded 𝓤 H 𝓜 𝓡)
     (meets 𝓤 H (𝓖 .A) (givenOf 𝓤 H 𝓜 𝓖) (𝓜 .mem) (𝓡 .run) (tablesOf 𝓤 H 𝓜 (tables 𝓤 H 𝓜 𝓡 code.env))
-    (cited 𝓤 H (j-con 𝓤 H (𝓖 .A) (𝓜 .mem) (𝓡 .run)) 𝓜 𝓡 code.env #j j-def.routine code.calls-observations·smaller (j-thm.met 𝓤 H 𝓜 𝓖 𝓡))
+    (cited 𝓤 H (j-con 𝓤 H (𝓖 .A) (𝓜 .mem) (𝓡 .run)) 𝓜 𝓡 code.env #j j-def.routine code.calls-words·smaller (j-thm.met 𝓤 H 𝓜 𝓖 𝓡))
     (cited 𝓤 H (g-con 𝓤 H (𝓖 .A) (𝓜 .mem) (𝓡 .run)) 𝓜 𝓡 code.env #g g-def.routine code.calls-observations·observation-at (g-thm.met 𝓤 H 𝓜 𝓖 𝓡))
     (cited 𝓤 H (add-con 𝓤 H (𝓖 .A) (𝓜 .mem) (𝓡 .run)) 𝓜 𝓡 code.env #add add-def.routine code.calls-observations·check-observation (add-thm.met 𝓤 H 𝓜 𝓖 𝓡)))

@@ -3,7 +3,7 @@ use borrow.Author.Tests.{lt-ltb, le-ltb}
 use mathlib.Core.Path.{refl}
 use Rattle.float64.specs.Pick.{pass, yes, no, yesOf, noOf}
 use Rattle.float64.proofs.Laws.{free}
-use Rattle.evaluation.specs.Observations.{isSound}
+use Rattle.subject.specs.Observations.{isSound}
 use Rattle.observations.proofs.is_sound.Statement.{statement}
 use Rattle.observations.proofs.is_sound.Tie as tie
 

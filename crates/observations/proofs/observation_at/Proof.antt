@@ -36,7 +36,7 @@ use denote.Triple.Table.{entered}
 use denote.Steps.{owned, nothing}
 use denote.Triple.Walked.{says, needs, Stays, stay-none-slice, stay-none, walkOf, Walks, ends-at, walked, goes-none-slice, goes-none, walk-meets}
 use Rattle.likelihood.specs.declared.population_focei.Observation.{Observation}
-use Rattle.evaluation.specs.Observations.{observationAt, noObservation}
+use Rattle.subject.specs.Observations.{observationAt, noObservation}
 use Rattle.likelihood.proofs.population_focei.Observation as T
 use Rattle.likelihood.proofs.population_focei.Observation.Laws as T′
 use Rattle.observations.proofs.observation_at.Key.{name as #f}

@@ -10,7 +10,7 @@
 
 use comparison::kept::{Evaluation, Kept};
 use comparison::random::Random;
-use curlewstand::cache::{self, CacheKey, AT_FIRST, WORDS_FOR_A_ROW};
+use test_exports::cache::{self, CacheKey, AT_FIRST, WORDS_FOR_A_ROW};
 use std::hint::black_box;
 use std::time::{Duration, Instant};
 

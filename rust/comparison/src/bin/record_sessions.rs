@@ -5,7 +5,7 @@
 //!
 //! The answers are the original's. What document 01 leaves free, whether work
 //! and kept words are zero in the midst of an objective, is taken from the
-//! program `sessions_replay`, after all else was found to be the same.
+//! program `test_sessions`, after all else was found to be the same.
 
 use std::process::ExitCode;
 
@@ -122,7 +122,7 @@ mod recording {
             if script.max(self.answers.len() + more) > MOST_WORDS {
                 return;
             }
-            let answers = answered(&program("sessions_replay"), told);
+            let answers = answered(&program("test_sessions"), told);
             self.script.extend(&told.script);
             self.answers
                 .extend(answers.expect("the program answers as the original"));

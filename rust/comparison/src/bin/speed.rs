@@ -16,7 +16,7 @@ use comparison::random::Random;
 #[cfg(source_at_hand)]
 use comparison::simulators::sample;
 #[cfg(source_at_hand)]
-use curlewstand::{
+use test_exports::{
     mode::{eta_tolerance, Conditional, Request, Search, Settings},
     mode_2d::{Conditional2, Request2, Search2, Settings2},
 };
@@ -39,13 +39,13 @@ fn main() {
     beside(
         "log",
         each(&arguments, |[x]| oracle::libm::log(x)),
-        each(&arguments, |[x]| curlewstand::log(x)),
+        each(&arguments, |[x]| test_exports::log(x)),
     );
     let arguments = drawn(&mut random, |random| [random.uniform(-4., 4.)]);
     beside(
         "exp",
         each(&arguments, |[x]| oracle::libm::exp(x)),
-        each(&arguments, |[x]| curlewstand::exp(x)),
+        each(&arguments, |[x]| test_exports::exp(x)),
     );
     originals(&mut random);
 }
@@ -74,7 +74,7 @@ fn originals(random: &mut Random) {
         "row_terms",
         each(&rows, |[v, p, f, g, a]| oracle::row_terms(v, p, f, g, a)),
         each(&rows, |[v, p, f, g, a]| {
-            curlewstand::row_terms(v, p, f, g, a)
+            test_exports::row_terms(v, p, f, g, a)
         }),
     );
     let matrices = drawn(random, |random| {
@@ -88,7 +88,7 @@ fn originals(random: &mut Random) {
             oracle::inverse_positive([[a, b], [c, d]])
         }),
         each(&matrices, |[a, b, c, d]| {
-            curlewstand::inverse_positive([[a, b], [c, d]])
+            test_exports::inverse_positive([[a, b], [c, d]])
         }),
     );
     two_effects(random);
@@ -113,10 +113,10 @@ fn two_effects(random: &mut Random) {
         black_box(original.sums_at_one_row(black_box(&rows))).unwrap();
     });
     let ours = best(|| {
-        let mut sums = curlewstand::Sums::default();
+        let mut sums = test_exports::Sums::default();
         for row in black_box(&rows) {
             let f_eta = row.f_eta;
-            curlewstand::add_row(
+            test_exports::add_row(
                 row.value,
                 row.additive,
                 row.proportional,
@@ -167,7 +167,7 @@ fn search_2d() {
     const OMEGA: [[f64; 2]; 2] = [[0.5, 0.1], [0.1, 0.4]];
     let settings = Settings2 {
         eta_bound: 4.,
-        precision: curlewstand::inverse_positive(OMEGA).unwrap().0,
+        precision: test_exports::inverse_positive(OMEGA).unwrap().0,
         warm: [0.; 2],
     };
     let simulator = |question: &Question| {

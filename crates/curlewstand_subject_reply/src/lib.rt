@@ -1,0 +1,118 @@
+ghost use mathlib.Core.Path.{_≡_};
+ghost use Rattle.subject.specs.Observations.{checkObservations};
+ghost use Rattle.host_calls.specs.Hosting.{setupOf, out, doneWith};
+ghost use Rattle.host_calls.specs.SubjectReplies.{subjectChecked, subjectReplyOver};
+use host_calls::Done;
+use host_calls::SessionSetup;
+use likelihood::population_focei::Observation;
+use search::Tally;
+use subject::Check;
+
+// A reply for C and Rust that lends the observations of the awaited subject alone: what it takes does not
+// grow with the number of subjects. It is for a host that changes neither the counts nor any observation
+// from call to call: then it is the reply of `host` (see `claims`, SubjectReply), which checks all that
+// there are at every call. It is defined for every input, refuses what is not right of what is lent with
+// document 01's number and place, and its contract gives all that it answers and writes.
+
+// The check of the subject's observations, from where it begins.
+fn check_subject(
+    setup: SessionSetup,
+    observations: &[Observation],
+    counts: &[u64],
+    first: Check,
+) -> Check
+    ensures { λ r. ⌜ r ≡ checkObservations (setupOf setup .width) (now (counts .entry)) (now (observations .entry)) first ⌝ }
+{
+    let n = observations.len();
+    observations::check_observations(observations, 0, n, first, setup.width, counts)
+}
+
+// The reply, with the tally by value, where `check` is the observations'.
+fn reply_checked(
+    setup: SessionSetup,
+    tally: Tally,
+    check: Check,
+    observations: &[Observation],
+    counts: &[u64],
+    reply: &[u64],
+    state: &mut [u64],
+    answer: &mut [u64],
+    cache: &mut [u64],
+    work: &mut [u64],
+    warm: &mut [u64],
+    results: &mut [u64],
+) -> Done
+    requires { ⌜ check ≡ subjectChecked (setupOf setup) (now counts) (now observations) (now state) ⌝ }
+    ensures { λ r. ⌜ out r (now (state .exit)) (now (answer .exit)) (now (cache .exit)) (now (work .exit)) (now (warm .exit))
+        (now (results .exit))
+        ≡ subjectReplyOver (setupOf setup) (now (counts .entry)) (now (observations .entry)) tally (now (state .entry))
+        (now (answer .entry)) (now (cache .entry)) (now (work .entry)) (now (warm .entry)) (now (results .entry)) (now (reply .entry)) ⌝ }
+{
+    let n = observations.len();
+    let lent = session::lent_of(n, cache.len(), work.len(), warm.len(), results.len());
+    let admitted = host_calls::replies::admit_subject_reply(
+        setup,
+        tally,
+        check,
+        lent,
+        counts,
+        reply,
+        state,
+    );
+    let evaluation = observations::evaluate(observations, admitted, reply, work);
+    host_calls::replies::finish_reply(
+        setup,
+        tally,
+        admitted,
+        evaluation,
+        counts,
+        state,
+        answer,
+        cache,
+        work,
+        warm,
+        results,
+    )
+}
+
+// Takes the simulator's reply to the question that was asked, and runs on until it has a question or an
+// end. The observations are those of the subject that was asked for, the counts those of all subjects.
+#[no_mangle]
+pub extern "C" fn curlewstand_subject_reply(
+    setup: SessionSetup,
+    observations: &[Observation],
+    counts: &[u64],
+    reply: &[u64],
+    tally: &mut Tally,
+    state: &mut [u64],
+    answer: &mut [u64],
+    cache: &mut [u64],
+    work: &mut [u64],
+    warm: &mut [u64],
+    results: &mut [u64],
+) -> u32
+    ensures { λ r. ⌜ out (doneWith r (now (tally .exit))) (now (state .exit)) (now (answer .exit)) (now (cache .exit)) (now (work .exit))
+        (now (warm .exit)) (now (results .exit))
+        ≡ subjectReplyOver (setupOf setup) (now (counts .entry)) (now (observations .entry)) (now (tally .entry)) (now (state .entry))
+        (now (answer .entry)) (now (cache .entry)) (now (work .entry)) (now (warm .entry)) (now (results .entry)) (now (reply .entry)) ⌝ }
+{
+    let before = observations::tally_now(tally);
+    let first = host_calls::replies::subject_first(state);
+    let check = check_subject(setup, observations, counts, first);
+    let taken = reply_checked(
+        setup,
+        before,
+        check,
+        observations,
+        counts,
+        reply,
+        state,
+        answer,
+        cache,
+        work,
+        warm,
+        results,
+    );
+    observations::keep_tally(tally, taken.tally);
+    taken.number
+}

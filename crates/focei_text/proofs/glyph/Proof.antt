@@ -1,0 +1,27 @@
+-- `glyph` meets its contract. Assumes nothing.
+use Rattle.focei_text.proofs.Paths.{low-glyph, high-glyph}
+use borrow.Author.Needs.{needs}
+use Rattle.focei_text.proofs.glyph.Statement.{statement}
+use Rattle.focei_text.proofs.glyph.Tie as tie
+
+cast-result : tie.Need-cast-result
+cast-result c = search needs
+
+add-result : tie.Need-add-result
+add-result c = search needs
+
+returns : tie.Need-returns
+returns c = low-glyph _ (c .if1 .taken)
+
+cast-result-2 : tie.Need-cast-result-2
+cast-result-2 c = search needs
+
+add-result-2 : tie.Need-add-result-2
+add-result-2 c = search needs
+
+returns-2 : tie.Need-returns-2
+returns-2 c = high-glyph _ (c .if1 .left)
+
+pub glyph-spec : {M : Type 1} → statement M
+glyph-spec =
+    tie.close (tie.spec cast-result add-result returns cast-result-2 add-result-2 returns-2)

@@ -1,0 +1,131 @@
+// Setup, new objective and failure with the state and the answer as words (see `hosting`). The tally goes by
+// value here, and of the observations what was found of them. Each function is defined for all values and words. Words that
+// are no state get 19, and so does a setup that is lent fewer.
+ghost use mathlib.Core.Path.{_≡_};
+ghost use Rattle.host_calls.specs.Hosting.{setupOf, parametersOf, out, openWith, objectiveWith, failureWith};
+use super::Done;
+use super::SessionParameters;
+use super::SessionSetup;
+use search::Tally;
+use state_words::LoadedState;
+use subject::Check;
+
+// The words of a state.
+pub const STATE_WORDS: usize = 63;
+
+// Setup.
+pub fn open(
+    setup: SessionSetup,
+    tally: Tally,
+    check: Check,
+    observations: usize,
+    counts: &[u64],
+    state: &mut [u64],
+    answer: &mut [u64],
+    cache: &mut [u64],
+    work: &mut [u64],
+    warm: &mut [u64],
+    results: &[u64],
+) -> Done
+    ensures { λ r. ⌜ out r (now (state .exit)) (now (answer .exit)) (now (cache .exit)) (now (work .exit)) (now (warm .exit))
+        (now (results .entry))
+        ≡ openWith (setupOf setup) (now (counts .entry)) observations check tally (now (state .entry)) (now (answer .entry))
+        (now (cache .entry)) (now (work .entry)) (now (warm .entry)) (now (results .entry)) ⌝ }
+{
+    if state.len() < STATE_WORDS {
+        return super::no_state(tally, answer);
+    }
+    let own = super::setup_of(setup);
+    let set_up = session_calls::open(
+        own,
+        tally,
+        check,
+        observations,
+        counts,
+        cache,
+        work,
+        warm,
+        results,
+    );
+    super::opened(set_up, state, answer)
+}
+
+// A new objective.
+pub fn begin_objective(
+    setup: SessionSetup,
+    parameters: SessionParameters,
+    tally: Tally,
+    check: Check,
+    observations: usize,
+    counts: &[u64],
+    state: &mut [u64],
+    answer: &mut [u64],
+    cache: &[u64],
+    work: &mut [u64],
+    warm: &mut [u64],
+    results: &mut [u64],
+) -> Done
+    ensures { λ r. ⌜ out r (now (state .exit)) (now (answer .exit)) (now (cache .entry)) (now (work .exit)) (now (warm .exit))
+        (now (results .exit))
+        ≡ objectiveWith (setupOf setup) (now (counts .entry)) observations check tally (now (state .entry)) (now (answer .entry))
+        (now (cache .entry)) (now (work .entry)) (now (warm .entry)) (now (results .entry)) (parametersOf parameters) ⌝ }
+{
+    match state_words::load(state) {
+        LoadedState::Given(at) => {
+            let begun = session_calls::begin_objective(
+                super::setup_of(setup),
+                super::parameters_of(parameters),
+                at,
+                tally,
+                check,
+                observations,
+                counts,
+                cache,
+                work,
+                warm,
+                results,
+            );
+            super::told(begun, state, answer)
+        }
+        LoadedState::None => super::no_state(tally, answer),
+    }
+}
+
+// The simulator failed.
+pub fn fail(
+    setup: SessionSetup,
+    tally: Tally,
+    check: Check,
+    observations: usize,
+    counts: &[u64],
+    state: &mut [u64],
+    answer: &mut [u64],
+    cache: &[u64],
+    work: &mut [u64],
+    warm: &[u64],
+    results: &[u64],
+) -> Done
+    ensures { λ r. ⌜ out r (now (state .exit)) (now (answer .exit)) (now (cache .entry)) (now (work .exit)) (now (warm .entry))
+        (now (results .entry))
+        ≡ failureWith (setupOf setup) (now (counts .entry)) observations check tally (now (state .entry)) (now (answer .entry))
+        (now (cache .entry)) (now (work .entry)) (now (warm .entry)) (now (results .entry)) ⌝ }
+{
+    match state_words::load(state) {
+        LoadedState::Given(at) => {
+            let failed = session_calls::fail(
+                super::setup_of(setup),
+                at,
+                tally,
+                check,
+                observations,
+                counts,
+                cache,
+                work,
+                warm,
+                results,
+            );
+            super::told(failed, state, answer)
+        }
+        LoadedState::None => super::no_state(tally, answer),
+    }
+}

@@ -1,2 +1,0 @@
--- Paths: the ways through the exported functions.
-pub mod Paths

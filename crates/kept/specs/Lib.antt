@@ -1,2 +1,0 @@
--- What crosses to C, as words.
-pub mod Words

@@ -1,2 +1,0 @@
--- Paths: the ways through the code, for its proofs.
-pub mod Paths

@@ -1,3 +1,0 @@
--- Paths: the ways through the code, for its proofs. Lengths: how long the lines are, for every caller.
-pub mod Paths
-pub mod Lengths

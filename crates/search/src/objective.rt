@@ -1,0 +1,115 @@
+// What a subject's mode adds to the objective, with one effect or two, past check 16; and the objective
+// once all subjects are done, past check 18. By value, and defined for all values.
+ghost use mathlib.Core.Path.{_≡_};
+ghost use Rattle.search.specs.Subjects.{closed1, closed2, closedBy, finished, objectiveOf};
+use super::Closed;
+use super::Fit;
+use super::Halted;
+use super::Mode;
+use super::Place;
+use super::Progress;
+use super::Step;
+use super::Tally;
+use matrix::InversePositive;
+use matrix::Pair;
+use mode::population_focei::Conditional;
+use mode_2d::population_focei_2d::Conditional2;
+
+// ---- a mode
+
+// With one effect: the curvature at the mode, and its part of the objective.
+fn closed_1d(fit: Fit, best: Conditional, rows: u32) -> Closed
+    ensures { λ r. ⌜ r ≡ closed1 fit best rows ⌝ }
+{
+    let omega = fit.omega;
+    let curvature = 1.0 / omega + best.information;
+    if float64::is_nonfinite(curvature) {
+        return Closed::NotPositive;
+    }
+    if curvature <= 0.0 {
+        return Closed::NotPositive;
+    }
+    let term = 2.0 * best.nll - rows as f64 * likelihood::population_focei::LOG_2PI
+        + best.eta * best.eta / omega
+        + libm::log(omega * curvature);
+    Closed::Positive(Mode {
+        eta: Pair {
+            first: best.eta,
+            second: 0.0,
+        },
+        nll: best.nll,
+        term,
+    })
+}
+
+fn closed_2d(fit: Fit, best: Conditional2, rows: u32) -> Closed
+    ensures { λ r. ⌜ r ≡ closed2 fit best rows ⌝ }
+{
+    let mode = best.eta;
+    let curvature = [
+        [fit.p00 + best.i00, fit.p01 + best.i01],
+        [fit.p10 + best.i10, fit.p11 + best.i11],
+    ];
+    match matrix::inverse_positive(curvature) {
+        InversePositive::Exists(det_curvature) => {
+            let eta = [best.eta.first, best.eta.second];
+            let precision = [[fit.p00, fit.p01], [fit.p10, fit.p11]];
+            let term = 2.0 * best.nll - rows as f64 * likelihood::population_focei::LOG_2PI
+                + matrix::dot(eta, matrix::product(precision, eta))
+                + libm::log(fit.det_omega * det_curvature);
+            Closed::Positive(Mode {
+                eta: mode,
+                nll: best.nll,
+                term,
+            })
+        }
+        InversePositive::None => Closed::NotPositive,
+    }
+}
+
+pub fn closed_by(fit: Fit, progress: Progress, rows: u32) -> Closed
+    ensures { λ r. ⌜ r ≡ closedBy fit progress rows ⌝ }
+{
+    if fit.effects == 2 {
+        let search = progress.search_2d;
+        return closed_2d(fit, search.best, rows);
+    }
+    let search = progress.search;
+    closed_1d(fit, search.best, rows)
+}
+
+// ---- the objective
+
+// All subjects are done: 18, or the objective.
+pub fn objective_of(progress: Progress, tally: Tally, ofv: f64, eta_squares: f64) -> Halted
+    ensures { λ r. ⌜ r ≡ objectiveOf progress tally ofv «eta_squares» ⌝ }
+{
+    if float64::is_nonfinite(ofv) {
+        return super::refused(progress, tally, 18, Place::Nowhere);
+    }
+    Halted {
+        progress: finished(progress, ofv, eta_squares),
+        tally,
+        step: Step::Finished(ofv),
+    }
+}
+
+fn finished(progress: Progress, ofv: f64, eta_squares: f64) -> Progress
+    ensures { λ r. ⌜ r ≡ finished progress ofv «eta_squares» ⌝ }
+{
+    let individual = progress.individual;
+    let warm = progress.warm;
+    let search = progress.search;
+    let search_2d = progress.search_2d;
+    Progress {
+        awaits: false,
+        individual,
+        subject: progress.subject,
+        first: progress.first,
+        warm,
+        search,
+        search_2d,
+        ofv,
+        eta_squares,
+    }
+}

@@ -1,4 +1,0 @@
-// The one-effect search for C and Rust: a host keeps a search as words, asks what it wants next and hands
-// it the evaluated point. Each function is defined for every input, and its contract gives all that it
-// answers and writes. What is lent to be written must overlap nothing else that is lent to the same call.
-pub mod mode_search;

@@ -1,2 +1,0 @@
--- The ways through the exported functions of the two-effect search.
-pub mod Paths

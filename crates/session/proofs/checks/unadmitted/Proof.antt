@@ -1,0 +1,13 @@
+-- `unadmitted` meets its contract: nothing is let in. Assumes nothing.
+use Rattle.float64.proofs.Laws.{free}
+use mathlib.Core.Path.{ap, _∙_}
+use Rattle.session.specs.Calls.{nothingAdmitted, unadmitted}
+use Rattle.session.specs.declared.Awaited.{Awaited}
+use Rattle.session.proofs.checks.unadmitted.Statement.{statement}
+use Rattle.session.proofs.checks.unadmitted.Tie as tie
+
+returns : tie.Need-returns
+returns c = c .nothing-admitted .ensures ∙ ap (λ (w : Awaited). nothingAdmitted w (unadmitted .trial) 19) (c .before .unawaited .ensures)
+
+pub unadmitted-spec : {M : Type 1} → statement M
+unadmitted-spec = tie.close (tie.spec free free returns)

@@ -1,2 +1,0 @@
--- What a reader must believe: what load and save compute.
-pub mod SessionWords

@@ -1,2 +1,0 @@
--- Subject: the exits of `subject_checks`.
-mod Subject

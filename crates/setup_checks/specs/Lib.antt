@@ -1,2 +1,0 @@
--- What a reader must believe of this crate beside `admission`: SubjectChecks (checks 1 to 5 where one subject's observations are lent).
-pub mod SubjectChecks

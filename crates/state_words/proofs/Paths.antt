@@ -1,0 +1,155 @@
+-- The ways through the code: one law for each, over plain variables. Assumes nothing.
+use mathlib.Core.Path.{_≡_, refl, sym, ap, _∙_}
+use mathlib.Core.Bool.{Bool}
+use mathlib.Core.List.{List, [], _∷_, _++_}
+use Prim.Native.Nat.{ℕ, zero, suc, _+_, _≤_, _<_}
+use native.Mathlib.Nat.{not-suc-le-zero, le-of-suc-le-suc, add-zero}
+use native.Mathlib.Omega.{arith}
+use lib.ListN.{getD, set, length, drop, drop-of-length-le}
+use Rattle.float64.specs.Answer.{Answer, given, refused}
+use Rattle.mode.specs.declared.population_focei.Search.{Search}
+use Rattle.mode_2d.specs.declared.population_focei_2d.Search2.{Search2}
+use Rattle.state_words.specs.SearchWords as one
+use Rattle.state_words.specs.declared.one_effect.Loaded.{Loaded}
+use Rattle.state_words.specs.declared.one_effect.Loaded.the-variants as Loads
+use Rattle.state_words.specs.SearchWords2 as two
+use Rattle.state_words.specs.declared.two_effects.Loaded2.{Loaded2}
+use Rattle.state_words.specs.declared.two_effects.Loaded2.the-variants as Loads2
+use Rattle.cache.specs.Kept.{wordsFrom}
+use Rattle.cache.specs.declared.CacheOrder.{CacheOrder}
+use Rattle.subject.specs.declared.AdditiveSd.{AdditiveSd}
+use Rattle.subject.specs.declared.AdditiveSd.the-variants.{Own, Override}
+use Rattle.setup.specs.declared.Parameters.{Parameters}
+use Rattle.search.specs.Subjects.{hasAdditive, additiveWord}
+use Rattle.search.specs.declared.Progress.{Progress}
+use Rattle.session.specs.declared.State.{State}
+use Rattle.state_words.specs.declared.LoadedState.{LoadedState}
+use Rattle.state_words.specs.declared.LoadedState.the-variants.{Given, None}
+use Rattle.state_words.specs.SessionWords.{bits, flag, stateAt, withBoth, withSearch, withSearches, answer, objectiveWords, progressWords, orderWords, stateWords, putFrom, savedState}
+
+-- ---- load: what the words of a search came to
+module _ (words : List ℕ) (search : Search) {r : Loaded2} {ws : List ℕ} (e : ws ≡ wordsFrom 25 words 38) (a : two.answer r ≡ two.loaded ws) where
+  pub both-given : (search2 : Search2) {s : State} → r ≡ Loads2.Given search2 → s ≡ stateAt words search search2 → answer (Given s) ≡ withSearch words search
+  unfolding answer withSearch withBoth two.answer
+  both-given search2 q p =
+      let g : given search2 ≡ two.loaded (wordsFrom 25 words 38) = ap two.answer (sym q) ∙ a ∙ ap two.loaded e in
+      ap {B = Answer State} (λ (x : State). given x) p ∙ ap (λ (x : Answer Search2). withBoth words search x) g
+
+  pub both-none : r ≡ Loads2.None → answer None ≡ withSearch words search
+  unfolding answer withSearch withBoth two.answer
+  both-none q =
+      let g : refused 19 ≡ two.loaded (wordsFrom 25 words 38) = ap two.answer (sym q) ∙ a ∙ ap two.loaded e in
+      ap (λ (x : Answer Search2). withBoth words search x) g
+
+module _ (words : List ℕ) {r : Loaded} {ws : List ℕ} (e : ws ≡ wordsFrom 20 words 18) (a : one.answer r ≡ one.loaded ws) where
+  pub one-given : (search : Search) {z : Answer State} → r ≡ Loads.Given search → z ≡ withSearch words search → z ≡ withSearches words (one.loaded (wordsFrom 20 words 18))
+  unfolding withSearches one.answer
+  one-given search q p =
+      let g : given search ≡ one.loaded (wordsFrom 20 words 18) = ap one.answer (sym q) ∙ a ∙ ap one.loaded e in
+      p ∙ ap (λ (x : Answer Search). withSearches words x) g
+
+  pub one-none : r ≡ Loads.None → answer None ≡ withSearches words (one.loaded (wordsFrom 20 words 18))
+  unfolding answer withSearches one.answer
+  one-none q =
+      let g : refused 19 ≡ one.loaded (wordsFrom 20 words 18) = ap one.answer (sym q) ∙ a ∙ ap one.loaded e in
+      ap (λ (x : Answer Search). withSearches words x) g
+
+-- ---- the words before the progress's own, with no override and with one
+module _ (awaits : Bool) (p : Parameters) {f t u o : ℕ} (ef : f ≡ flag awaits) (et : t ≡ bits (p .theta .first)) (eu : u ≡ bits (p .theta .second)) (eo : o ≡ bits (p .omega)) where
+  pub objective-own : p .«additive_sd» ≡ Own → f ∷ t ∷ u ∷ o ∷ 0 ∷ 0 ∷ [] ≡ objectiveWords awaits p
+  unfolding objectiveWords
+  objective-own q = let q' = sym q in λ d. ef d ∷ et d ∷ eu d ∷ eo d ∷ hasAdditive (q' d) ∷ additiveWord (q' d) ∷ []
+
+  pub objective-override : {sd : _} {w : ℕ} → p .«additive_sd» ≡ Override sd → w ≡ bits sd → f ∷ t ∷ u ∷ o ∷ 1 ∷ w ∷ [] ≡ objectiveWords awaits p
+  unfolding objectiveWords
+  objective-override q ew =
+      let q' = sym q in
+      ap (λ (x : ℕ). f ∷ t ∷ u ∷ o ∷ 1 ∷ x ∷ []) ew ∙ (λ d. ef d ∷ et d ∷ eu d ∷ eo d ∷ hasAdditive (q' d) ∷ additiveWord (q' d) ∷ [])
+
+-- ---- the loop of put_from
+drop-step : (l : List ℕ) (i : ℕ) → i < length l → drop i l ≡ getD l i 0 ∷ drop (suc i) l
+drop-step [] i h = absurd (not-suc-le-zero h)
+drop-step (x ∷ l) zero h = refl
+drop-step (x ∷ l) (suc i) h = drop-step l i (le-of-suc-le-suc h)
+
+module _ (from : ℕ) (values words : List ℕ) (i : ℕ) where
+  pub put-end : length values ≤ i → words ≡ putFrom (from + i) (drop i values) words
+  unfolding putFrom
+  put-end h = ap (λ (l : List ℕ). putFrom (from + i) l words) (sym (drop-of-length-le values h))
+
+  pub put-step : {words' : List ℕ} → i < length values → words' ≡ set words (from + i) (getD values i 0) → putFrom (from + (i + 1)) (drop (i + 1) values) words' ≡ putFrom (from + i) (drop i values) words
+  unfolding putFrom
+  put-step h r =
+      let p : from + (i + 1) ≡ from + i + 1 = omega arith in
+      let q : i + 1 ≡ suc i = omega arith in
+      (λ d. putFrom (p d) (drop (q d) values) (r d)) ∙ ap (λ (l : List ℕ). putFrom (from + i) l words) (sym (drop-step values i h))
+
+-- ---- save: the parts one after another are the whole
+put-append : (i : ℕ) (a b w : List ℕ) → putFrom i (a ++ b) w ≡ putFrom (i + length a) b (putFrom i a w)
+unfolding putFrom
+put-append i [] b w = ap (λ (n : ℕ). putFrom n b w) (sym (add-zero i))
+put-append i (x ∷ a) b w =
+    let e : i + 1 + length a ≡ i + suc (length a) = omega arith in
+    put-append (i + 1) a b (set w i x) ∙ ap (λ (n : ℕ). putFrom n b (putFrom (i + 1) a (set w i x))) e
+
+then : (n : ℕ) (a b w : List ℕ) → length a ≡ n → putFrom 0 (a ++ b) w ≡ putFrom n b (putFrom 0 a w)
+then n a b w e = let z : 0 + length a ≡ n = omega (arith, e) in put-append 0 a b w ∙ ap (λ (m : ℕ). putFrom m b (putFrom 0 a w)) z
+
+-- the words up to each part, as many as stand before it
+module _ (s : State) where
+  abbrev upTo6 : List ℕ
+  upTo6 = objectiveWords (s .progress .awaits) (s .parameters)
+
+  abbrev upTo14 : List ℕ
+  upTo14 = upTo6 ++ progressWords (s .progress)
+
+  abbrev upTo18 : List ℕ
+  upTo18 = upTo14 ++ orderWords (s .order)
+
+  abbrev upTo38 : List ℕ
+  upTo38 = upTo18 ++ one.saved (s .progress .search)
+
+  six : length upTo6 ≡ 6
+  unfolding objectiveWords
+  six = refl
+
+  fourteen : length upTo14 ≡ 14
+  unfolding objectiveWords progressWords
+  fourteen = refl
+
+  eighteen : length upTo18 ≡ 18
+  unfolding objectiveWords progressWords orderWords
+  eighteen = refl
+
+  thirty-eight : length upTo38 ≡ 38
+  unfolding objectiveWords progressWords orderWords one.saved one.wordsOf
+  thirty-eight = refl
+
+  whole :
+      (w : List ℕ) → savedState s w
+      ≡ putFrom 38 (two.saved (s .progress .«search_2d»))
+      (putFrom 18 (one.saved (s .progress .search))
+      (putFrom 14 (orderWords (s .order))
+      (putFrom 6 (progressWords (s .progress))
+      (putFrom 0 upTo6 w))))
+  unfolding savedState stateWords
+  whole w =
+      then 38 upTo38 (two.saved (s .progress .«search_2d»)) w thirty-eight
+      ∙ ap (λ (l : List ℕ). putFrom 38 (two.saved (s .progress .«search_2d»)) l)
+      (then 18 upTo18 (one.saved (s .progress .search)) w eighteen
+      ∙ ap (λ (l : List ℕ). putFrom 18 (one.saved (s .progress .search)) l)
+      (then 14 upTo14 (orderWords (s .order)) w fourteen
+      ∙ ap (λ (l : List ℕ). putFrom 14 (orderWords (s .order)) l) (then 6 upTo6 (progressWords (s .progress)) w six)))
+
+pub saved-all :
+    (s : State) (w : List ℕ) {o p r x y w1 w2 w3 w4 w5 : List ℕ} →
+    o ≡ objectiveWords (s .progress .awaits) (s .parameters) → p ≡ progressWords (s .progress) → r ≡ orderWords (s .order) →
+    x ≡ one.saved (s .progress .search) → y ≡ two.saved (s .progress .«search_2d») →
+    w1 ≡ putFrom 0 o w → w2 ≡ putFrom 6 p w1 → w3 ≡ putFrom 14 r w2 → w4 ≡ putFrom 18 x w3 → w5 ≡ putFrom 38 y w4 →
+    w5 ≡ savedState s w
+saved-all s w eo ep er ex ey e1 e2 e3 e4 e5 =
+    let f1 = e1 ∙ (λ d. putFrom 0 (eo d) w) in
+    let f2 = e2 ∙ (λ d. putFrom 6 (ep d) (f1 d)) in
+    let f3 = e3 ∙ (λ d. putFrom 14 (er d) (f2 d)) in
+    let f4 = e4 ∙ (λ d. putFrom 18 (ex d) (f3 d)) in
+    e5 ∙ (λ d. putFrom 38 (ey d) (f4 d)) ∙ sym (whole s w)

@@ -1,0 +1,164 @@
+// A search with two effects as twenty-five words, for a host that keeps it: its stage (0 zero, 1 start,
+// 2 trial, 3 found, and of a search that was refused 4 more than the number), seed, round, reduction,
+// current, trial, decrease and best. A float is its word, and a point the words of its eta, nll, score and
+// information.
+ghost use mathlib.Core.Path.{_≡_};
+ghost use Prim.Native.Nat.{_<_};
+ghost use Rattle.state_words.specs.SearchWords2.{pairAt, conditionalAt, wordsOf, stageOf, stageWord, loaded, saved, answer};
+use matrix::Pair;
+use mode_2d::population_focei_2d::Conditional2;
+use mode_2d::population_focei_2d::Search2;
+use mode_2d::population_focei_2d::Stage2;
+
+// The search of some words, or none.
+pub enum Loaded2 {
+    Given(Search2),
+    None,
+}
+
+fn stage_of(word: u64) -> Stage2
+    requires { ⌜ word < 4294967300 ⌝ }
+    ensures { λ r. ⌜ r ≡ stageOf word ⌝ }
+{
+    if word == 0 {
+        return Stage2::Zero;
+    }
+    if word == 1 {
+        return Stage2::Start;
+    }
+    if word == 2 {
+        return Stage2::Trial;
+    }
+    if word == 3 {
+        return Stage2::Found;
+    }
+    Stage2::Halted((word - 4) as u32)
+}
+
+fn stage_word(stage: Stage2) -> u64
+    ensures { λ r. ⌜ r ≡ stageWord stage ⌝ }
+{
+    match stage {
+        Stage2::Zero => 0,
+        Stage2::Start => 1,
+        Stage2::Trial => 2,
+        Stage2::Found => 3,
+        Stage2::Halted(number) => 4 + number as u64,
+    }
+}
+
+// The pair of the two words from i on.
+fn pair_at(words: [u64; 25], i: usize) -> Pair
+    requires { ⌜ i < 24 ⌝ }
+    ensures { λ r. ⌜ r ≡ pairAt words i ⌝ }
+{
+    Pair {
+        first: float64::from_word(words[i]),
+        second: float64::from_word(words[i + 1]),
+    }
+}
+
+// The point of the nine words from i on.
+fn conditional_at(words: [u64; 25], i: usize) -> Conditional2
+    requires { ⌜ i < 17 ⌝ }
+    ensures { λ r. ⌜ r ≡ conditionalAt words i ⌝ }
+{
+    let eta = pair_at(words, i);
+    let score = pair_at(words, i + 3);
+    Conditional2 {
+        eta,
+        nll: float64::from_word(words[i + 2]),
+        score,
+        i00: float64::from_word(words[i + 5]),
+        i01: float64::from_word(words[i + 6]),
+        i10: float64::from_word(words[i + 7]),
+        i11: float64::from_word(words[i + 8]),
+    }
+}
+
+fn words_of(c: Conditional2) -> [u64; 9]
+    ensures { λ r. ⌜ r ≡ wordsOf c ⌝ }
+{
+    [
+        float64::to_word(c.eta.first),
+        float64::to_word(c.eta.second),
+        float64::to_word(c.nll),
+        float64::to_word(c.score.first),
+        float64::to_word(c.score.second),
+        float64::to_word(c.i00),
+        float64::to_word(c.i01),
+        float64::to_word(c.i10),
+        float64::to_word(c.i11),
+    ]
+}
+
+// Words are no search where the refusal's number, the seed, the round or the reduction is above a u32.
+pub fn load(words: [u64; 25]) -> Loaded2
+    ensures { λ r. ⌜ answer r ≡ loaded words ⌝ }
+{
+    if words[0] > 4294967299 {
+        return Loaded2::None;
+    }
+    if words[1] > 4294967295 {
+        return Loaded2::None;
+    }
+    if words[2] > 4294967295 {
+        return Loaded2::None;
+    }
+    if words[3] > 4294967295 {
+        return Loaded2::None;
+    }
+    let stage = stage_of(words[0]);
+    let current = conditional_at(words, 4);
+    let trial = pair_at(words, 13);
+    let best = conditional_at(words, 16);
+    Loaded2::Given(Search2 {
+        stage,
+        seed: words[1] as u32,
+        round: words[2] as u32,
+        reduction: words[3] as u32,
+        current,
+        trial,
+        decrease: float64::from_word(words[15]),
+        best,
+    })
+}
+
+pub fn save(x: Search2) -> [u64; 25]
+    ensures { λ r. ⌜ r ≡ saved x ⌝ }
+{
+    let at = x.stage;
+    let stage = stage_word(at);
+    let current = words_of(x.current);
+    let first = float64::to_word(x.trial.first);
+    let second = float64::to_word(x.trial.second);
+    let decrease = float64::to_word(x.decrease);
+    let best = words_of(x.best);
+    [
+        stage,
+        x.seed as u64,
+        x.round as u64,
+        x.reduction as u64,
+        current[0],
+        current[1],
+        current[2],
+        current[3],
+        current[4],
+        current[5],
+        current[6],
+        current[7],
+        current[8],
+        first,
+        second,
+        decrease,
+        best[0],
+        best[1],
+        best[2],
+        best[3],
+        best[4],
+        best[5],
+        best[6],
+        best[7],
+        best[8],
+    ]
+}

@@ -1,0 +1,106 @@
+// The one-effect search for C, as twenty words (search_words).
+ghost use mathlib.Core.Path.{_≡_};
+ghost use Rattle.float64.specs.Answer.{numberOf, orOld};
+ghost use Rattle.mode.specs.Rules.{etaTolerance, start};
+ghost use Rattle.state_words.specs.SearchWords.{pointOf, saved};
+ghost use Rattle.test_exports.specs.Mode.{settingsOf, requested, advanced, requestNumber, pointOr};
+use mode::population_focei::Conditional;
+use mode::population_focei::Request;
+use mode::population_focei::Search;
+use mode::population_focei::Settings;
+use state_words::one_effect::Loaded;
+
+// The tolerance of a search's modes, in eta.
+#[no_mangle]
+pub extern "C" fn curlewstand_eta_tolerance(gradient_tolerance: f64) -> f64
+    ensures { λ r. ⌜ r ≡ etaTolerance «gradient_tolerance» ⌝ }
+{
+    mode::population_focei::eta_tolerance(gradient_tolerance)
+}
+
+// Writes the words of a search that has asked nothing.
+#[no_mangle]
+pub extern "C" fn curlewstand_mode_start(search: &mut [u64; 20])
+    ensures { λ _. ⌜ now (search .exit) ≡ saved start ⌝ }
+{
+    let words = state_words::one_effect::save(Search::start());
+    *search = words;
+}
+
+// What the search asks next: 0, with the point written; 1 for a mode, the search's best point; document
+// 01's number for a no, 13, 14 or 15; or 19 where the words are no search. Else nothing is written.
+#[no_mangle]
+pub extern "C" fn curlewstand_mode_request(
+    eta_bound: f64,
+    omega: f64,
+    tolerance: f64,
+    warm: f64,
+    search: &[u64; 20],
+    point: &mut f64,
+) -> u32
+    ensures { λ r. ⌜ r ≡ requestNumber (requested (settingsOf «eta_bound» omega tolerance warm) (now (search .entry))) ⌝ }
+    ensures { λ _. ⌜ now (point .exit)
+        ≡ pointOr (now (point .entry)) (requested (settingsOf «eta_bound» omega tolerance warm) (now (search .entry))) ⌝ }
+{
+    let settings = Settings {
+        eta_bound,
+        omega,
+        tolerance,
+        warm,
+    };
+    let words = *search;
+    match state_words::one_effect::load(words) {
+        Loaded::Given(x) => match x.request(settings) {
+            Request::Point(p) => {
+                *point = p;
+                0
+            }
+            Request::Mode => 1,
+            Request::Refused(number) => number,
+        },
+        Loaded::None => 19,
+    }
+}
+
+// Writes the words of the search with one more evaluated point, and answers 0; or answers 19 where the
+// words are no search, and nothing is written.
+#[no_mangle]
+pub extern "C" fn curlewstand_mode_advance(
+    eta_bound: f64,
+    omega: f64,
+    tolerance: f64,
+    warm: f64,
+    search: &mut [u64; 20],
+    eta: f64,
+    nll: f64,
+    score: f64,
+    information: f64,
+) -> u32
+    ensures { λ r. ⌜ r ≡ numberOf
+        (advanced (settingsOf «eta_bound» omega tolerance warm) (now (search .entry)) (pointOf eta nll score information)) ⌝ }
+    ensures { λ _. ⌜ now (search .exit)
+        ≡ orOld (now (search .entry))
+        (advanced (settingsOf «eta_bound» omega tolerance warm) (now (search .entry)) (pointOf eta nll score information)) ⌝ }
+{
+    let settings = Settings {
+        eta_bound,
+        omega,
+        tolerance,
+        warm,
+    };
+    let c = Conditional {
+        eta,
+        nll,
+        score,
+        information,
+    };
+    let words = *search;
+    match state_words::one_effect::load(words) {
+        Loaded::Given(x) => {
+            let next = state_words::one_effect::save(x.advance(settings, c));
+            *search = next;
+            0
+        }
+        Loaded::None => 19,
+    }
+}

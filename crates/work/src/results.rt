@@ -1,0 +1,57 @@
+// The words of the results: three for each subject, then two for each observation. Each function is defined
+// for all words and numbers, and writes nothing beyond the end.
+ghost use mathlib.Core.Path.{_≡_};
+ghost use Rattle.words.specs.Words.{smaller};
+ghost use Rattle.work.specs.Work.{resultWritten, fittedAt, fittedWritten};
+use super::BEST;
+use super::MOST_ROWS;
+use super::MOST_SUBJECTS;
+use super::POPULATION;
+use super::block;
+use cache::ROW_WORDS;
+use matrix::Pair;
+use words::smaller;
+
+// Eta, second eta and negative log likelihood of a subject.
+pub fn write_result(results: &mut [u64], subject: usize, eta: Pair, nll: f64)
+    ensures { λ _. ⌜ now (results .exit) ≡ resultWritten subject eta nll (now (results .entry)) ⌝ }
+{
+    if results.len() <= subject {
+        return;
+    }
+    let at = 3 * subject;
+    words::put(results, at, float64::to_word(eta.first));
+    words::put(results, at + 1, float64::to_word(eta.second));
+    words::put(results, at + 2, float64::to_word(nll));
+}
+
+// Where the fitted rows begin, of the subject whose first observation has this number among all.
+fn fitted_at(subjects: usize, first: usize) -> usize
+    ensures { λ r. ⌜ r ≡ fittedAt subjects first ⌝ }
+{
+    3 * smaller(subjects, MOST_SUBJECTS) + 2 * smaller(first, MOST_ROWS)
+}
+
+// The predictions at eta zero and at the mode.
+pub fn write_fitted(results: &mut [u64], subjects: usize, first: usize, work: &[u64], rows: usize)
+    ensures { λ _. ⌜ now (results .exit) ≡ fittedWritten subjects first (now (work .entry)) rows (now (results .entry)) ⌝ }
+{
+    let n = smaller(rows, MOST_ROWS);
+    let at = fitted_at(subjects, first);
+    let population = block(rows, POPULATION);
+    let best = block(rows, BEST);
+    let mut i = 0;
+    while i < n {
+        words::put(
+            results,
+            at + 2 * i,
+            words::read(work, population + ROW_WORDS * i),
+        );
+        words::put(
+            results,
+            at + 2 * i + 1,
+            words::read(work, best + ROW_WORDS * i),
+        );
+        i += 1;
+    }
+}
