@@ -1,4 +1,4 @@
--- What the functions of this crate, of kept_entries and of keeping compute, over the list of the lent words.
+-- What the functions of this crate compute, over the list of the lent words.
 use mathlib.Core.Bool.{Bool, false}
 use mathlib.Core.List.{List, [], _∷_}
 use Prim.Native.Nat.{ℕ, zero, suc, _+_, _-_, _*_, _%_, _/_, _^_}
@@ -21,6 +21,10 @@ entriesFrom = 2
 
 abbrev pub rowsFrom : ℕ
 rowsFrom = 18
+
+-- the words that are lent for each row of the room
+abbrev pub keptWords : ℕ
+keptWords = 24
 
 -- 2^32
 abbrev pub half : ℕ

@@ -8,7 +8,7 @@ use Prim.Native.Nat.{ℕ, _+_, _-_, _*_, _≤_, _<_}
 use lib.ListN.{getD, length}
 use Rattle.cache.specs.declared.CacheKey.{CacheKey}
 use Rattle.cache.specs.declared.CacheOrder.{CacheOrder}
-use Rattle.cache.specs.Cache.{half, rowWords, order, Cache, find, termsOf, copied, insert, after}
+use Rattle.cache.specs.Cache.{half, rowWords, keptWords, order, Cache, find, termsOf, copied, insert, after}
 use Rattle.cache.specs.Kept.{Entry, lookup, cachedRows, dropTo, Evaluated, Lent, AllLent, entryFor, keptAfter, cacheAfter, foundEntry, entryOf, Stands, Once}
 
 -- x kept by insert
@@ -22,7 +22,7 @@ pub record Room (k : ℕ) : Type 0 where
 
 pub record Refinement : Type 0 where
   -- cleared words stand for the empty list
-  pub cleared : (w : List ℕ) (k : ℕ) → Room k → 24 * k ≤ length w → ((i : ℕ) → i < k → getD w i 0 ≡ 0) → Stands w k (order 1 1 0 0) []
+  pub cleared : (w : List ℕ) (k : ℕ) → Room k → keptWords * k ≤ length w → ((i : ℕ) → i < k → getD w i 0 ≡ 0) → Stands w k (order 1 1 0 0) []
   -- find is the lookup in the list, with the entry's own terms and rows
   pub finds : (w : List ℕ) (k : ℕ) (r : CacheOrder) (l : List Entry) → Stands w k r l → (key : CacheKey)
       → foundEntry w k (find w k r key) ≡ lookup key l
@@ -45,9 +45,9 @@ pub record Refinement : Type 0 where
       → Stands (cacheAfter k t xs .words) k (cacheAfter k t xs .order) (keptAfter k l xs)
   -- the readers read what the slot's entry holds, and write nothing else
   pub readsTerms : (w : List ℕ) (k slot : ℕ) → Room k → termsOf w k slot ≡ entryOf w k slot .terms
-  pub readsRows : (w : List ℕ) (k slot n : ℕ) (out : List ℕ) (to : ℕ) → Room k → 24 * k ≤ length w → n ≤ k
+  pub readsRows : (w : List ℕ) (k slot n : ℕ) (out : List ℕ) (to : ℕ) → Room k → keptWords * k ≤ length w → n ≤ k
       → to + rowWords * n ≤ length out → n ≤ entryOf w k slot .n
       → (j : ℕ) → j < rowWords * n → getD (copied w k slot n out to) (to + j) 0 ≡ getD (entryOf w k slot .rows) j 0
-  pub readsNoMore : (w : List ℕ) (k slot n : ℕ) (out : List ℕ) (to : ℕ) → Room k → 24 * k ≤ length w → n ≤ k
+  pub readsNoMore : (w : List ℕ) (k slot n : ℕ) (out : List ℕ) (to : ℕ) → Room k → keptWords * k ≤ length w → n ≤ k
       → to + rowWords * n ≤ length out
       → (j : ℕ) → (j < to) ⊎ (to + rowWords * n ≤ j) → getD (copied w k slot n out to) j 0 ≡ getD out j 0

@@ -13,7 +13,7 @@ use Rattle.cache.specs.declared.CachedTerms.{CachedTerms}
 use Rattle.cache.specs.declared.CacheOrder.{CacheOrder}
 use Rattle.cache.specs.declared.Found.{Found}
 use Rattle.cache.specs.declared.Found.the-variants.{At, Nothing}
-use Rattle.cache.specs.Cache.{rowWords, keyAt, termsAt, entryPlace, rowAt, countOf, firstOf, linkOf, bitsOf, latestOf, filterOf, hasBit, bits, bitOf, chain, sameKey, Cache, find, insert}
+use Rattle.cache.specs.Cache.{rowWords, keptWords, keyAt, termsAt, entryPlace, rowAt, countOf, firstOf, linkOf, bitsOf, latestOf, filterOf, hasBit, bits, bitOf, chain, sameKey, Cache, find, insert}
 
 -- a kept evaluation: n rows, and their words
 pub record Entry : Type 0 where
@@ -133,7 +133,7 @@ Laid (suc c) w k s f g = (firstOf w k s ≡ f) × (1 ≤ countOf w k s) × Laid 
 pub record Good (w : List ℕ) (k c o b g : ℕ) : Type 0 where
   pub some-room : 1 ≤ k
   pub most : k ≤ 100000
-  pub long : 24 * k ≤ length w
+  pub long : keptWords * k ≤ length w
   pub from-one : 1 ≤ o
   pub few : g ≤ 100000 * (o + c)
   pub room : g ≤ b + k

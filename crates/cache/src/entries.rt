@@ -3,27 +3,16 @@
 ghost use mathlib.Core.Path.{_≡_};
 ghost use Prim.Native.Nat.{_+_, _*_, _≤_, _<_};
 ghost use lib.ListN.{length};
-ghost use Rattle.cache.specs.Cache.{rowWords, rowsFrom, entryPlace, termsOf, copyRun, rowsTo, copied};
+ghost use Rattle.cache.specs.Cache.{rowWords, rowsFrom, termsOf, rowsTo, copied};
 use super::CachedTerms;
-use super::ENTRIES_FROM;
 use super::ROW_WORDS;
 use super::ROWS_FROM;
+use super::copy_run;
+use super::entry_place;
 use super::is_room;
 use super::modulo;
+use super::number;
 use words::read;
-
-fn number(word: u64) -> usize
-    ensures { λ r. ⌜ r ≡ word ⌝ }
-{
-    word as usize
-}
-
-fn entry_place(k: usize, entry: usize) -> usize
-    requires { ⌜ (0 < k) × (k ≤ 100000) ⌝ }
-    ensures { λ r. ⌜ (r ≡ entryPlace k entry) × (r < 10000000) ⌝ }
-{
-    ENTRIES_FROM * k + 16 * modulo(entry, k)
-}
 
 // The terms in a slot; all 0 where there is no room.
 pub fn terms_of(words: &[u64], k: usize, slot: usize) -> CachedTerms
@@ -56,18 +45,6 @@ pub fn terms_of(words: &[u64], k: usize, slot: usize) -> CachedTerms
         i01: 0,
         i10: 0,
         i11: 0,
-    }
-}
-
-// Copies n words, from word `from` on, to `out`, from word `to` on.
-fn copy_run(words: &[u64], from: usize, n: usize, out: &mut [u64], to: usize)
-    requires { ⌜ (from + n ≤ length (now words)) × (to + n ≤ length (now out)) ⌝ }
-    ensures { λ _. ⌜ now (out .exit) ≡ copyRun n (now (words .entry)) from (now (out .entry)) to 0 ⌝ }
-{
-    let mut i = 0;
-    while i < n {
-        out[to + i] = words[from + i];
-        i += 1;
     }
 }
 

@@ -3,52 +3,28 @@
 ghost use mathlib.Core.Path.{_≡_};
 ghost use Prim.Native.Nat.{_+_, _-_, _*_, _%_, _≤_, _<_};
 ghost use lib.ListN.{length};
-ghost use Rattle.cache.specs.Cache.{half, rowWords, headOf, withBit, entryPlace, raised, evict, copyRun, putRing, entryWords, written, isKept, after, insert};
+ghost use Rattle.cache.specs.Cache.{half, rowWords, headOf, withBit, raised, evict, putRing, entryWords, written, isKept, after, insert};
 use super::CacheKey;
 use super::CacheOrder;
 use super::CachedTerms;
-use super::ENTRIES_FROM;
 use super::HALF;
 use super::ROW_WORDS;
 use super::ROWS_FROM;
+use super::copy_run;
+use super::entry_place;
 use super::hash;
+use super::head_of;
 use super::is_room;
+use super::less;
+use super::number;
+use super::word;
 use words::put;
 use words::read;
 
 // The number of an entry is below 2^32.
 const ENTRY_NUMBERS: usize = 4294967296;
 
-fn number(word: u64) -> usize
-    ensures { λ r. ⌜ r ≡ word ⌝ }
-{
-    word as usize
-}
-
-fn word(number: usize) -> u64
-    ensures { λ r. ⌜ r ≡ number ⌝ }
-{
-    number as u64
-}
-
-// a - b, or 0.
-fn less(a: usize, b: usize) -> usize
-    ensures { λ r. ⌜ r ≡ a - b ⌝ }
-{
-    if b < a {
-        return a - b;
-    }
-    0
-}
-
 // ---- eviction
-
-fn entry_place(k: usize, entry: usize) -> usize
-    requires { ⌜ (0 < k) × (k ≤ 100000) ⌝ }
-    ensures { λ r. ⌜ (r ≡ entryPlace k entry) × (r < 10000000) ⌝ }
-{
-    ENTRIES_FROM * k + 16 * (entry % k)
-}
 
 // The first row that is kept once n more rows have gone.
 fn raised(first_row: usize, next_row: usize, n: usize) -> usize
@@ -92,14 +68,6 @@ fn evict(words: &[u64], k: usize, room: usize, order: CacheOrder) -> CacheOrder
 }
 
 // ---- the words of an entry
-
-// The chain of a hash, by its low half: below k.
-fn head_of(hash: u64, k: usize) -> usize
-    requires { ⌜ k ≤ 100000 ⌝ }
-    ensures { λ r. ⌜ r ≡ headOf hash k ⌝ }
-{
-    number(hash % HALF * word(k) / HALF)
-}
 
 // The filter with one more bit. A chain without a live entry begins anew.
 fn with_bit(latest: usize, oldest: usize, filter: u64, bit: u64) -> u64
@@ -146,18 +114,6 @@ fn put_each(
     }
 }
 
-// Writes n words of `values`, from word `from` on, to those from word `to` on.
-fn put_run(words: &mut [u64], to: usize, values: &[u64], from: usize, n: usize)
-    requires { ⌜ (to + n ≤ length (now words)) × (from + n ≤ length (now values)) ⌝ }
-    ensures { λ _. ⌜ now (words .exit) ≡ copyRun n (now (values .entry)) from (now (words .entry)) to 0 ⌝ }
-{
-    let mut i = 0;
-    while i < n {
-        words[to + i] = values[from + i];
-        i += 1;
-    }
-}
-
 // Writes n words of `values` as `put_ring` does, where all are lent: those before the end of the ring, then
 // those from its beginning on.
 fn put_lent(
@@ -175,11 +131,11 @@ fn put_lent(
     let at = start % c;
     let left = c - at;
     if n <= left {
-        put_run(words, base + at, values, from, n);
+        copy_run(values, from, n, words, base + at);
         return;
     }
-    put_run(words, base + at, values, from, left);
-    put_run(words, base, values, from + left, n - left);
+    copy_run(values, from, left, words, base + at);
+    copy_run(values, from + left, n - left, words, base);
 }
 
 // Writes n words of `values`, from word `from` on, around the ring of c words at `base`, the first at `start`.

@@ -1,7 +1,7 @@
 ghost use mathlib.Core.Path.{_≡_};
-ghost use Prim.Native.Nat.{_-_, _%_, _≤_, _<_};
-ghost use lib.ListN.{getD, set};
-ghost use Rattle.cache.specs.Cache.{half, part, hash, headOf, hasBit, isRoom, isSame, isAt, walk, entryPlace, find};
+ghost use Prim.Native.Nat.{_+_, _-_, _%_, _≤_, _<_};
+ghost use lib.ListN.{length};
+ghost use Rattle.cache.specs.Cache.{half, part, hash, headOf, hasBit, isRoom, isSame, isAt, walk, entryPlace, copyRun, find};
 
 pub mod entries;
 pub mod keeping;
@@ -19,10 +19,13 @@ use words::read;
 // not kept are known by the head alone. A slot's link has the number of the entry before it in the chain,
 // and above it bits of its own key's hash. A number below the oldest is dead, so nothing is ever unlinked.
 //
-// Here are the types, and what finds an entry; kept_entries reads what was found, and keeping adds an entry.
+// Here are the types, and what finds an entry; `entries` reads what was found, and `keeping` adds an entry.
 
 // The layout: the words of a row, and where entries and rows begin, for each row of the room.
 pub const ROW_WORDS: usize = 3;
+
+// The words that are lent for each row of the room.
+pub const KEPT_WORDS: usize = 24;
 
 pub const ENTRIES_FROM: usize = 2;
 
@@ -103,6 +106,18 @@ pub fn modulo(a: usize, b: usize) -> usize
         return a;
     }
     a % b
+}
+
+// Copies n words, from word `from` on, to `out`, from word `to` on.
+fn copy_run(words: &[u64], from: usize, n: usize, out: &mut [u64], to: usize)
+    requires { ⌜ (from + n ≤ length (now words)) × (to + n ≤ length (now out)) ⌝ }
+    ensures { λ _. ⌜ now (out .exit) ≡ copyRun n (now (words .entry)) from (now (out .entry)) to 0 ⌝ }
+{
+    let mut i = 0;
+    while i < n {
+        out[to + i] = words[from + i];
+        i += 1;
+    }
 }
 
 // ---- the hash

@@ -1,4 +1,4 @@
--- Brackets within ±16: the halving point and the clamped secant point lie in the bracket. Assumes nothing.
+-- Brackets within the largest eta_bound on either side of 0 (`edge`): the halving point and the clamped secant point lie in the bracket. Assumes nothing.
 use mathlib.Core.Path.{_≡_, refl, sym, subst}
 use Prim.Native.Nat.{ℕ, _+_, _-_, _*_, _^_, _≤_, _<_}
 use native.Mathlib.Nat.{mul-le-mul-right, mul-le-mul-left}
@@ -16,11 +16,15 @@ use Rattle.float64.proofs.Bracket.{half, mid-ge, mid-le, clamp-ge, clam
 use Rattle.float64.specs.Float64.{clamp}
 
 -- ---- the constants
-abbrev pub sixteen : Float
-sixteen = fin false 1 (pos 4)
+-- the largest eta_bound, by sign, whole number and exponent, and how many units of the least float it is
+abbrev pub edge : Float
+edge = fin false 1 (pos 4)
 
-abbrev pub minus16 : Float
-minus16 = fin true 1 (pos 4)
+abbrev pub minusEdge : Float
+minusEdge = fin true 1 (pos 4)
+
+abbrev pub edgeUnits : ℕ
+edgeUnits = 2 ^ 1078
 
 abbrev pub tenth : Float
 tenth = fin false 3602879701896397 (negsuc 54)
@@ -28,34 +32,35 @@ tenth = fin false 3602879701896397 (negsuc 54)
 abbrev pub eps : Float
 eps = fin false 4951760157141521 (negsuc 91)
 
-abbrev thirtytwo : Float
-thirtytwo = fin false 1 (pos 5)
+-- the widest bracket
+abbrev span : Float
+span = fin false 1 (pos 5)
 
-abbrev minus32 : Float
-minus32 = fin true 1 (pos 5)
+abbrev minusSpan : Float
+minusSpan = fin true 1 (pos 5)
 
-top-width : sub binary64 sixteen minus16 ≡ thirtytwo
+top-width : sub binary64 edge minusEdge ≡ span
 unfolding sub
 top-width = refl
 
-bottom-width : sub binary64 minus16 sixteen ≡ minus32
+bottom-width : sub binary64 minusEdge edge ≡ minusSpan
 unfolding sub
 bottom-width = refl
 
-top-part : T (finite (mul binary64 tenth thirtytwo))
+top-part : T (finite (mul binary64 tenth span))
 unfolding mul
 top-part = tt
 
-bottom-part : T (finite (mul binary64 tenth minus32))
+bottom-part : T (finite (mul binary64 tenth minusSpan))
 unfolding mul
 bottom-part = tt
 
 -- ---- in units
-pub units16 : Units binary64 sixteen (2 ^ 1078) 0
-units16 = record { isFinite = tt; value = refl }
+pub edge-is : Units binary64 edge edgeUnits 0
+edge-is = record { isFinite = tt; value = refl }
 
-pub units-16 : Units binary64 minus16 0 (2 ^ 1078)
-units-16 = record { isFinite = tt; value = refl }
+pub minus-edge-is : Units binary64 minusEdge 0 edgeUnits
+minus-edge-is = record { isFinite = tt; value = refl }
 
 pub units-eps : Units binary64 eps (4951760157141521 * 2 ^ 982) 0
 units-eps = record { isFinite = tt; value = refl }
@@ -91,11 +96,11 @@ mid l r = mul binary64 half (add binary64 l r)
 pub record Bracket (l r : Float) : Type 0 where
   pub fitsL : T (fits binary64 l)
   pub fitsR : T (fits binary64 r)
-  pub low16 : T (le minus16 l)
+  pub low : T (le minusEdge l)
   pub order : T (lt l r)
-  pub high16 : T (le r sixteen)
+  pub high : T (le r edge)
 
-double-small : (n : ℕ) → n ≤ 2 ^ 1078 → n * 2 < overflow binary64
+double-small : (n : ℕ) → n ≤ edgeUnits → n * 2 < overflow binary64
 double-small n h = N.lt-of-le-of-lt (mul-le-mul-right 2 h) (lit< tt)
 
 wide-enough : (w : ℕ) → 4951760157141521 * 2 ^ 982 ≤ w → 2 ^ 55 ≤ 3602879701896397 * 1 * w
@@ -105,17 +110,17 @@ module _ (l r : Float) (b : Bracket l r) where
   pub le-lr : T (le l r)
   le-lr = lt→le l r (b .order)
 
-  pub l16 : T (le l sixteen)
-  l16 = le-trans l r sixteen le-lr (b .high16)
+  pub l-high : T (le l edge)
+  l-high = le-trans l r edge le-lr (b .high)
 
-  pub r16 : T (le minus16 r)
-  r16 = le-trans minus16 l r (b .low16) le-lr
+  pub r-low : T (le minusEdge r)
+  r-low = le-trans minusEdge l r (b .low) le-lr
 
   pub finL : T (finite l)
-  finL = between-finite minus16 l sixteen tt tt (b .low16) l16
+  finL = between-finite minusEdge l edge tt tt (b .low) l-high
 
   pub finR : T (finite r)
-  finR = between-finite minus16 r sixteen tt tt r16 (b .high16)
+  finR = between-finite minusEdge r edge tt tt r-low (b .high)
 
   pub valL : Value binary64 l
   valL = value-of binary64 l (b .fitsL) finL
@@ -123,15 +128,15 @@ module _ (l r : Float) (b : Bracket l r) where
   pub valR : Value binary64 r
   valR = value-of binary64 r (b .fitsR) finR
 
-  pub countL : valL .count ≤ 2 ^ 1078
+  pub countL : valL .count ≤ edgeUnits
   countL =
-      size-le (valL .sign) (valL .count) (2 ^ 1078) (units-of-le binary64 l sixteen (P (valL .sign) (valL .count)) (M (valL .sign) (valL .count)) (2 ^ 1078) 0 (valL .units) units16 l16)
-      (units-of-le binary64 minus16 l 0 (2 ^ 1078) (P (valL .sign) (valL .count)) (M (valL .sign) (valL .count)) units-16 (valL .units) (b .low16))
+      size-le (valL .sign) (valL .count) edgeUnits (units-of-le binary64 l edge (P (valL .sign) (valL .count)) (M (valL .sign) (valL .count)) edgeUnits 0 (valL .units) edge-is l-high)
+      (units-of-le binary64 minusEdge l 0 edgeUnits (P (valL .sign) (valL .count)) (M (valL .sign) (valL .count)) minus-edge-is (valL .units) (b .low))
 
-  pub countR : valR .count ≤ 2 ^ 1078
+  pub countR : valR .count ≤ edgeUnits
   countR =
-      size-le (valR .sign) (valR .count) (2 ^ 1078) (units-of-le binary64 r sixteen (P (valR .sign) (valR .count)) (M (valR .sign) (valR .count)) (2 ^ 1078) 0 (valR .units) units16 (b .high16))
-      (units-of-le binary64 minus16 r 0 (2 ^ 1078) (P (valR .sign) (valR .count)) (M (valR .sign) (valR .count)) units-16 (valR .units) r16)
+      size-le (valR .sign) (valR .count) edgeUnits (units-of-le binary64 r edge (P (valR .sign) (valR .count)) (M (valR .sign) (valR .count)) edgeUnits 0 (valR .units) edge-is (b .high))
+      (units-of-le binary64 minusEdge r 0 edgeUnits (P (valR .sign) (valR .count)) (M (valR .sign) (valR .count)) minus-edge-is (valR .units) r-low)
 
   -- the halving point
   pub half-ge : T (le l (mid l r))
@@ -145,17 +150,17 @@ module _ (l r : Float) (b : Bracket l r) where
       rounded-num binary64 (width l r) (P (valR .sign) (valR .count) + M (valL .sign) (valL .count)) (M (valR .sign) (valR .count) + P (valL .sign) (valL .count)) (L binary64) (L-pos binary64)
       (sub-units binary64 r l (P (valR .sign) (valR .count)) (M (valR .sign) (valR .count)) (P (valL .sign) (valL .count)) (M (valL .sign) (valL .count)) (valR .units) (valL .units))
 
-  w-le : T (le (width l r) thirtytwo)
-  w-le = subst (λ (z : Float). T (le (width l r) z)) top-width (sub-mono binary64 r sixteen l minus16 (b .high16) (b .low16) w-num (subst (λ (z : Float). T (num? z)) (sym top-width) (finite-num thirtytwo tt)))
+  w-le : T (le (width l r) span)
+  w-le = subst (λ (z : Float). T (le (width l r) z)) top-width (sub-mono binary64 r edge l minusEdge (b .high) (b .low) w-num (subst (λ (z : Float). T (num? z)) (sym top-width) (finite-num span tt)))
 
-  w-ge : T (le minus32 (width l r))
-  w-ge = subst (λ (z : Float). T (le z (width l r))) bottom-width (sub-mono binary64 minus16 r sixteen l r16 l16 (subst (λ (z : Float). T (num? z)) (sym bottom-width) (finite-num minus32 tt)) w-num)
+  w-ge : T (le minusSpan (width l r))
+  w-ge = subst (λ (z : Float). T (le z (width l r))) bottom-width (sub-mono binary64 minusEdge r edge l r-low l-high (subst (λ (z : Float). T (num? z)) (sym bottom-width) (finite-num minusSpan tt)) w-num)
 
   pub w-finite : T (finite (width l r))
-  w-finite = between-finite minus32 (width l r) thirtytwo tt tt w-ge w-le
+  w-finite = between-finite minusSpan (width l r) span tt tt w-ge w-le
 
   pub t-finite : T (finite (part l r))
-  t-finite = between-finite (mul binary64 tenth minus32) (part l r) (mul binary64 tenth thirtytwo) bottom-part top-part (mul-mono binary64 tenth minus32 (width l r) tt w-ge) (mul-mono binary64 tenth (width l r) thirtytwo tt w-le)
+  t-finite = between-finite (mul binary64 tenth minusSpan) (part l r) (mul binary64 tenth span) bottom-part top-part (mul-mono binary64 tenth minusSpan (width l r) tt w-ge) (mul-mono binary64 tenth (width l r) span tt w-le)
 
   -- the exact difference, in units
   pub gap : ℕ

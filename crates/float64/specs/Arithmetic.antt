@@ -29,3 +29,7 @@ one = word 0x3ff0_0000_0000_0000
 
 abbrev pub two : Float
 two = word 0x4000_0000_0000_0000
+
+-- document 01's largest eta_bound, where `exp` ends too
+abbrev pub edge : Float
+edge = word 0x4030_0000_0000_0000

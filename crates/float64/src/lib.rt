@@ -9,6 +9,9 @@ ghost use Rattle.float64.specs.Float64.{abs, max, clamp, nonfinite};
 // compiled to many tests of bits.
 pub const LARGEST: f64 = 1.7976931348623157e308;
 
+// Document 01's largest eta_bound, where `exp` ends too.
+pub const EDGE: f64 = 16.0;
+
 // The float that a word stands for. Every NaN pattern gives a NaN.
 pub fn from_word(word: u64) -> f64
     ensures { λ r. ⌜ r ≡ ofBits binary64 word ⌝ }

@@ -5,7 +5,7 @@ use lib.Dec.{ltb}
 use lib.Ieee.{Float, binary64, toBits}
 use lib.ListN.{getD, length}
 use Rattle.float64.specs.Pick.{pick}
-use Rattle.work.specs.Work.{mostSubjects}
+use Rattle.work.specs.Work.{mostSubjects, resultWords, fittedWords}
 use Rattle.search.specs.declared.Place.{Place}
 use Rattle.search.specs.declared.Place.the-variants.{Nowhere, Subject, Observation}
 use Rattle.population.specs.Population.{rowsOf}
@@ -58,19 +58,19 @@ shrinkageLine shrinkage = line 72 (hexadecimal (toBits binary64 shrinkage) ∷ [
 -- so many subjects from one on
 unfoldable pub subjectLines : ℕ → ℕ → List ℕ → List ℕ
 subjectLines zero subject results = []
-subjectLines (suc left) subject results = subjectLine subject (getD results (3 * subject) 0) ++ subjectLines left (subject + 1) results
+subjectLines (suc left) subject results = subjectLine subject (getD results (resultWords * subject) 0) ++ subjectLines left (subject + 1) results
 
 -- so many observations of a subject from one on, whose predictions stand from a word on
 unfoldable pub fittedLines : ℕ → ℕ → ℕ → ℕ → List ℕ → List ℕ
 fittedLines zero subject n at results = []
 fittedLines (suc left) subject n at results =
-    fittedLine subject n (getD results at 0) (getD results (at + 1) 0) ++ fittedLines left subject (n + 1) (at + 2) results
+    fittedLine subject n (getD results at 0) (getD results (at + 1) 0) ++ fittedLines left subject (n + 1) (at + fittedWords) results
 
 -- those of so many subjects
 unfoldable pub allFitted : ℕ → ℕ → ℕ → List ℕ → List ℕ → List ℕ
 allFitted zero subject at counts results = []
 allFitted (suc left) subject at counts results =
-    fittedLines (rowsOf counts subject) subject 0 at results ++ allFitted left (subject + 1) (at + 2 * rowsOf counts subject) counts results
+    fittedLines (rowsOf counts subject) subject 0 at results ++ allFitted left (subject + 1) (at + fittedWords * rowsOf counts subject) counts results
 
 -- at most the domain's largest number
 unfoldable pub subjectsOf : List ℕ → ℕ
@@ -79,4 +79,4 @@ subjectsOf counts = pick (ltb (length counts) mostSubjects) (length counts) most
 unfoldable pub finished : Float → ℕ → Float → List ℕ → List ℕ → List ℕ
 finished objective evaluations shrinkage counts results =
     let n = subjectsOf counts in
-    objectiveLine objective evaluations ++ subjectLines n 0 results ++ allFitted n 0 (3 * n) counts results ++ shrinkageLine shrinkage
+    objectiveLine objective evaluations ++ subjectLines n 0 results ++ allFitted n 0 (resultWords * n) counts results ++ shrinkageLine shrinkage

@@ -1,10 +1,13 @@
 ghost use mathlib.Core.Path.{_≡_};
+ghost use Rattle.work.specs.Work.{resultWords};
 ghost use mathlib.Core.List.{[], _∷_};
 ghost use Prim.Native.Nat.{_<_, _*_, _≤_};
 ghost use Rattle.words.specs.Written.{written, write};
 ghost use Rattle.focei_text.specs.Writing.{glyph, hexadecimal, digits, decimal};
 ghost use Rattle.focei_text.specs.Report.{none, subjectField, observationField, objectiveLine, subjectLine, fittedLine, shrinkageLine, refusalLine, subjectLines, fittedLines, allFitted, subjectsOf, finished};
 use search::Place;
+use work::FITTED_WORDS;
+use work::RESULT_WORDS;
 
 // Bytes and words written one after the other into what is lent, and the digits of numbers. Each function
 // takes the place at which to write and gives back the place after it; at the end of what is lent nothing
@@ -174,7 +177,12 @@ fn subject_lines(out: &mut [u8], at: usize, subjects: usize, results: &[u64]) ->
     let mut end = at;
     let mut subject = 0;
     while subject < subjects {
-        end = subject_line(out, end, subject, words::read(results, 3 * subject));
+        end = subject_line(
+            out,
+            end,
+            subject,
+            words::read(results, RESULT_WORDS * subject),
+        );
         subject += 1;
     }
     end
@@ -210,16 +218,16 @@ fn fitted_lines(
 fn all_fitted(out: &mut [u8], at: usize, subjects: usize, counts: &[u64], results: &[u64]) -> usize
     requires { ⌜ subjects ≤ 4096 ⌝ }
     ensures { λ r. ⌜ written r (now (out .exit))
-        ≡ write (allFitted subjects 0 (3 * subjects) (now (counts .entry)) (now (results .entry))) (written at (now (out .entry))) ⌝ }
+        ≡ write (allFitted subjects 0 (resultWords * subjects) (now (counts .entry)) (now (results .entry))) (written at (now (out .entry))) ⌝ }
 {
     let mut end = at;
     let mut subject = 0;
-    let mut word = 3 * subjects;
+    let mut word = RESULT_WORDS * subjects;
     while subject < subjects {
         let rows = population::rows_of(counts, subject);
         end = fitted_lines(out, end, rows, subject, word, results);
         subject += 1;
-        word += 2 * rows;
+        word += FITTED_WORDS * rows;
     }
     end
 }

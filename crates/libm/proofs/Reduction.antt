@@ -9,11 +9,11 @@ use lib.Signed.{mag}
 use lib.Ieee.{Float, nan, inf, fin, binary64, ofBits, up, down, add, sub, mul, neg, le, lt, toSigned}
 use lib.Ieee.Fits.{down-pos}
 use lib.Ieee.Scale.{finite}
-use Rattle.float64.specs.Arithmetic.{half}
+use Rattle.float64.specs.Arithmetic.{half, edge}
 use Rattle.float64.specs.Pick.{both}
 use Rattle.float64.proofs.Order.{le→cross, le-trans, le-lt-trans, between-finite}
 use Rattle.float64.proofs.Monotone.{mul-mono, add-keeps}
-use Rattle.libm.specs.Exp.{invln2, sixteen, Within, multiple}
+use Rattle.libm.specs.Exp.{invln2, Within, multiple}
 
 -- 24
 abbrev most : Float
@@ -25,15 +25,15 @@ pub record Reduced (t : Float) : Type 0 where
   pub high : T (le t most)
 
 -- what is added, h, may be 0.5 or -0.5: the two ends are computed
-sum-reduced : (h x : Float) → T (finite h) → T (le (neg most) (add binary64 (mul binary64 invln2 (neg sixteen)) h))
-    → T (le (add binary64 (mul binary64 invln2 sixteen) h) most) → Within x → Reduced (add binary64 (mul binary64 invln2 x) h)
+sum-reduced : (h x : Float) → T (finite h) → T (le (neg most) (add binary64 (mul binary64 invln2 (neg edge)) h))
+    → T (le (add binary64 (mul binary64 invln2 edge) h) most) → Within x → Reduced (add binary64 (mul binary64 invln2 x) h)
 unfolding ofBits neg mul
 sum-reduced h x f low high w =
     let m = mul binary64 invln2 x in
-    let lo = mul binary64 invln2 (neg sixteen) in
-    let hi = mul binary64 invln2 sixteen in
-    let down : T (le lo m) = mul-mono binary64 invln2 (neg sixteen) x tt (w .low) in
-    let up : T (le m hi) = mul-mono binary64 invln2 x sixteen tt (w .high) in
+    let lo = mul binary64 invln2 (neg edge) in
+    let hi = mul binary64 invln2 edge in
+    let down : T (le lo m) = mul-mono binary64 invln2 (neg edge) x tt (w .low) in
+    let up : T (le m hi) = mul-mono binary64 invln2 x edge tt (w .high) in
     let g : T (finite m) = between-finite lo m hi tt tt down up in
     record {
       low = le-trans (neg most) (add binary64 lo h) (add binary64 m h) low (add-keeps binary64 lo m h h tt g f f (le→cross lo m tt g down) (omega arith));

@@ -3,7 +3,7 @@ use Prim.Native.Nat.{ℕ, _*_, _/_, _%_, _^_}
 use lib.Dec.{T, leb, ltb}
 use lib.IntN.{ℤ, pos, negsuc, natAbs, _+ℤ_}
 use lib.Ieee.{Float, nan, binary64, toBits, toSigned, ofInt, le, lt, neg}
-use Rattle.float64.specs.Arithmetic.{_+ᶠ_, _-ᶠ_, _*ᶠ_, _/ᶠ_, word, half, one, two}
+use Rattle.float64.specs.Arithmetic.{_+ᶠ_, _-ᶠ_, _*ᶠ_, _/ᶠ_, word, half, one, two, edge}
 use Rattle.float64.specs.Pick.{pick}
 use Rattle.libm.specs.Constants.{ln2hi, ln2lo}
 
@@ -53,13 +53,10 @@ multiple x hx =
     pick (ltb hx 0x3ff0_a2b2) (pick (lt x (word 0)) (negsuc 0) (pos 1))
     (pick (lt x (word 0)) (toSigned 63 (invln2 *ᶠ x -ᶠ half)) (toSigned 63 (invln2 *ᶠ x +ᶠ half)))
 
--- from -16 to 16, both included
-abbrev pub sixteen : Float
-sixteen = word 0x4030_0000_0000_0000
-
+-- as far as the largest eta_bound goes on either side of 0, both ends included
 pub record Within (x : Float) : Type 0 where
-  pub low : T (le (neg sixteen) x)
-  pub high : T (le x sixteen)
+  pub low : T (le (neg edge) x)
+  pub high : T (le x edge)
 
 -- the three ranges: up to 2^-28, up to 0.5 ln 2, and beyond
 unfoldable pub expWithin : Float → Float
@@ -70,4 +67,4 @@ expWithin x =
 
 -- outside -16..16, and for a NaN, NaN
 unfoldable pub exp : Float → Float
-exp x = pick (le (neg sixteen) x) (pick (le x sixteen) (expWithin x) nan) nan
+exp x = pick (le (neg edge) x) (pick (le x edge) (expWithin x) nan) nan

@@ -6,6 +6,7 @@ ghost use lib.Ieee.{binary64, ofInt, minus};
 ghost use lib.Signed.{mag};
 ghost use Rattle.libm.specs.Log.{remainder, logAround, logOfWord, log};
 ghost use Rattle.libm.specs.Exp.{expPrimary, powerOfTwo, expAround, Within, multiple, expWithin, exp};
+use float64::EDGE;
 use float64::LARGEST;
 
 const SMALLEST_NORMAL: f64 = 2.2250738585072014e-308;
@@ -167,13 +168,13 @@ fn exp_within(x: f64) -> f64
     exp_around(x, k)
 }
 
-// e^x from -16 to 16, both included; NaN elsewhere.
+// e^x from -EDGE to EDGE (16), both included; NaN elsewhere.
 pub fn exp(x: f64) -> f64
     ensures { λ r. ⌜ r ≡ exp x ⌝ }
 {
     let nan = 0.0 / 0.0;
-    if -16.0 <= x {
-        if x <= 16.0 {
+    if -EDGE <= x {
+        if x <= EDGE {
             return exp_within(x);
         }
         return nan;

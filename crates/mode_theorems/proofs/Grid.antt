@@ -1,4 +1,4 @@
--- The 17 grid points rise from -limit and stay within ±16. Assumes nothing.
+-- The 17 grid points rise from -limit and stay within the largest eta_bound. Assumes nothing.
 use mathlib.Core.Path.{_≡_, refl, sym, ap, subst}
 use mathlib.Core.Bool.{Bool, true, false}
 use Prim.Native.Nat.{ℕ, _+_, _*_, _^_, _≤_, _<_}
@@ -16,7 +16,7 @@ use Rattle.float64.proofs.Rounding.{Rounded, rounded-le, mul-rounded, add-round
 use Rattle.float64.proofs.Monotone.{rounded-num, mul-mono, mul-nonneg, add-mono, add-ge}
 use Rattle.float64.proofs.Units.{L, L-pos, Units, units-of-le, rounded-rescale, Rep, rep-exact, rep-double, units-of-value, Value, value-of, add-units, neg-units}
 use Rattle.float64.proofs.Bracket.{once, rounded-le-units}
-use Rattle.float64.proofs.Bracket64.{sixteen, minus16, units16}
+use Rattle.float64.proofs.Bracket64.{edge, minusEdge, edgeUnits, edge-is}
 use Rattle.float64.proofs.Numbers.{positive-of}
 use Rattle.mode.specs.declared.population_focei.Settings.{Settings}
 use Rattle.mode.specs.Rules.{gridPoint}
@@ -60,6 +60,10 @@ pub whole-0 : whole 0 ≡ zero⁺
 unfolding ofInt
 whole-0 = refl
 
+-- the number of the last grid point, as a float
+abbrev sixteen : Float
+sixteen = fin false 1 (pos 4)
+
 pub whole-16 : whole 16 ≡ sixteen
 unfolding ofInt
 whole-16 = refl
@@ -78,7 +82,7 @@ count-le true n c a b = omega arith
 zero-units : Units binary64 zero⁺ 0 0
 zero-units = record { isFinite = tt; value = refl }
 
-room : (n k o : ℕ) → n ≤ 2 ^ 1078 → 2 ^ 1078 * k < o → n * k < o
+room : (n k o : ℕ) → n ≤ edgeUnits → edgeUnits * k < o → n * k < o
 room n k o h q = N.lt-of-le-of-lt (mul-le-mul-right k h) q
 
 sum-lemma : (p u p2 u2 : ℕ) → p2 ≡ p * 2 → u2 ≡ u * 2 → u + p2 + u * 1 ≤ p * 1 + (p + u2)
@@ -93,21 +97,21 @@ neg-finite nan h = h
 neg-finite (inf s) h = h
 neg-finite (fin s m e) h = tt
 
-minus-sixteen : neg sixteen ≡ minus16
+minus-edge : neg edge ≡ minusEdge
 unfolding neg
-minus-sixteen = refl
+minus-edge = refl
 
 module _ (s : Settings) (d : Domain s) where
   low : T (le thousandth (s .«eta_bound»))
   unfolding ofBits
   low = d .boundLow
 
-  high : T (le (s .«eta_bound») sixteen)
+  high : T (le (s .«eta_bound») edge)
   unfolding ofBits
   high = d .boundHigh
 
   pub finL : T (finite (s .«eta_bound»))
-  finL = between-finite thousandth (s .«eta_bound») sixteen tt tt low high
+  finL = between-finite thousandth (s .«eta_bound») edge tt tt low high
 
   posL : T (positive (s .«eta_bound»))
   posL = positive-of (s .«eta_bound») finL (lt-le-trans zero⁺ thousandth (s .«eta_bound») (unfold lt in tt) low)
@@ -121,17 +125,17 @@ module _ (s : Settings) (d : Domain s) where
   abbrev pub g : Bool
   g = val .sign
 
-  pub count16 : n ≤ 2 ^ 1078
-  count16 =
-      count-le g n (2 ^ 1078) (units-of-le binary64 (s .«eta_bound») sixteen (P g n) (M g n) (2 ^ 1078) 0 (val .units) units16 high)
+  pub few-units : n ≤ edgeUnits
+  few-units =
+      count-le g n edgeUnits (units-of-le binary64 (s .«eta_bound») edge (P g n) (M g n) edgeUnits 0 (val .units) edge-is high)
       (units-of-le binary64 zero⁺ (s .«eta_bound») 0 0 (P g n) (M g n) zero-units (val .units) (le-trans zero⁺ thousandth (s .«eta_bound») (unfold le in tt) low))
 
   rep2 : Rep binary64 (n * 2)
-  rep2 = rep-double binary64 n (val .rep) (room n 2 (overflow binary64) count16 (lit< tt))
+  rep2 = rep-double binary64 n (val .rep) (room n 2 (overflow binary64) few-units (lit< tt))
 
   rep16 : Rep binary64 (n * 2 * 2 * 2 * 2)
   rep16 =
-      rep-double binary64 (n * 2 * 2 * 2) (rep-double binary64 (n * 2 * 2) (rep-double binary64 (n * 2) rep2 (at4 n (room n 4 (overflow binary64) count16 (lit< tt)))) (at8 n (room n 8 (overflow binary64) count16 (lit< tt)))) (at16 n (room n 16 (overflow binary64) count16 (lit< tt)))
+      rep-double binary64 (n * 2 * 2 * 2) (rep-double binary64 (n * 2 * 2) (rep-double binary64 (n * 2) rep2 (at4 n (room n 4 (overflow binary64) few-units (lit< tt)))) (at8 n (room n 8 (overflow binary64) few-units (lit< tt)))) (at16 n (room n 16 (overflow binary64) few-units (lit< tt)))
     where
       at4 : (n : ℕ) → n * 4 < overflow binary64 → n * 2 * 2 < overflow binary64
       at4 n h = subst (λ (z : ℕ). z < overflow binary64) (sym (N.mul-assoc n 2 2)) h
@@ -249,10 +253,10 @@ module _ (s : Settings) (d : Domain s) where
   grid-mono i j h k =
       add-mono binary64 (neg (s .«eta_bound»)) (neg (s .«eta_bound»)) (part i) (part j) neg-le (part-mono i j h k) (fin-add-num (neg (s .«eta_bound»)) (part i) neg-fin (part-finite i (N.le-trans h k))) (fin-add-num (neg (s .«eta_bound»)) (part j) neg-fin (part-finite j k))
 
-  pub grid-low : (i : ℕ) → i ≤ 16 → T (le minus16 (gridPoint (s .«eta_bound») i))
+  pub grid-low : (i : ℕ) → i ≤ 16 → T (le minusEdge (gridPoint (s .«eta_bound») i))
   unfolding gridPoint ofBits
   grid-low i h =
-      le-trans minus16 (neg (s .«eta_bound»)) (gridPoint (s .«eta_bound») i) (subst (λ (z : Float). T (le z (neg (s .«eta_bound»)))) minus-sixteen (neg-anti (s .«eta_bound») sixteen high))
+      le-trans minusEdge (neg (s .«eta_bound»)) (gridPoint (s .«eta_bound») i) (subst (λ (z : Float). T (le z (neg (s .«eta_bound»)))) minus-edge (neg-anti (s .«eta_bound») edge high))
       (add-ge binary64 (neg (s .«eta_bound»)) (part i) (neg-fits binary64 (s .«eta_bound») (d .fitsBound)) (part-ge i h) (fin-add-num (neg (s .«eta_bound»)) (part i) neg-fin (part-finite i h)))
 
   top-le : T (le (add binary64 (neg (s .«eta_bound»)) twice) (s .«eta_bound»))
@@ -261,9 +265,9 @@ module _ (s : Settings) (d : Domain s) where
       (once binary64 (add binary64 (neg (s .«eta_bound»)) twice) (M g n + P g (n * 2)) (P g n + M g (n * 2)) (add-units binary64 (neg (s .«eta_bound»)) twice (M g n) (P g n) (P g (n * 2)) (M g (n * 2)) (neg-units binary64 (s .«eta_bound») (P g n) (M g n) (val .units)) twice-units))
       (sum-lemma (P g n) (M g n) (P g (n * 2)) (M g (n * 2)) (P-mul g n 2) (M-mul g n 2))
 
-  pub grid-high : (i : ℕ) → i ≤ 16 → T (le (gridPoint (s .«eta_bound») i) sixteen)
+  pub grid-high : (i : ℕ) → i ≤ 16 → T (le (gridPoint (s .«eta_bound») i) edge)
   unfolding gridPoint ofBits
   grid-high i h =
-      le-trans (gridPoint (s .«eta_bound») i) (add binary64 (neg (s .«eta_bound»)) twice) sixteen
+      le-trans (gridPoint (s .«eta_bound») i) (add binary64 (neg (s .«eta_bound»)) twice) edge
       (add-mono binary64 (neg (s .«eta_bound»)) (neg (s .«eta_bound»)) (part i) twice neg-le (part-le i h) (fin-add-num (neg (s .«eta_bound»)) (part i) neg-fin (part-finite i h)) (fin-add-num (neg (s .«eta_bound»)) twice neg-fin (twice-units .isFinite)))
-      (le-trans (add binary64 (neg (s .«eta_bound»)) twice) (s .«eta_bound») sixteen top-le high)
+      (le-trans (add binary64 (neg (s .«eta_bound»)) twice) (s .«eta_bound») edge top-le high)

@@ -2,7 +2,7 @@
 use lib.Dec.{T}
 use lib.Ieee.{Float, binary64, ofBits, le, neg, fits}
 use lib.Ieee.Fits.{add-fits}
-use Rattle.float64.specs.Arithmetic.{_+ᶠ_, _*ᶠ_, word, half}
+use Rattle.float64.specs.Arithmetic.{_+ᶠ_, _*ᶠ_, word, half, edge}
 use Rattle.float64.proofs.Order.{num?}
 use Rattle.float64.proofs.Powers.{InPower, within-finite, add-within, mul-within, finite-add-num}
 use Rattle.mode_2d.specs.declared.population_focei_2d.Settings2.{Settings2}
@@ -12,7 +12,7 @@ use Rattle.mode_theorems.specs.Terms2.{prior0, prior1, joint}
 use Rattle.mode_theorems.specs.History2.{Within, Answers}
 use Rattle.mode_theorems.specs.Claim2.{Bounded}
 
-pub in-16 : (x : Float) → Within (word 0x4030_0000_0000_0000) x → InPower 4 x
+pub in-16 : (x : Float) → Within edge x → InPower 4 x
 unfolding ofBits neg
 in-16 x w = record { low = w .low; high = w .high }
 

@@ -11,7 +11,7 @@ use lib.Ieee.{Float, binary64, lt, le, fits}
 use borrow.Author.Tests.{lt-ltb, le-ltb, ne-eqb}
 use Rattle.float64.specs.Pick.{pick, both, pick-yes, pick-no, pick-same}
 use Rattle.float64.proofs.Order.{num?, le-refl-num, lt→le, le-num-l, le-num-r, le-not-lt, le-or-gt, of-true}
-use Rattle.float64.proofs.Bracket64.{sixteen, minus16}
+use Rattle.float64.proofs.Bracket64.{edge, minusEdge}
 use Rattle.mode.specs.declared.population_focei.Settings.{Settings}
 use Rattle.mode.specs.declared.population_focei.Conditional.{Conditional}
 use Rattle.mode.specs.declared.population_focei.Stage.{Stage}
@@ -326,19 +326,19 @@ above-next n x c a p u = record {
 new-cell : (s : Settings) (d : Domain s) (j i : ℕ) (l r : Conditional) → j ≤ i → i ≤ 16 → l .eta ≡ gridPoint (s .«eta_bound») j → r .eta ≡ gridPoint (s .«eta_bound») i → T (num? (l .score)) → T (num? (r .score)) → T (isUnder l) → T (isAbove r) → GoodCell (record { left = l; right = r })
 unfolding GoodCell
 new-cell s d j i l r h k p q nl nr ul ar =
-    let low : T (le minus16 (l .eta)) = subst (λ (v : Float). T (le minus16 v)) (sym p) (grid-low s d j (omega arith)) in
-    let high : T (le (r .eta) sixteen) = subst (λ (v : Float). T (le v sixteen)) (sym q) (grid-high s d i k) in
+    let low : T (le minusEdge (l .eta)) = subst (λ (v : Float). T (le minusEdge v)) (sym p) (grid-low s d j (omega arith)) in
+    let high : T (le (r .eta) edge) = subst (λ (v : Float). T (le v edge)) (sym q) (grid-high s d i k) in
     let order : T (le (l .eta) (r .eta)) = subst (λ (v : Float). T (le v (r .eta))) (sym p) (subst (λ (v : Float). T (le (gridPoint (s .«eta_bound») j) v)) (sym q) (grid-mono s d j i h k)) in
-    let ll = le-refl-num (l .eta) (le-num-r minus16 (l .eta) low) in
-    let rr = le-refl-num (r .eta) (le-num-l (r .eta) sixteen high) in
+    let ll = le-refl-num (l .eta) (le-num-r minusEdge (l .eta) low) in
+    let rr = le-refl-num (r .eta) (le-num-l (r .eta) edge high) in
     record {
       fitsL = subst (λ (v : Float). T (fits binary64 v)) (sym p) (grid-fits s d j);
       fitsR = subst (λ (v : Float). T (fits binary64 v)) (sym q) (grid-fits s d i);
-      low16 = low;
+      low = low;
       cellL = ll;
       order = order;
       cellR = rr;
-      high16 = high;
+      high = high;
       numL = nl;
       numR = nr;
       numB = both (λ (v : Conditional). T (num? (v .score))) (isCloser l r) nl nr;

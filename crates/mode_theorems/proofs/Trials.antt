@@ -14,7 +14,7 @@ use Rattle.float64.specs.Float64.{abs}
 use Rattle.float64.proofs.Order.{between-finite, P, M, num?, zero⁺, abs-num, finite-num, le-trans, le-refl-num, lt→le, le-num-r, lt-or-ge, total, le-not-lt, le-or-gt, le-lt-trans}
 use Rattle.float64.proofs.Units.{Units, Value, value-of, units-of-le, sub-units}
 use Rattle.float64.proofs.Bracket.{once, rounded-le-units, clamp-num, clamp-fits}
-use Rattle.float64.proofs.Bracket64.{sixteen, minus16, eps, width, lo, hi, Bracket, half-ge, half-le, clamped-ge, clamped-le}
+use Rattle.float64.proofs.Bracket64.{edge, minusEdge, eps, width, lo, hi, Bracket, half-ge, half-le, clamped-ge, clamped-le}
 use Rattle.float64.proofs.Numbers.{fin-sub-num}
 use Rattle.mode.specs.declared.population_focei.Settings.{Settings}
 use Rattle.mode.specs.declared.population_focei.Conditional.{Conditional}
@@ -97,11 +97,11 @@ order-of-width l r fl nl fr nr w =
 pub record Good (a z : Float) (l r b : Conditional) : Type 0 where
   pub fitsL : T (fits binary64 (l .eta))
   pub fitsR : T (fits binary64 (r .eta))
-  pub low16 : T (le minus16 a)
+  pub low : T (le minusEdge a)
   pub cellL : T (le a (l .eta))
   pub order : T (le (l .eta) (r .eta))
   pub cellR : T (le (r .eta) z)
-  pub high16 : T (le z sixteen)
+  pub high : T (le z edge)
   pub numL : T (num? (l .score))
   pub numR : T (num? (r .score))
   pub numB : T (num? (b .score))
@@ -175,8 +175,8 @@ keep a z l r b c g i = go (isAbove c) (λ (h : T (isAbove c)). h) (not-above c (
     inZ = both (λ (k : Conditional). T (le (k .eta) z)) (isCloser c b) cZ (g .inR)
 
     go : (t : Bool) → (T t → T (isAbove c)) → (T (not t) → T (isUnder c)) → Good a z (pick t l c) (pick t c r) (pick (isCloser c b) c b)
-    go true up down = record { fitsL = g .fitsL; fitsR = i .fitsC; low16 = g .low16; cellL = g .cellL; order = i .aboveL; cellR = cZ; high16 = g .high16; numL = g .numL; numR = i .numC; numB = num; bestL = toL; bestR = toC; inL = inA; inR = inZ; signL = g .signL; signR = up tt }
-    go false up down = record { fitsL = i .fitsC; fitsR = g .fitsR; low16 = g .low16; cellL = aC; order = i .belowR; cellR = g .cellR; high16 = g .high16; numL = i .numC; numR = g .numR; numB = num; bestL = toC; bestR = toR; inL = inA; inR = inZ; signL = down tt; signR = g .signR }
+    go true up down = record { fitsL = g .fitsL; fitsR = i .fitsC; low = g .low; cellL = g .cellL; order = i .aboveL; cellR = cZ; high = g .high; numL = g .numL; numR = i .numC; numB = num; bestL = toL; bestR = toC; inL = inA; inR = inZ; signL = g .signL; signR = up tt }
+    go false up down = record { fitsL = i .fitsC; fitsR = g .fitsR; low = g .low; cellL = aC; order = i .belowR; cellR = g .cellR; high = g .high; numL = i .numC; numR = g .numR; numB = num; bestL = toC; bestR = toR; inL = inA; inR = inZ; signL = down tt; signR = g .signR }
 
 -- ---- the points that are asked for lie between the ends
 not-wide : (t u : Bool) → pick t true u ≡ false → T (not t)
@@ -186,17 +186,17 @@ not-wide false u e = tt
 
 module _ (s : Settings) (d : Domain s) (a z : Float) where
   module _ (l r b : Conditional) (g : Good a z l r b) where
-    low-l : T (le minus16 (l .eta))
-    low-l = le-trans minus16 a (l .eta) (g .low16) (g .cellL)
+    low-l : T (le minusEdge (l .eta))
+    low-l = le-trans minusEdge a (l .eta) (g .low) (g .cellL)
 
-    high-r : T (le (r .eta) sixteen)
-    high-r = le-trans (r .eta) z sixteen (g .cellR) (g .high16)
+    high-r : T (le (r .eta) edge)
+    high-r = le-trans (r .eta) z edge (g .cellR) (g .high)
 
     pub finite-l : T (finite (l .eta))
-    finite-l = between-finite minus16 (l .eta) sixteen tt tt low-l (le-trans (l .eta) (r .eta) sixteen (g .order) high-r)
+    finite-l = between-finite minusEdge (l .eta) edge tt tt low-l (le-trans (l .eta) (r .eta) edge (g .order) high-r)
 
     pub finite-r : T (finite (r .eta))
-    finite-r = between-finite minus16 (r .eta) sixteen tt tt (le-trans minus16 (l .eta) (r .eta) low-l (g .order)) high-r
+    finite-r = between-finite minusEdge (r .eta) edge tt tt (le-trans minusEdge (l .eta) (r .eta) low-l (g .order)) high-r
 
     module _ (no : settled s b l r ≡ false) where
       pub wide : T (lt eps (width (l .eta) (r .eta)))
@@ -208,7 +208,7 @@ module _ (s : Settings) (d : Domain s) (a z : Float) where
           ]
 
       pub bracket : Bracket (l .eta) (r .eta)
-      bracket = record { fitsL = g .fitsL; fitsR = g .fitsR; low16 = low-l; order = order-of-width (l .eta) (r .eta) (g .fitsL) finite-l (g .fitsR) finite-r wide; high16 = high-r }
+      bracket = record { fitsL = g .fitsL; fitsR = g .fitsR; low = low-l; order = order-of-width (l .eta) (r .eta) (g .fitsL) finite-l (g .fitsR) finite-r wide; high = high-r }
 
       pub in-middle : (c : Conditional) → midpoint l r ≡ c .eta → T (num? (c .score)) → Inside l r c
       unfolding midpoint ofBits

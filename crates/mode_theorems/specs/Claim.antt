@@ -15,6 +15,10 @@ use Rattle.mode.specs.Rules.{request}
 use Rattle.mode_theorems.specs.Terms.{etas, gridPoints, scoreAt, Cell, upward, falls, bracketFrom, InBracket, Settled, warmTrials}
 use Rattle.mode_theorems.specs.History.{Domain, Follows, after, asks}
 
+-- the most evaluations that a search asks for: the grid, the warm start, the secant steps and the halvings
+abbrev pub ceiling : ℕ
+ceiling = 17 + 1 + 16 + 48
+
 abbrev pub grid : List Conditional → List Conditional
 grid h = take 17 h
 
@@ -87,8 +91,8 @@ pub record Unsettled (s : Settings) (h : List Conditional) (m : Conditional) : T
 
 -- what holds of every history h that follows the rules
 pub record Searched (s : Settings) (h : List Conditional) : Type 0 where
-  -- at most 82 points are asked, the one that is awaited counted
-  pub atMost : length h + asks (request s (after s h)) ≤ 82
+  -- no more points are asked than the ceiling, the one that is awaited counted
+  pub atMost : length h + asks (request s (after s h)) ≤ ceiling
   pub found : request s (after s h) ≡ Mode → Found s h (after s h .best)
   pub atBound : request s (after s h) ≡ Refused 13 → AtBound s h
   pub several : request s (after s h) ≡ Refused 14 → Several s h

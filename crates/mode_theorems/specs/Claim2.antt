@@ -2,7 +2,7 @@
 use mathlib.Core.Path.{_≡_}
 use mathlib.Core.Logic.{_⊎_}
 use mathlib.Core.List.{List, [], _∷_, _++_, List·Memᴰ}
-use Prim.Native.Nat.{ℕ, _+_, _≤_}
+use Prim.Native.Nat.{ℕ, _+_, _*_, _≤_}
 use lib.ListN.{length}
 use lib.Ieee.{Float}
 use Rattle.float64.specs.Arithmetic.{word}
@@ -12,6 +12,10 @@ use Rattle.mode_2d.specs.declared.population_focei_2d.Request2.the-variants.{Mo
 use Rattle.mode_2d.specs.Rules.{request}
 use Rattle.mode_theorems.specs.Terms2.{etas, point, startPoints, NoHigher, IsUnresolved, Resolved, IsFar, better, IsFlat}
 use Rattle.mode_theorems.specs.History2.{Within, Accepted, Follows, after, asks, starts, candidates}
+
+-- the most evaluations that a search asks for: zero, and from each of six starts the start and 48 rounds of 22 trials
+abbrev pub ceiling : ℕ
+ceiling = 1 + 6 * (1 + 48 * 22)
 
 -- each candidate's joint is at most that at its own start
 unfoldable pub EachNoHigher : Settings2 → List Conditional2 → List Conditional2 → Type 0
@@ -81,8 +85,8 @@ pub record NoInverse (s : Settings2) (h : List Conditional2) : Type 0 where
 
 -- what holds of every history h that follows the rules
 pub record Searched2 (s : Settings2) (h : List Conditional2) : Type 0 where
-  -- at most 6,343 points are asked, the one that is awaited counted
-  pub atMost : length h + asks (request s (after s h)) ≤ 6343
+  -- no more points are asked than the ceiling, the one that is awaited counted
+  pub atMost : length h + asks (request s (after s h)) ≤ ceiling
   pub found : request s (after s h) ≡ Mode → Found2 s h (after s h .best)
   pub unresolved : request s (after s h) ≡ Refused 13 → Unresolved s h
   pub several : request s (after s h) ≡ Refused 14 → Several h

@@ -5,7 +5,7 @@ use Prim.Native.Nat.{ℕ}
 use lib.Dec.{T}
 use lib.Ieee.{binary64, isNan, fits, le}
 use mathlib.Core.Bool.{not}
-use Rattle.float64.specs.Arithmetic.{word}
+use Rattle.float64.specs.Arithmetic.{word, edge}
 use Rattle.mode.specs.declared.population_focei.Settings.{Settings}
 use Rattle.mode.specs.declared.population_focei.Conditional.{Conditional}
 use Rattle.mode.specs.declared.population_focei.Search.{Search}
@@ -19,7 +19,7 @@ use Rattle.mode_theorems.specs.Histories.{ledFrom, Answered}
 pub record Domain (s : Settings) : Type 0 where
   pub fitsBound : T (fits binary64 (s .«eta_bound»))
   pub boundLow : T (le (word 0x3f50_0000_0000_0000) (s .«eta_bound»))
-  pub boundHigh : T (le (s .«eta_bound») (word 0x4030_0000_0000_0000))
+  pub boundHigh : T (le (s .«eta_bound») edge)
   pub omegaLow : T (le (word 0x3eb0_0000_0000_0000) (s .omega))
   pub omegaHigh : T (le (s .omega) (word 0x4130_0000_0000_0000))
   pub toleranceLow : T (le (word 0x3d71_9799_812d_ea11) (s .tolerance))

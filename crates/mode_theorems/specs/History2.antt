@@ -7,7 +7,7 @@ use Prim.Native.Nat.{ℕ}
 use lib.Dec.{T, ltb}
 use lib.Ieee.{Float, neg, le, eq}
 use lib.Ieee.Scale.{finite}
-use Rattle.float64.specs.Arithmetic.{word}
+use Rattle.float64.specs.Arithmetic.{word, edge}
 use Rattle.float64.specs.Pick.{pick}
 use Rattle.matrix.specs.Matrix.{pair, entry, some, inversePositive}
 use Rattle.mode_2d.specs.declared.population_focei_2d.Settings2.{Settings2}
@@ -41,8 +41,8 @@ pub record Accepted (omega : List (List Float)) (s : Settings2) : Type 0 where
 -- a NaN or an infinity.
 pub record Answers (q : Request2) (c : Conditional2) : Type 0 where
   pub asked : q ≡ Point (c .eta)
-  pub within0 : Within (word 0x4030_0000_0000_0000) (c .eta .first)
-  pub within1 : Within (word 0x4030_0000_0000_0000) (c .eta .second)
+  pub within0 : Within edge (c .eta .first)
+  pub within1 : Within edge (c .eta .second)
   pub nllFinite : T (finite (c .nll))
 
 abbrev pub afterFrom : Settings2 → Search2 → List Conditional2 → Search2

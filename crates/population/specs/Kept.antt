@@ -3,7 +3,7 @@ use mathlib.Core.List.{List, []}
 use mathlib.Core.Option.{Option, none, some}
 use Prim.Native.Nat.{ℕ, zero, suc, _+_, _-_, _*_}
 use lib.ListN.{getD, set, length}
-use Rattle.cache.specs.Cache.{Cache, find, termsOf, copied, insert, order, rowWords}
+use Rattle.cache.specs.Cache.{Cache, find, termsOf, copied, insert, order, rowWords, keptWords}
 use Rattle.cache.specs.Kept.{Entry, lookup, cachedRows, appended}
 use Rattle.words.specs.Words.{zeros}
 use Rattle.cache.specs.declared.CacheKey.{CacheKey}
@@ -69,6 +69,6 @@ entries = record {
   recall = λ l k key n work to. recallEntry n work to (lookup key l);
   keep = λ l k key terms n work from. appended k l (record { key = key; terms = terms; n = n; rows = work; from = from });
   rows = cachedRows;
-  lent = λ l k. 24 * k;
+  lent = λ l k. keptWords * k;
   cleared = λ n. [];
 }

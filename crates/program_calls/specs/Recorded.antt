@@ -12,14 +12,17 @@ use Rattle.population.specs.Kept.{words}
 use Rattle.session.specs.Calls.{Setting, openedBy}
 use Rattle.session.specs.Session.{Held, Call, reply, allChecked, session}
 
+abbrev pub observationWords : ℕ
+observationWords = 5
+
 -- observation i
 unfoldable pub observationIn : List ℕ → ℕ → Observation
 observationIn words i = record {
-  output = getD words (5 * i) 0;
-  row = getD words (5 * i + 1) 0;
-  value = word (getD words (5 * i + 2) 0);
-  additive = word (getD words (5 * i + 3) 0);
-  proportional = word (getD words (5 * i + 4) 0);
+  output = getD words (observationWords * i) 0;
+  row = getD words (observationWords * i + 1) 0;
+  value = word (getD words (observationWords * i + 2) 0);
+  additive = word (getD words (observationWords * i + 3) 0);
+  proportional = word (getD words (observationWords * i + 4) 0);
 }
 
 -- n of them, from number i on
@@ -29,7 +32,7 @@ observationsFrom (suc n) i words = observationIn words i ∷ observationsFrom n 
 
 -- all of them: words that make no whole observation are none
 unfoldable pub observationsOf : List ℕ → List Observation
-observationsOf words = observationsFrom (length words / 5) 0 words
+observationsOf words = observationsFrom (length words / observationWords) 0 words
 
 -- ---- a session's calls
 

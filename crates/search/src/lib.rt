@@ -191,21 +191,9 @@ pub fn begin_subject(
 fn idle(progress: Progress) -> Progress
     ensures { λ r. ⌜ r ≡ idle progress ⌝ }
 {
-    let individual = progress.individual;
-    let warm = progress.warm;
-    let search = progress.search;
-    let search_2d = progress.search_2d;
-    Progress {
-        awaits: false,
-        individual,
-        subject: progress.subject,
-        first: progress.first,
-        warm,
-        search,
-        search_2d,
-        ofv: progress.ofv,
-        eta_squares: progress.eta_squares,
-    }
+    let mut next = progress;
+    next.awaits = false;
+    next
 }
 
 pub fn refused(progress: Progress, tally: Tally, number: u32, place: Place) -> Halted

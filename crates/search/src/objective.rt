@@ -97,19 +97,9 @@ pub fn objective_of(progress: Progress, tally: Tally, ofv: f64, eta_squares: f64
 fn finished(progress: Progress, ofv: f64, eta_squares: f64) -> Progress
     ensures { λ r. ⌜ r ≡ finished progress ofv «eta_squares» ⌝ }
 {
-    let individual = progress.individual;
-    let warm = progress.warm;
-    let search = progress.search;
-    let search_2d = progress.search_2d;
-    Progress {
-        awaits: false,
-        individual,
-        subject: progress.subject,
-        first: progress.first,
-        warm,
-        search,
-        search_2d,
-        ofv,
-        eta_squares,
-    }
+    let mut next = progress;
+    next.awaits = false;
+    next.ofv = ofv;
+    next.eta_squares = eta_squares;
+    next
 }

@@ -225,17 +225,9 @@ pub fn sources_2d(settings: Settings2, search: Search2, after: Search2, c: Condi
 pub fn with_search(progress: Progress, search: Search, search_2d: Search2) -> Progress
     ensures { λ r. ⌜ r ≡ withSearch progress search «search_2d» ⌝ }
 {
-    let individual = progress.individual;
-    let warm = progress.warm;
-    Progress {
-        awaits: false,
-        individual,
-        subject: progress.subject,
-        first: progress.first,
-        warm,
-        search,
-        search_2d,
-        ofv: progress.ofv,
-        eta_squares: progress.eta_squares,
-    }
+    let mut next = progress;
+    next.awaits = false;
+    next.search = search;
+    next.search_2d = search_2d;
+    next
 }

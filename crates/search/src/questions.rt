@@ -106,20 +106,10 @@ pub fn terms_of(sums: Sums) -> CachedTerms
 fn awaiting(progress: Progress, individual: Pair) -> Progress
     ensures { λ r. ⌜ r ≡ awaiting progress individual ⌝ }
 {
-    let warm = progress.warm;
-    let search = progress.search;
-    let search_2d = progress.search_2d;
-    Progress {
-        awaits: true,
-        individual,
-        subject: progress.subject,
-        first: progress.first,
-        warm,
-        search,
-        search_2d,
-        ofv: progress.ofv,
-        eta_squares: progress.eta_squares,
-    }
+    let mut next = progress;
+    next.awaits = true;
+    next.individual = individual;
+    next
 }
 
 // The tally with one evaluation more.

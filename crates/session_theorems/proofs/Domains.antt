@@ -8,7 +8,7 @@ use borrow.Author.Tests.{eq-eqb}
 use lib.Dec.{T, eqb}
 use lib.Ieee.{Float, binary64, fits, le, eq, ne}
 use lib.Ieee.Scale.{finite}
-use Rattle.float64.specs.Arithmetic.{word}
+use Rattle.float64.specs.Arithmetic.{word, edge}
 use Rattle.float64.specs.Float64.{nonfinite}
 use Rattle.float64.specs.Pick.{pick, cases, pick-yes, pick-no}
 use Rattle.float64.proofs.Order.{of-true}
@@ -38,7 +38,7 @@ unfolding isNoVariance
 variance x e = within x _ _ e
 
 -- eta_bound, and a finite tolerance
-shape : (setup : Setup) → isNoShape setup ≡ false → (T (le (word 0x3f50_0000_0000_0000) (setup .«eta_bound»)) × T (le (setup .«eta_bound») (word 0x4030_0000_0000_0000))) × T (finite (setup .«gradient_tolerance»))
+shape : (setup : Setup) → isNoShape setup ≡ false → (T (le (word 0x3f50_0000_0000_0000) (setup .«eta_bound»)) × T (le (setup .«eta_bound») edge)) × T (finite (setup .«gradient_tolerance»))
 unfolding isNoShape isNoTolerance
 shape setup e =
     let b = not-first _ _ true-not-false e in

@@ -3,6 +3,7 @@ use mathlib.Core.Path.{_≡_, refl, sym, subst}
 use mathlib.Core.Bool.{true}
 use mathlib.Core.List.{List}
 use mathlib.Core.Option.{Option, none, some}
+use mathlib.Core.Logic.{_⊎_, inl, inr}
 use Prim.Native.Nat.{ℕ, _+_, _≤_}
 use native.Mathlib.Omega.{arith}
 use borrow.Author.Tests.{ltb-true}
@@ -278,13 +279,18 @@ count-few Warm n e = let l = ltb-true n 1 e in omega (arith, l)
 count-few Secant n e = let l = ltb-true n 16 e in omega (arith, l)
 count-few Halving n e = let l = ltb-true n 49 e in omega (arith, l)
 
+halted-few : (k : ℕ) → (k ≡ 13) ⊎ ((k ≡ 14) ⊎ (k ≡ 16)) → 4 + k ≤ 4 + words2.largest
+halted-few k (inl e) = omega (arith, e)
+halted-few k (inr (inl e)) = omega (arith, e)
+halted-few k (inr (inr e)) = omega (arith, e)
+
 stage-few : (st : Stage2) → Numbered st → words2.stageWord st ≤ 4 + words2.largest
 unfolding words2.stageWord Numbered
 stage-few S2.Zero n = omega arith
 stage-few S2.Start n = omega arith
 stage-few S2.Trial n = omega arith
 stage-few S2.Found n = omega arith
-stage-few (S2.Halted k) n = omega (arith, n)
+stage-few (S2.Halted k) n = halted-few k n
 
 additive-fits : (a : AdditiveSd) → FitsSd a → FitsAdditive a
 unfolding FitsAdditive

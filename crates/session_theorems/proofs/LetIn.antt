@@ -48,7 +48,7 @@ use Rattle.session_theorems.proofs.Always.{Says, after-turn, after-entr
 use Rattle.session_theorems.proofs.Entries.{enters}
 use Rattle.session_theorems.proofs.Fitting.{Fits}
 use Rattle.session_theorems.proofs.Limits.{within2-true}
-use Rattle.session_theorems.proofs.Placed.{Below, Going, turns-going, turns-say, enters-going, sets-going, opens-going, observations-lent}
+use Rattle.session_theorems.proofs.Placed.{Other19, Going, turns-going, turns-say, enters-going, sets-going, opens-going, observations-lent}
 use Rattle.session_theorems.proofs.Refined.{checks-same}
 use Rattle.session_theorems.proofs.Requests.{answers}
 use Rattle.session_theorems.proofs.Searches.{Suits, suits1, suits2}
@@ -56,28 +56,23 @@ use Rattle.session_theorems.proofs.Session.{sets, lawful, opens-standin
 use Rattle.session_theorems.proofs.Standing.{Standing}
 use Rattle.session_theorems.proofs.Stores.{Trusted, words-trusted, kept-rows, kept-lent}
 use Rattle.session_theorems.proofs.Turns.{turns}
-
--- ---- the numbers of an evaluation
-one-of : (n a b c : ℕ) → (n ≡ a) ⊎ ((n ≡ b) ⊎ (n ≡ c)) → a < 19 → b < 19 → c < 19 → n < 19
-one-of n a b c (inl e) i j k = omega (arith, e)
-one-of n a b c (inr (inl e)) i j k = omega (arith, e)
-one-of n a b c (inr (inr e)) i j k = omega (arith, e)
+use Rattle.session_theorems.proofs.Plain.{Not19, before-19, one-not-19}
 
 -- ---- the numbers of 1 to 5
-NumberBelow : Admission → Type 0
-NumberBelow A.Accepted = Unit
-NumberBelow (A.Refused n) = n < 19
-NumberBelow (A.Unsound place) = Unit
+NumberOther : Admission → Type 0
+NumberOther A.Accepted = Unit
+NumberOther (A.Refused n) = Not19 n
+NumberOther (A.Unsound place) = Unit
 
-roomy-below : (setup : Setup) (subjects total largest : ℕ) (lent : Lent) (check : Check) → NumberBelow (roomy setup subjects total largest lent check)
-unfolding NumberBelow roomy
-roomy-below setup subjects total largest lent (Sound place) = both NumberBelow _ (omega arith) tt
-roomy-below setup subjects total largest lent (Unsound place) = tt
+roomy-other : (setup : Setup) (subjects total largest : ℕ) (lent : Lent) (check : Check) → NumberOther (roomy setup subjects total largest lent check)
+unfolding NumberOther roomy
+roomy-other setup subjects total largest lent (Sound place) = both NumberOther _ (before-19 (omega arith)) tt
+roomy-other setup subjects total largest lent (Unsound place) = tt
 
-checks-below : (setup : Setup) (subjects : ℕ) (lent : Lent) (check : Check) (c : Counts) → NumberBelow (checksOf setup subjects lent check c)
-unfolding NumberBelow checksOf admitted
-checks-below setup subjects lent check (Within total largest) = both NumberBelow _ (both NumberBelow _ (omega arith) (both NumberBelow _ (omega arith) (roomy-below setup subjects total largest lent check))) (omega arith)
-checks-below setup subjects lent check Outside = omega arith
+checks-other : (setup : Setup) (subjects : ℕ) (lent : Lent) (check : Check) (c : Counts) → NumberOther (checksOf setup subjects lent check c)
+unfolding NumberOther checksOf admitted
+checks-other setup subjects lent check (Within total largest) = both NumberOther _ (both NumberOther _ (before-19 (omega arith)) (both NumberOther _ (before-19 (omega arith)) (roomy-other setup subjects total largest lent check))) (before-19 (omega arith))
+checks-other setup subjects lent check Outside = before-19 (omega arith)
 
 -- ---- 1 to 5 with an objective's own parameters: only 2 and 3 can refuse where the setup's own pass
 module _ (setup : Setup) (parameters : Parameters) (subjects : ℕ) (lent : Lent) (o : isNoOmega (withParameters setup parameters) ≡ false) (s : isNoShape (withParameters setup parameters) ≡ false) where
@@ -167,21 +162,21 @@ module _ (setup : Setup) (counts : List ℕ) (observations : List Observation) (
         at (Wants.Refused k) eta e = absurd (let z : _≡_ {A = ℕ} 0 1 = cc in omega arith)
 
     -- ---- what an entry answers
-    over-says : (number : ℕ) → number < 19 → (place : Place) → Says Below (N.over words setup counts number place h)
-    unfolding Says Below N.over
+    over-says : (number : ℕ) → Not19 number → (place : Place) → Says Other19 (N.over words setup counts number place h)
+    unfolding Says Other19 N.over
     over-says number l place = l
 
-    admitted-says : (go : Moved (Held words) Step) → Says Below go → (m : Admission) → NumberBelow m → Says Below (N.whenAdmitted words setup counts h go m)
-    unfolding Says Below NumberBelow N.whenAdmitted
+    admitted-says : (go : Moved (Held words) Step) → Says Other19 go → (m : Admission) → NumberOther m → Says Other19 (N.whenAdmitted words setup counts h go m)
+    unfolding Says Other19 NumberOther N.whenAdmitted
     admitted-says go l A.Accepted b = l
     admitted-says go l (A.Refused n) b = b
-    admitted-says go l (A.Unsound place) b = omega arith
+    admitted-says go l (A.Unsound place) b = before-19 (omega arith)
 
-    begun-says : (parameters : Parameters) → Says Below (N.whenAdmitted words setup counts h (on (N.begun words setup counts parameters (h .whole))) (admission setup counts observations parameters h))
+    begun-says : (parameters : Parameters) → Says Other19 (N.whenAdmitted words setup counts h (on (N.begun words setup counts parameters (h .whole))) (admission setup counts observations parameters h))
     unfolding Says N.admitted checks
-    begun-says parameters = admitted-says _ tt _ (checks-below _ (length counts) _ check (countObservations counts))
+    begun-says parameters = admitted-says _ tt _ (checks-other _ (length counts) _ check (countObservations counts))
 
-    answered-says : (said : List ℕ) (eta : Pair) → Says Below (N.answered words setup counts observations said eta h)
+    answered-says : (said : List ℕ) (eta : Pair) → Says Other19 (N.answered words setup counts observations said eta h)
     unfolding N.answered
     answered-says said eta = by-end (finish (ended .evaluation)) refl
       where
@@ -203,31 +198,31 @@ module _ (setup : Setup) (counts : List ℕ) (observations : List Observation) (
         numbers : Evaluates (N.trialOf words setup counts fit (h .whole .progress)) (setup .«output_budget») said os (h .whole .work)
         numbers = evaluates _ (setup .«output_budget») said os (h .whole .work) few
 
-        by-end : (x : Evaluation) → finish (ended .evaluation) ≡ x → Says Below (N.replied words setup counts fit eta h (ended .work) x)
+        by-end : (x : Evaluation) → finish (ended .evaluation) ≡ x → Says Other19 (N.replied words setup counts fit eta h (ended .work) x)
         by-end (E.Running sums) d = unfold Says N.replied in tt
-        by-end (E.Refused n) d = unfold N.replied in over-says n (one-of n 8 9 12 (numbers .numbers n d) (omega arith) (omega arith) (omega arith)) _
-        by-end (E.RefusedAt n i) d = unfold N.replied in over-says n (one-of n 10 11 12 (numbers .places n i d .0) (omega arith) (omega arith) (omega arith)) _
+        by-end (E.Refused n) d = unfold N.replied in over-says n (one-not-19 n 8 9 12 (numbers .numbers n d) (before-19 (omega arith)) (before-19 (omega arith)) (before-19 (omega arith))) _
+        by-end (E.RefusedAt n i) d = unfold N.replied in over-says n (one-not-19 n 10 11 12 (numbers .places n i d .0) (before-19 (omega arith)) (before-19 (omega arith)) (before-19 (omega arith))) _
 
-    enters-say : (c : Call) → Ruled setup counts observations c h → Says Below (N.enter words setup counts observations c h)
+    enters-say : (c : Call) → Ruled setup counts observations c h → Says Other19 (N.enter words setup counts observations c h)
     unfolding N.enter N.enterReply N.enterFailure N.enterObjective
-    enters-say (objective parameters) t = subst (Says Below) (sym (pick-no _ _ _ t ∙ pick-yes _ _ _ placed)) (begun-says parameters)
-    enters-say (reply said) t = subst (Says Below) (sym (awaited t _)) (answered-says said _)
-    enters-say failure t = subst (Says Below) (sym (awaited t _)) (over-says 8 (omega arith) _)
+    enters-say (objective parameters) t = subst (Says Other19) (sym (pick-no _ _ _ t ∙ pick-yes _ _ _ placed)) (begun-says parameters)
+    enters-say (reply said) t = subst (Says Other19) (sym (awaited t _)) (answered-says said _)
+    enters-say failure t = subst (Says Other19) (sym (awaited t _)) (over-says 8 (before-19 (omega arith)) _)
 
-    not-19 : (a : Step) → Below a → (place : Place) → a ≡ Answers.Refused 19 place → ⊥
-    unfolding Below
-    not-19 a l place e = let b : 19 < 19 = subst Below e l in omega arith
+    not-19 : (a : Step) → Other19 a → (place : Place) → a ≡ Answers.Refused 19 place → ⊥
+    unfolding Other19
+    not-19 a l place e = let b : Not19 19 = subst Other19 e l in b refl
 
-    lets-in : ((c : Call) → Ruled setup counts observations c h → Below (call M c h .answer)) → LetIn setup counts observations h
+    lets-in : ((c : Call) → Ruled setup counts observations c h → Other19 (call M c h .answer)) → LetIn setup counts observations h
     unfolding N.enterReply N.enterFailure N.enterObjective
-    lets-in below = record {
+    lets-in other = record {
       placed = placed;
       accepted = accepted;
       others = others;
       replies = λ t said. awaited t _;
       fails = λ t. awaited t _;
       begins = λ t parameters. pick-no _ _ _ t ∙ pick-yes _ _ _ placed;
-      never19 = λ c t place. not-19 (call M c h .answer) (below c t) place;
+      never19 = λ c t place. not-19 (call M c h .answer) (other c t) place;
     }
 
   holds : (acts : List (Act M)) → LetIn setup counts observations (run M (N.opened words setup counts lent results) acts)
@@ -236,7 +231,7 @@ module _ (setup : Setup) (counts : List ℕ) (observations : List Observation) (
       let b = both-hold acts in
       lets-in _ (b .0) (b .1)
       (λ c t. answers (I .rules) (I .claims) (Q .proved) M Y Stands (lawful words setup counts observations I Q U bound limit lent results a) (λ h s. s .subject)
-      Goes (λ h g. turns-going setup counts observations lent a h g) Below (λ h g. turns-say setup counts observations lent a h g)
+      Goes (λ h g. turns-going setup counts observations lent a h g) Other19 (λ h g. turns-say setup counts observations lent a h g)
       (N.opened words setup counts lent results) (opens-standing words setup counts observations I Q U bound limit lent results a) refl refl acts c
       (enters-going setup counts observations lent a _ (b .1) c) (enters-say _ (b .0) (b .1) c t))
 

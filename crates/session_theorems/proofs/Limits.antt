@@ -1,6 +1,7 @@
 -- A search stays within the limits that 19 holds a state's search to, whatever evaluations it is given, and the number that it ends with is below 19. Assumes nothing.
 use mathlib.Core.Path.{_≡_, refl, _∙_}
 use mathlib.Core.Bool.{true}
+use mathlib.Core.Logic.{_⊎_, inl, inr}
 use Prim.Native.Nat.{ℕ, _+_, _<_}
 use native.Mathlib.Omega.{arith}
 use borrow.Author.Tests.{ltb-true, lt-ltb}
@@ -28,6 +29,7 @@ use Rattle.search.specs.declared.Progress.{Progress}
 use Rattle.search.specs.declared.Wanted.{Wanted}
 use Rattle.search.specs.declared.Wanted.the-variants as Wants
 use Rattle.session.specs.Session.{countWithin, searchWithin, searchWithin2}
+use Rattle.session_theorems.proofs.Plain.{Not19, before-19, one-not-19}
 
 -- ---- one effect
 abbrev pub Within : Search → Type 0
@@ -75,7 +77,7 @@ Numbered Zero = Unit
 Numbered Start = Unit
 Numbered Trial = Unit
 Numbered Found = Unit
-Numbered (Halted n) = n < 19
+Numbered (Halted n) = (n ≡ 13) ⊎ ((n ≡ 14) ⊎ (n ≡ 16))
 
 pub record Within2 (x : Search2) : Type 0 where
   pub seed : x .seed < 7
@@ -99,8 +101,8 @@ module _ (s : Settings2) (seed : ℕ) (few : seed < 7) where
   finish-within : (c best : Conditional2) → Within2 (R2.finish s seed c best)
   unfolding R2.finish Numbered
   finish-within c best =
-      both Within2 _ (between-within (Halted 13) seed c best few (omega arith))
-      (both Within2 _ (between-within (Halted 14) seed c best few (omega arith))
+      both Within2 _ (between-within (Halted 13) seed c best few (inl refl))
+      (both Within2 _ (between-within (Halted 14) seed c best few (inr (inl refl)))
       (cases Within2 (ltb seed 5) (λ t. let l : seed < 5 = ltb-true _ _ t in between-within Start (seed + 1) c _ (omega arith) tt) (λ t. between-within Found 6 c _ (omega arith) tt)))
 
   trying-within : (round reduction : ℕ) → round < 48 → reduction < 22 → (c best : Conditional2) (step : NewtonStep) (trial : Pair) → Within2 (R2.trying seed round reduction c best step trial)
@@ -113,7 +115,7 @@ module _ (s : Settings2) (seed : ℕ) (few : seed < 7) where
 
   descend-by : (i : Inverse) (round from : ℕ) → round < 48 → (c best : Conditional2) → Within2 (R2.descendBy i s seed round from c best)
   unfolding R2.descendBy Numbered
-  descend-by none round from l c best = between-within (Halted 16) seed c best few (omega arith)
+  descend-by none round from l c best = between-within (Halted 16) seed c best few (inr (inr refl))
   descend-by (some inverse det) round from l c best = try-within round from l c best _
 
   descend-within : (round from : ℕ) → round < 48 → (c best : Conditional2) → Within2 (R2.descend s seed round from c best)
@@ -138,30 +140,30 @@ advance-at2 (Halted n) s x c w = w
 pub advance-within2 : (s : Settings2) (x : Search2) (c : Conditional2) → Within2 x → Within2 (R2.advance s x c)
 advance-within2 s x c w = advance-at2 (x .stage) s x c w
 
--- ---- what a search wants: a refusal's number is below 19
-unfoldable pub Small : Wanted → Type 0
-Small (Wants.Point eta) = Unit
-Small Wants.Mode = Unit
-Small (Wants.Refused n) = n < 19
+-- ---- what a search wants: a refusal's number is not 19
+unfoldable pub Other : Wanted → Type 0
+Other (Wants.Point eta) = Unit
+Other Wants.Mode = Unit
+Other (Wants.Refused n) = Not19 n
 
-abbrev Small1 : Request → Type 0
-Small1 q = Small (B.wants1 q)
+abbrev Other1 : Request → Type 0
+Other1 q = Other (B.wants1 q)
 
-small1 : (stage : Stage) (s : Settings) (x : Search) → Small1 (requestAt stage s x)
-unfolding requestAt Small
-small1 Grid s x = both Small1 _ tt (both Small1 _ (omega arith) (both Small1 _ (omega arith) (omega arith)))
-small1 Warm s x = tt
-small1 Secant s x = both Small1 _ tt tt
-small1 Halving s x = both Small1 _ tt (both Small1 _ tt (omega arith))
+other1 : (stage : Stage) (s : Settings) (x : Search) → Other1 (requestAt stage s x)
+unfolding requestAt Other
+other1 Grid s x = both Other1 _ tt (both Other1 _ (before-19 (omega arith)) (both Other1 _ (before-19 (omega arith)) (before-19 (omega arith))))
+other1 Warm s x = tt
+other1 Secant s x = both Other1 _ tt tt
+other1 Halving s x = both Other1 _ tt (both Other1 _ tt (before-19 (omega arith)))
 
-small2 : (stage : Stage2) (s : Settings2) (x : Search2) → Numbered stage → Small (B.wants2 (R2.requestAt stage s x))
-unfolding R2.requestAt Numbered Small
-small2 Zero s x n = tt
-small2 Start s x n = tt
-small2 Trial s x n = tt
-small2 Found s x n = tt
-small2 (Halted number) s x n = n
+other2 : (stage : Stage2) (s : Settings2) (x : Search2) → Numbered stage → Other (B.wants2 (R2.requestAt stage s x))
+unfolding R2.requestAt Numbered Other
+other2 Zero s x n = tt
+other2 Start s x n = tt
+other2 Trial s x n = tt
+other2 Found s x n = tt
+other2 (Halted number) s x n = one-not-19 number 13 14 16 n (before-19 (omega arith)) (before-19 (omega arith)) (before-19 (omega arith))
 
-pub wanted-small : (fit : Fit) (p : Progress) → Within2 (p .«search_2d») → Small (B.wantedBy fit p)
+pub wanted-other : (fit : Fit) (p : Progress) → Within2 (p .«search_2d») → Other (B.wantedBy fit p)
 unfolding B.wantedBy B.wanted1 B.wanted2
-wanted-small fit p w = both Small _ (small2 _ _ (p .«search_2d») (w .number)) (small1 _ _ (p .search))
+wanted-other fit p w = both Other _ (other2 _ _ (p .«search_2d») (w .number)) (other1 _ _ (p .search))

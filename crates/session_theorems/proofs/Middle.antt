@@ -11,9 +11,9 @@ use lib.Ieee.Exact.{HasValue}
 use lib.Ieee.Fits.{down-pos}
 use lib.Ieee.Positive.{positive, between, values-of-le}
 use lib.Ieee.Scale.{overflow, round-same}
-use Rattle.float64.specs.Arithmetic.{word}
+use Rattle.float64.specs.Arithmetic.{word, edge}
 use Rattle.float64.proofs.Order.{of-none}
-use Rattle.float64.proofs.Bracket64.{sixteen}
+use Rattle.float64.proofs.Bracket64.{edge as top}
 use Rattle.float64.proofs.Units.{L, L-pos, Rep, rep-exact, rep-double, has}
 use Rattle.mode.specs.Rules.{gridPoint}
 
@@ -87,7 +87,7 @@ rep-eight f n r h =
 room : (n K o : ℕ) → n * 1 ≤ 16 * K → 16 * K * 8 < o → n * 8 < o
 room n K o h k = omega arith
 
-middle : (x : Float) → T (fits binary64 x) → T (positive x) → T (le x sixteen) → add binary64 (neg x) (div binary64 (mul binary64 x eight) eight) ≡ round binary64 false 0 1
+middle : (x : Float) → T (fits binary64 x) → T (positive x) → T (le x top) → add binary64 (neg x) (div binary64 (mul binary64 x eight) eight) ≡ round binary64 false 0 1
 middle nan f p h = absurd p
 middle (inf s) f p h = absurd p
 middle (fin true m e) f p h = absurd p
@@ -96,11 +96,11 @@ middle (fin false m e) f p h =
     let v = has binary64 false m e f in
     let n = v .count in
     let own : HasValue x false n (L binary64) = (refl, v .same) in
-    let under : n * 8 < overflow binary64 = room n (L binary64) (overflow binary64) (values-of-le x sixteen n (L binary64) 16 1 p tt own (refl, refl) h) (lit< tt) in
+    let under : n * 8 < overflow binary64 = room n (L binary64) (overflow binary64) (values-of-le x top n (L binary64) 16 1 p tt own (refl, refl) h) (lit< tt) in
     let y = mul binary64 x eight in
     less-itself binary64 x (div binary64 y eight) n own (div-eight binary64 y n (v .rep) (mul-eight binary64 x n (rep-eight binary64 n (v .rep) under) own))
 
 -- ---- the ninth of the 17 points, for every limit from 2^-10 to 16
-pub middle-zero : (limit : Float) → T (fits binary64 limit) → T (le (word 0x3f50_0000_0000_0000) limit) → T (le limit (word 0x4030_0000_0000_0000)) → gridPoint limit 8 ≡ word 0
+pub middle-zero : (limit : Float) → T (fits binary64 limit) → T (le (word 0x3f50_0000_0000_0000) limit) → T (le limit edge) → gridPoint limit 8 ≡ word 0
 unfolding gridPoint ofBits ofInt
-middle-zero limit f low high = middle limit f (between thousandth limit sixteen tt tt low high) high
+middle-zero limit f low high = middle limit f (between thousandth limit edge tt tt low high) high

@@ -58,8 +58,8 @@ use Rattle.session_theorems.proofs.Accepted.{Accepts, each-count}
 use Rattle.session_theorems.proofs.Always.{After, Says}
 use Rattle.session_theorems.proofs.Evaluated.{work-length}
 use Rattle.session_theorems.proofs.Lengths.{AsLong, zeros-length, move-rows-length, recalled-length, warm-stored-length, results-length}
-use Rattle.session_theorems.proofs.Limits.{Within, start-within, advance-within, Within2, start-within2, advance-within2, Small, wanted-small}
-use Rattle.session_theorems.proofs.Plain.{split}
+use Rattle.session_theorems.proofs.Limits.{Within, start-within, advance-within, Within2, start-within2, advance-within2, Other, wanted-other}
+use Rattle.session_theorems.proofs.Plain.{split, Not19, before-19}
 
 -- ---- the observations of the subjects before one
 before-rest : (count : ℕ) (rest : List ℕ) (i : ℕ) → before (count ∷ rest) (suc i) ≡ count + before rest i
@@ -114,19 +114,19 @@ first-exact {setup} {counts} {lent} a i l =
     let r = rows-exact a i l in
     ap (λ (n : ℕ). raised (before counts i) n) r ∙ mod-eq-of-lt (omega (arith, m, a .all))
 
--- ---- refusals with numbers below 19
-unfoldable pub Below : Step → Type 0
-Below (Answers.Asked eta individual) = Unit
-Below (Answers.Finished ofv) = Unit
-Below (Answers.Refused n place) = n < 19
+-- ---- refusals with other numbers than 19
+unfoldable pub Other19 : Step → Type 0
+Other19 (Answers.Asked eta individual) = Unit
+Other19 (Answers.Finished ofv) = Unit
+Other19 (Answers.Refused n place) = Not19 n
 
-BelowIf : Answer Pair → Type 0
-BelowIf (given v) = Unit
-BelowIf (refused n) = n < 19
+OtherIf : Answer Pair → Type 0
+OtherIf (given v) = Unit
+OtherIf (refused n) = Not19 n
 
-values-below : (theta eta : Pair) (effects : ℕ) → BelowIf (individualValues theta eta effects)
-unfolding BelowIf individualValues
-values-below theta eta effects = both BelowIf _ (omega arith) (both BelowIf _ (both BelowIf _ (omega arith) tt) tt)
+values-other : (theta eta : Pair) (effects : ℕ) → OtherIf (individualValues theta eta effects)
+unfolding OtherIf individualValues
+values-other theta eta effects = both OtherIf _ (before-19 (omega arith)) (both OtherIf _ (both OtherIf _ (before-19 (omega arith)) tt) tt)
 
 -- ---- a search's own place
 module _ (counts : List ℕ) where
@@ -185,7 +185,7 @@ module _ (setup : Setup) (counts : List ℕ) (observations : List Observation) (
     record Halts (x : Halted) : Type 0 where
       place : Placed counts (x .progress)
       same : x .tally .«cached_rows» ≡ w .tally .«cached_rows»
-      below : Below (x .step)
+      other : Other19 (x .step)
 
     PlacedTurned : Turned → Type 0
     PlacedTurned (On q) = Placed counts q
@@ -208,24 +208,24 @@ module _ (setup : Setup) (counts : List ℕ) (observations : List Observation) (
     closes (On q) work warm results f a b c = goes q (w .tally) work warm results f refl a b c
     closes (Halt x) work warm results f a b c = goes (x .progress) (x .tally) work warm results (f .place) (f .same) a b c
 
-    closes-says : (t : Turned) (work warm results : List ℕ) → PlacedTurned t → Says Below (N.heldBy words setup counts (h .parameters) (moved words (w .tally) (w .kept) work warm results t))
+    closes-says : (t : Turned) (work warm results : List ℕ) → PlacedTurned t → Says Other19 (N.heldBy words setup counts (h .parameters) (moved words (w .tally) (w .kept) work warm results t))
     unfolding Says N.heldBy moved PlacedTurned
     closes-says (On q) work warm results f = tt
-    closes-says (Halt x) work warm results f = f .below
+    closes-says (Halt x) work warm results f = f .other
 
     -- ---- a point
-    refuses : (tally : Tally) → tally .«cached_rows» ≡ w .tally .«cached_rows» → (number : ℕ) → number < 19 → (place : Place) → Halts (B.refusedBy p tally number place)
-    unfolding B.refusedBy Below
-    refuses tally same number l place = record { place = idles counts p (g .place); same = same; below = l }
+    refuses : (tally : Tally) → tally .«cached_rows» ≡ w .tally .«cached_rows» → (number : ℕ) → Not19 number → (place : Place) → Halts (B.refusedBy p tally number place)
+    unfolding B.refusedBy Other19
+    refuses tally same number l place = record { place = idles counts p (g .place); same = same; other = l }
 
-    asks : (eta : Pair) (a : Answer Pair) → BelowIf a → Halts (B.askFor p (B.counted (w .tally)) eta a)
-    unfolding B.askFor B.counted Below BelowIf
-    asks eta (given v) l = record { place = awaits counts p (g .place) v; same = refl; below = tt }
+    asks : (eta : Pair) (a : Answer Pair) → OtherIf a → Halts (B.askFor p (B.counted (w .tally)) eta a)
+    unfolding B.askFor B.counted Other19 OtherIf
+    asks eta (given v) l = record { place = awaits counts p (g .place) v; same = refl; other = tt }
     asks eta (refused n) l = refuses _ refl n l _
 
     asked : (eta : Pair) → Halts (B.ask fit p (w .tally) eta)
     unfolding B.ask
-    asked eta = both Halts _ (asks eta _ (values-below _ eta _)) (refuses (w .tally) refl 6 (omega arith) _)
+    asked eta = both Halts _ (asks eta _ (values-other _ eta _)) (refuses (w .tally) refl 6 (before-19 (omega arith)) _)
 
     by-recall : (eta : Pair) (o : Option Recalled) → ((r : Recalled) → o ≡ some r → AsLong (w .work) (r .work))
         → Ends (ended (answered fit rows p (w .tally) eta (w .work) o .value) (answered fit rows p (w .tally) eta (w .work) o .work) (w .warm) (w .results))
@@ -238,17 +238,17 @@ module _ (setup : Setup) (counts : List ℕ) (observations : List Observation) (
     at-point eta = by-recall eta _ (λ r q. recalled-length _ _ rows (w .work) (block rows 3) _ r q)
 
     -- ---- a mode
-    refused-ends : (number : ℕ) → number < 19 → (place : Place) (warm : List ℕ) → AsLong (w .warm) warm → Ends (ended (Halt (B.refusedBy p (w .tally) number place)) (w .work) warm (w .results))
+    refused-ends : (number : ℕ) → Not19 number → (place : Place) (warm : List ℕ) → AsLong (w .warm) warm → Ends (ended (Halt (B.refusedBy p (w .tally) number place)) (w .work) warm (w .results))
     unfolding PlacedTurned
     refused-ends number l place warm a = record { turned = refuses (w .tally) refl number l place; work = refl; warm = a; results = refl }
 
     finished-halts : (ofv squares : Float) → Halts (record { progress = B.finished p ofv squares; tally = w .tally; step = Answers.Finished ofv })
-    unfolding Below
-    finished-halts ofv squares = record { place = finishes counts p (g .place) ofv squares; same = refl; below = tt }
+    unfolding Other19
+    finished-halts ofv squares = record { place = finishes counts p (g .place) ofv squares; same = refl; other = tt }
 
     objective-ends : (ofv squares : Float) → Halts (B.objectiveOf p (w .tally) ofv squares)
     unfolding B.objectiveOf
-    objective-ends ofv squares = both Halts (nonfinite ofv) (refuses (w .tally) refl 18 (omega arith) _) (finished-halts ofv squares)
+    objective-ends ofv squares = both Halts (nonfinite ofv) (refuses (w .tally) refl 18 (before-19 (omega arith)) _) (finished-halts ofv squares)
 
     next-ends : (m : Mode) (warm results : List ℕ) → AsLong (w .warm) warm → AsLong (w .results) results
         → Ends (ended (nextSubject fit counts p (w .tally) m rows warm (w .work) .value) (nextSubject fit counts p (w .tally) m rows warm (w .work) .work) warm results)
@@ -265,21 +265,21 @@ module _ (setup : Setup) (counts : List ℕ) (observations : List Observation) (
 
     by-closed : (c : Closed) → Ends (closing fit counts p (w .tally) rows (w .work) (w .warm) (w .results) c)
     unfolding closing
-    by-closed NotPositive = refused-ends 16 (omega arith) _ (w .warm) refl
+    by-closed NotPositive = refused-ends 16 (before-19 (omega arith)) _ (w .warm) refl
     by-closed (Positive m) =
         let a = warm-stored-length (fit .effects) (p .subject) (m .eta) (w .warm) in
         both Ends (isSameGrid (w .work) rows) (next-ends m _ _ a (results-length (length counts) (p .first) (w .work) rows (p .subject) (m .eta) (m .nll) (w .results)))
-        (refused-ends 17 (omega arith) _ _ a)
+        (refused-ends 17 (before-19 (omega arith)) _ _ a)
 
     -- ---- every request
-    by-wanted : (v : Wanted) → Small v → Ends (servedBy words fit counts p (w .tally) (w .kept) (w .work) (w .warm) (w .results) v)
-    unfolding servedBy atMode Small
+    by-wanted : (v : Wanted) → Other v → Ends (servedBy words fit counts p (w .tally) (w .kept) (w .work) (w .warm) (w .results) v)
+    unfolding servedBy atMode Other
     by-wanted (Wants.Point eta) l = at-point eta
     by-wanted Wants.Mode l = by-closed (B.closedBy fit p rows)
     by-wanted (Wants.Refused n) l = refused-ends n l _ (w .warm) refl
 
     every-request : Ends (servedBy words fit counts p (w .tally) (w .kept) (w .work) (w .warm) (w .results) (B.wantedBy fit p))
-    every-request = by-wanted _ (wanted-small fit p (g .place .two))
+    every-request = by-wanted _ (wanted-other fit p (g .place .two))
 
     pub turns-going : After Going (N.turnHeld words setup counts h)
     unfolding N.turnHeld turn turned served
@@ -287,7 +287,7 @@ module _ (setup : Setup) (counts : List ℕ) (observations : List Observation) (
         let e = every-request in
         closes _ _ _ _ (e .turned) (both (AsLong (w .work)) _ (zeros-length _ ∙ e .work) (e .work)) (e .warm) (e .results)
 
-    pub turns-say : Says Below (N.turnHeld words setup counts h)
+    pub turns-say : Says Other19 (N.turnHeld words setup counts h)
     unfolding N.turnHeld turn turned served
     turns-say = closes-says _ _ _ _ (every-request .turned)
 

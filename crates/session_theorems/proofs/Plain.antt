@@ -1,5 +1,5 @@
 -- Small facts that the other files share: of tests, and of numbers. Assumes nothing.
-use mathlib.Core.Path.{_≡_, refl, sym, subst}
+use mathlib.Core.Path.{_≡_, refl, sym, subst, _∙_}
 use mathlib.Core.Bool.{Bool, true, false, not}
 use mathlib.Core.Logic.{_⊎_, inl, inr}
 use Prim.Native.Nat.{ℕ, zero, suc, _≤_, _<_}
@@ -32,3 +32,16 @@ by false a c e = inr (ltb-false _ _ e)
 
 pub split : (a c : ℕ) → (a < c) ⊎ (c ≤ a)
 split a c = by (ltb a c) a c refl
+
+-- ---- a number that is not 19
+abbrev pub Not19 : ℕ → Type 0
+Not19 n = n ≡ 19 → ⊥
+
+pub before-19 : {n : ℕ} → n < 19 → Not19 n
+before-19 l e = omega (arith, l, e)
+
+-- one of three
+pub one-not-19 : (n a b c : ℕ) → (n ≡ a) ⊎ ((n ≡ b) ⊎ (n ≡ c)) → Not19 a → Not19 b → Not19 c → Not19 n
+one-not-19 n a b c (inl e) i j k x = i (sym e ∙ x)
+one-not-19 n a b c (inr (inl e)) i j k x = j (sym e ∙ x)
+one-not-19 n a b c (inr (inr e)) i j k x = k (sym e ∙ x)

@@ -7,12 +7,12 @@ use borrow.Author.Tests.{eq-eqb}
 use lib.Ieee.{Float, nan, inf, fin, isNan, fits, ofBits, le, neg, mul, binary64}
 use lib.Ieee.Scale.{finite}
 use Rattle.float64.specs.Answer.{Answer, given, refused}
-use Rattle.float64.specs.Arithmetic.{_+ᶠ_, _*ᶠ_, _/ᶠ_, word}
+use Rattle.float64.specs.Arithmetic.{_+ᶠ_, _*ᶠ_, _/ᶠ_, word, edge}
 use Rattle.float64.specs.Float64.{nonfinite}
 use Rattle.float64.specs.Pick.{pick-yes, pick-no, cases}
 use Rattle.float64.proofs.Order.{num?, of-true}
 use Rattle.float64.proofs.Powers.{within-finite, div-within, finite-add-num}
-use Rattle.libm.specs.Exp.{sixteen, exp}
+use Rattle.libm.specs.Exp.{exp}
 use Rattle.matrix.specs.declared.Pair.{Pair}
 use Rattle.mode_theorems.specs.History2.{Within}
 use Rattle.mode_theorems.proofs.Joint.{in-16}
@@ -20,10 +20,10 @@ use Rattle.mode_theorems.proofs.Precision.{in-20, least-20}
 use Rattle.subject.specs.Subject.{individual, isNoIndividual, individualValues}
 
 -- from -16 to 16
-abbrev pub In16 : Float → Type 0
-In16 x = Within (word 0x4030_0000_0000_0000) x
+abbrev pub WithinEdge : Float → Type 0
+WithinEdge x = Within edge x
 
-pub zero-in-16 : In16 (word 0)
+pub zero-in-16 : WithinEdge (word 0)
 unfolding le neg ofBits
 zero-in-16 = record { low = tt; high = tt }
 
@@ -44,28 +44,28 @@ individual-nan theta eta e =
     let v : theta *ᶠ exp eta ≡ nan = ap (λ (z : Float). theta *ᶠ z) e ∙ mul-nan theta in
     pick-yes _ _ _ (ap nonfinite v)
 
-pub passes-16 : (theta eta : Float) → isNoIndividual (individual theta eta) ≡ false → In16 eta
+pub passes-16 : (theta eta : Float) → isNoIndividual (individual theta eta) ≡ false → WithinEdge eta
 unfolding exp
 passes-16 theta eta h =
-    let outside : exp eta ≡ nan → In16 eta = λ e. false-not-true (sym (individual-nan theta eta e) ∙ h) in
-    by-low (le (neg sixteen) eta) refl outside
+    let outside : exp eta ≡ nan → WithinEdge eta = λ e. false-not-true (sym (individual-nan theta eta e) ∙ h) in
+    by-low (le (neg edge) eta) refl outside
   where
-    by-high : (b : Bool) → le eta sixteen ≡ b → le (neg sixteen) eta ≡ true → (exp eta ≡ nan → In16 eta) → In16 eta
+    by-high : (b : Bool) → le eta edge ≡ b → le (neg edge) eta ≡ true → (exp eta ≡ nan → WithinEdge eta) → WithinEdge eta
     by-high true e l out = record { low = of-true _ l; high = of-true _ e }
     by-high false e l out = out (pick-yes _ _ _ l ∙ pick-no _ _ _ e)
 
-    by-low : (b : Bool) → le (neg sixteen) eta ≡ b → (exp eta ≡ nan → In16 eta) → In16 eta
-    by-low true e out = by-high (le eta sixteen) refl e out
+    by-low : (b : Bool) → le (neg edge) eta ≡ b → (exp eta ≡ nan → WithinEdge eta) → WithinEdge eta
+    by-low true e out = by-high (le eta edge) refl e out
     by-low false e out = out (pick-no _ _ _ e)
 
 -- ---- the individual values of a question
 pub record Passed (eta : Pair) (effects : ℕ) : Type 0 where
-  pub first : In16 (eta .first)
-  pub second : effects ≡ 2 → In16 (eta .second)
+  pub first : WithinEdge (eta .first)
+  pub second : effects ≡ 2 → WithinEdge (eta .second)
 
-pub values-16 : (theta eta : Pair) (effects : ℕ) (v : Pair) → individualValues theta eta effects ≡ given v → Passed eta effects
+pub values-within : (theta eta : Pair) (effects : ℕ) (v : Pair) → individualValues theta eta effects ≡ given v → Passed eta effects
 unfolding individualValues
-values-16 theta eta effects v =
+values-within theta eta effects v =
     let f = individual (theta .first) (eta .first) in
     let s = individual (theta .second) (eta .second) in
     cases (λ (a : Answer Pair). a ≡ given v → Passed eta effects) (isNoIndividual f) (λ t e. never e)
@@ -84,14 +84,14 @@ not-nan nan h = h
 not-nan (inf s) h = h
 not-nan (fin s m e) h = h
 
-pub prior-number : (score eta omega : Float) → T (finite score) → In16 eta → T (le (word 0x3eb0_0000_0000_0000) omega) → T (le omega (word 0x4130_0000_0000_0000)) → T (not (isNan (score +ᶠ eta /ᶠ omega)))
+pub prior-number : (score eta omega : Float) → T (finite score) → WithinEdge eta → T (le (word 0x3eb0_0000_0000_0000) omega) → T (le omega (word 0x4130_0000_0000_0000)) → T (not (isNan (score +ᶠ eta /ᶠ omega)))
 unfolding fits
 prior-number score eta om f w low high =
     let o = in-20 om low high in
     not-nan _ (finite-add-num score (eta /ᶠ om) f (within-finite 24 _ (div-within 4 19 eta om (record { high = tt; low = tt }) (in-16 eta w) (least-20 om o low))))
 
-pub sixteen-number : (x : Float) → In16 x → T (not (isNan x))
+pub edge-number : (x : Float) → WithinEdge x → T (not (isNan x))
 unfolding le isNan
-sixteen-number nan w = w .high
-sixteen-number (inf s) w = tt
-sixteen-number (fin s m e) w = tt
+edge-number nan w = w .high
+edge-number (inf s) w = tt
+edge-number (fin s m e) w = tt

@@ -38,7 +38,7 @@ use Rattle.setup.specs.declared.Parameters.{Parameters}
 use Rattle.setup.specs.declared.Setup.{Setup}
 use Rattle.session_theorems.proofs.Domains.{domain1, domain2}
 use Rattle.session_theorems.proofs.Fitting.{Fits, FitsBoth, zero-fits, point-fits, TrialFits, start-fits, advance-fits, point2-fits}
-use Rattle.session_theorems.proofs.Points.{Passed, prior-number, sixteen-number}
+use Rattle.session_theorems.proofs.Points.{Passed, prior-number, edge-number}
 
 -- what the session's answer says in the rules' own terms
 abbrev pub wantsOf : (I : Inner) → Wanted → Rules.Wanted (I .rules .Point)
@@ -143,7 +143,7 @@ suits1 = record {
   advances = λ fit p eta sums e. ap (λ (a : Advanced). a .progress .search) (pick-no _ _ _ (one-not-two fit e));
   answers = λ fit p eta sums e d w passed f. record {
     asked = point-one (request (B.settings fit p) (p .search)) eta (sym (wanted-one fit e p) ∙ w) .0;
-    etaNumber = sixteen-number (eta .first) (passed .first);
+    etaNumber = edge-number (eta .first) (passed .first);
     scoreNumber = prior-number (sums .score .first) (eta .first) (fit .omega) (all-finite sums f .1) (passed .first) (d .omegaLow) (d .omegaHigh);
   };
   domain = λ setup parameters p e f o sh w. domain1 setup parameters p e f o sh (w .first);

@@ -26,12 +26,12 @@ use Rattle.words.specs.Words.{zeros}
 use Rattle.population.specs.Kept.{Recalled, Store, recallAt, orderRows, words}
 use Rattle.session_theorems.proofs.Plain.{split}
 use Rattle.session_theorems.proofs.Lengths.{AsLong, zeros-length, recalled-length}
-use Rattle.session_theorems.proofs.Points.{In16}
+use Rattle.session_theorems.proofs.Points.{WithinEdge}
 
 -- a kept evaluation that a search may go on with
 pub record Fine (key : CacheKey) (terms : CachedTerms) : Type 0 where
-  pub first : In16 (word (key .eta0))
-  pub second : In16 (word (key .eta1))
+  pub first : WithinEdge (word (key .eta0))
+  pub second : WithinEdge (word (key .eta1))
   pub finite : hasNonfiniteSum (sumsOf terms) ≡ false
 
 -- what a store promises where K is k: at most n evaluations were kept

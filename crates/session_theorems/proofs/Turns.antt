@@ -52,21 +52,21 @@ use Rattle.session.specs.Session.{Held, held, heldBy, turnHeld, session}
 use Rattle.session_theorems.specs.Inner.{Inner, recalledSums, view}
 use Rattle.session_theorems.proofs.Fitting.{Fits, FitsBoth}
 use Rattle.session_theorems.proofs.Lengths.{AsLong, zeros-length, move-rows-length}
-use Rattle.session_theorems.proofs.Points.{In16, zero-in-16, Passed, values-16}
+use Rattle.session_theorems.proofs.Points.{WithinEdge, zero-in-16, Passed, values-within}
 use Rattle.session_theorems.proofs.Searches.{Suits, wantsOf}
 use Rattle.session_theorems.proofs.Standing.{Alike, advanced-alike, recallOf, Standing, still, fit-effects, fit-k, fit-most, fit-bound}
 use Rattle.session_theorems.proofs.Stores.{Fine, Trusted}
 
 -- ---- the bits of a point tell it
 pub key-fine : (fit : Fit) (subject : ℕ) (eta : Pair) (effects : ℕ) → fit .effects ≡ effects → FitsBoth eta
-    → (In16 (word (B.keyOf fit subject eta .eta0)) → In16 (word (B.keyOf fit subject eta .eta1)) → Passed eta effects) × (Passed eta effects → In16 (word (B.keyOf fit subject eta .eta0)) × In16 (word (B.keyOf fit subject eta .eta1)))
+    → (WithinEdge (word (B.keyOf fit subject eta .eta0)) → WithinEdge (word (B.keyOf fit subject eta .eta1)) → Passed eta effects) × (Passed eta effects → WithinEdge (word (B.keyOf fit subject eta .eta0)) × WithinEdge (word (B.keyOf fit subject eta .eta1)))
 unfolding B.keyOf B.key1 B.key2
 key-fine fit subject eta effects e f =
     let one : word (toBits binary64 (eta .first)) ≡ eta .first = ofBits-toBits binary64 (eta .first) (f .first) in
     let two : word (toBits binary64 (eta .second)) ≡ eta .second = ofBits-toBits binary64 (eta .second) (f .second) in
-    cases (λ (k : CacheKey). (In16 (word (k .eta0)) → In16 (word (k .eta1)) → Passed eta effects) × (Passed eta effects → In16 (word (k .eta0)) × In16 (word (k .eta1)))) (eqb (fit .effects) 2)
-    (λ q. (λ a b. record { first = subst In16 one a; second = λ k. subst In16 two b }, λ p. (subst In16 (sym one) (p .first), subst In16 (sym two) (p .second (sym e ∙ is-two (fit .effects) q)))))
-    (λ q. (λ a b. record { first = subst In16 one a; second = λ k. absurd (subst T (sym (eq-eqb _ _ (e ∙ k)) ∙ q) tt) }, λ p. (subst In16 (sym one) (p .first), zero-in-16)))
+    cases (λ (k : CacheKey). (WithinEdge (word (k .eta0)) → WithinEdge (word (k .eta1)) → Passed eta effects) × (Passed eta effects → WithinEdge (word (k .eta0)) × WithinEdge (word (k .eta1)))) (eqb (fit .effects) 2)
+    (λ q. (λ a b. record { first = subst WithinEdge one a; second = λ k. subst WithinEdge two b }, λ p. (subst WithinEdge (sym one) (p .first), subst WithinEdge (sym two) (p .second (sym e ∙ is-two (fit .effects) q)))))
+    (λ q. (λ a b. record { first = subst WithinEdge one a; second = λ k. absurd (subst T (sym (eq-eqb _ _ (e ∙ k)) ∙ q) tt) }, λ p. (subst WithinEdge (sym one) (p .first), zero-in-16)))
   where
     is-two : (n : ℕ) → eqb n 2 ≡ true → n ≡ 2
     is-two n q = eqb→eq _ _ (subst T (sym q) tt)
@@ -242,7 +242,7 @@ module _ (S : Store) (setup : Setup) (counts : List ℕ) (observations : List Ob
           count = s .count;
           trust = s .trust;
           few = omega (arith, s .few);
-          waiting = λ t. record { eta = eta; wants = e; passed = subst (Passed eta) effects-are (values-16 (fit .theta) eta (fit .effects) v d); missing = q; fewer = omega (arith, s .few) };
+          waiting = λ t. record { eta = eta; wants = e; passed = subst (Passed eta) effects-are (values-within (fit .theta) eta (fit .effects) v d); missing = q; fewer = omega (arith, s .few) };
         }
 
         asks : (v : Pair) → w .tally .calls .0 < setup .«max_evaluations» → individualValues (fit .theta) eta (fit .effects) ≡ given v → Goes h (halt (Answers.Asked eta v) (asking v))

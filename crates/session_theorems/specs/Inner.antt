@@ -22,6 +22,7 @@ use Rattle.mode_2d.specs.declared.population_focei_2d.Request2.{Request2}
 use Rattle.mode_2d.specs.declared.population_focei_2d.Request2.the-variants as Two
 use Rattle.mode_theorems.specs.History as H1
 use Rattle.mode_theorems.specs.Claim.{Found, AtBound, Several, Unsettled}
+use Rattle.mode_theorems.specs.Claim as C1
 use Rattle.mode_theorems.specs.History2 as H2
 use Rattle.mode_theorems.specs.Claim2.{Found2, Unresolved, NoInverse}
 use Rattle.mode_theorems.specs.Claim2 as C2
@@ -79,9 +80,9 @@ pub record Refusal1 (s : Settings) (h : List Conditional) (n : ℕ) : Type 0 whe
   -- there is no other number
   pub numbers : (n ≡ 13) ⊎ ((n ≡ 14) ⊎ (n ≡ 15))
 
--- document 01's domain; 82; and what a mode is
+-- document 01's domain; the ceiling; and what a mode is
 abbrev pub claims1 : Claims rules1
-claims1 = record { Domain = H1.Domain; ceiling = 82; Good = Found; Means = Refusal1 }
+claims1 = record { Domain = H1.Domain; ceiling = C1.ceiling; Good = Found; Means = Refusal1 }
 
 -- ---- two effects
 
@@ -112,9 +113,9 @@ pub record Refusal2 (s : Settings2) (h : List Conditional2) (n : ℕ) : Type 0 w
   -- there is no other number
   pub numbers : (n ≡ 13) ⊎ ((n ≡ 14) ⊎ (n ≡ 16))
 
--- an accepted omega; 6,343; and what a mode is
+-- an accepted omega; the ceiling; and what a mode is
 abbrev pub claims2 : Claims rules2
-claims2 = record { Domain = λ s. (omega : List (List Float)) × H2.Accepted omega s; ceiling = 6343; Good = Found2; Means = Refusal2 }
+claims2 = record { Domain = λ s. (omega : List (List Float)) × H2.Accepted omega s; ceiling = C2.ceiling; Good = Found2; Means = Refusal2 }
 
 -- ---- a subject's search within an objective, for either
 

@@ -33,6 +33,7 @@ use Rattle.population.specs.Kept.{words}
 use Rattle.session.specs.Session.{Held, Call, objective, reply, failure, opened, session}
 use Rattle.session_theorems.specs.Inner.{Inner, inner1, inner2, view}
 use Rattle.session_theorems.specs.Setup.{Granted}
+use Rattle.work.specs.Work.{resultWords, fittedWords}
 
 -- ---- of any machine
 
@@ -229,9 +230,9 @@ module _ (setup : Setup) (counts : List ℕ) (observations : List Observation) (
 
   -- three words of the results for each subject
   pub record Result (i : ℕ) (m : I .rules .Conditional) (results : List ℕ) : Type 0 where
-    pub first : getD results (3 * i) 0 ≡ L .first m
-    pub second : getD results (3 * i + 1) 0 ≡ L .second m
-    pub nll : getD results (3 * i + 2) 0 ≡ L .nll m
+    pub first : getD results (resultWords * i) 0 ≡ L .first m
+    pub second : getD results (resultWords * i + 1) 0 ≡ L .second m
+    pub nll : getD results (resultWords * i + 2) 0 ≡ L .nll m
 
   -- the trial at eta zero, and the one that became the mode
   pub record Trials (x : Searched (I .rules)) (m : I .rules .Conditional) : Type 0 where
@@ -257,9 +258,9 @@ module _ (setup : Setup) (counts : List ℕ) (observations : List Observation) (
 
   pub record Fitted (x : Searched (I .rules)) (m : I .rules .Conditional) (b : Trials x m) (results : List ℕ) : Type 0 where
     pub population : (k : ℕ) → k < getD counts (x .subject) 0
-        → getD results (3 * length counts + 2 * (before counts (x .subject) + k)) 0 ≡ prediction (b .zero) k
+        → getD results (resultWords * length counts + fittedWords * (before counts (x .subject) + k)) 0 ≡ prediction (b .zero) k
     pub individual : (k : ℕ) → k < getD counts (x .subject) 0
-        → getD results (3 * length counts + 2 * (before counts (x .subject) + k) + 1) 0 ≡ prediction (b .mode) k
+        → getD results (resultWords * length counts + fittedWords * (before counts (x .subject) + k) + 1) 0 ≡ prediction (b .mode) k
 
   -- past 17: the warm start, the result, the predictions at eta zero and at the mode, whose times and sides are the same
   pub record InWords (x : Searched (I .rules)) (m : I .rules .Conditional) (h : Held words) : Type 0 where

@@ -16,12 +16,15 @@ use Rattle.population.specs.Kept.{words}
 use Rattle.session.specs.Session.{Held, Call, session, opened}
 use Rattle.session_theorems.specs.Shown.{before}
 use Rattle.session_theorems.specs.Setup.{Granted}
+use Rattle.work.specs.Work.{resultWords, fittedWords}
 
 module _ (setup : Setup) (counts : List ℕ) where
   -- the result words of the subjects from i on, with their predictions, and the warm starts of those from k on, are as they were
   pub record Stays (i k : ℕ) (h t : Held words) : Type 0 where
-    pub results : (x : ℕ) → 3 * i ≤ x → x < 3 * length counts → getD (t .whole .results) x 0 ≡ getD (h .whole .results) x 0
-    pub predictions : (x : ℕ) → 3 * length counts + 2 * before counts i ≤ x → getD (t .whole .results) x 0 ≡ getD (h .whole .results) x 0
+    pub results : (x : ℕ) → resultWords * i ≤ x → x < resultWords * length counts
+        → getD (t .whole .results) x 0 ≡ getD (h .whole .results) x 0
+    pub predictions : (x : ℕ) → resultWords * length counts + fittedWords * before counts i ≤ x
+        → getD (t .whole .results) x 0 ≡ getD (h .whole .results) x 0
     pub warm : (x : ℕ) → setup .effects * k ≤ x → getD (t .whole .warm) x 0 ≡ getD (h .whole .warm) x 0
 
   -- a subject that is refused gets no result, and a warm start with 17 alone; the later ones get nothing

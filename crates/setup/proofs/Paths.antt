@@ -9,7 +9,7 @@ use lib.Dec.{ltb, eqb}
 use lib.ListN.{getD, drop, length, drop-of-length-le}
 use lib.Seq.{drop-cons}
 use lib.Ieee.{Float, le, lt, ne}
-use Rattle.float64.specs.Arithmetic.{word}
+use Rattle.float64.specs.Arithmetic.{word, edge}
 use Rattle.float64.specs.Float64.{nonfinite}
 use Rattle.float64.specs.Pick.{yes, no, yesOf, noOf}
 use Rattle.matrix.specs.Matrix.{answer, inversePositive}
@@ -164,7 +164,7 @@ module _ (x : Float) {b : Bool} (e : b ≡ nonfinite x) where
   finite-tolerance t = noOf _ e t refl
 
 -- ---- check 3; b is what `is_beyond` answered, d what `is_no_tolerance` did
-module _ (s : Setup) {b : Bool} (e : b ≡ isBeyond (s .«eta_bound») (word 0x3f50_0000_0000_0000) (word 0x4030_0000_0000_0000)) where
+module _ (s : Setup) {b : Bool} (e : b ≡ isBeyond (s .«eta_bound») (word 0x3f50_0000_0000_0000) edge) where
   pub no-bound : b ≡ true → true ≡ isNoShape s
   unfolding isNoShape
   no-bound t = yesOf _ e t refl

@@ -5,12 +5,12 @@ use Prim.Native.Nat.{ℕ, _+_, _-_, _*_}
 use lib.Dec.{ltb, eqb}
 use lib.ListN.{length}
 use lib.Ieee.{Float, le, lt, ne}
-use Rattle.float64.specs.Arithmetic.{word}
+use Rattle.float64.specs.Arithmetic.{word, edge}
 use Rattle.float64.specs.Float64.{nonfinite}
 use Rattle.float64.specs.Pick.{pick}
 use Rattle.matrix.specs.Matrix.{pair, Inverse, some, none, inversePositive}
-use Rattle.cache.specs.Cache.{rowWords}
-use Rattle.work.specs.Work.{mostSubjects, mostRows}
+use Rattle.cache.specs.Cache.{keptWords}
+use Rattle.work.specs.Work.{mostSubjects, mostRows, workWords, resultWords, fittedWords}
 use Rattle.subject.specs.declared.AdditiveSd.{AdditiveSd}
 use Rattle.subject.specs.declared.AdditiveSd.the-variants.{Own, Override}
 use Rattle.subject.specs.declared.Check.{Check}
@@ -83,7 +83,7 @@ isNoTolerance tolerance = pick (nonfinite tolerance) true (le tolerance (word 0)
 
 unfoldable pub isNoShape : Setup → Bool
 isNoShape setup =
-    pick (isBeyond (setup .«eta_bound») (word 0x3f50_0000_0000_0000) (word 0x4030_0000_0000_0000)) true
+    pick (isBeyond (setup .«eta_bound») (word 0x3f50_0000_0000_0000) edge) true
     (pick (isNoTolerance (setup .«gradient_tolerance»)) true
     (pick (eqb (setup .width) 0) true
     (pick (ltb 64 (setup .width)) true
@@ -96,10 +96,10 @@ isNoShape setup =
 
 unfoldable pub isShort : Setup → ℕ → ℕ → ℕ → Lent → Bool
 isShort setup subjects total largest lent =
-    pick (ltb (lent .work) (4 * rowWords * largest)) true
-    (pick (ltb (lent .cache) (24 * setup .k)) true
+    pick (ltb (lent .work) (workWords * largest)) true
+    (pick (ltb (lent .cache) (keptWords * setup .k)) true
     (pick (ltb (lent .warm) (setup .effects * subjects)) true
-    (ltb (lent .results) (2 * total + 3 * subjects))))
+    (ltb (lent .results) (fittedWords * total + resultWords * subjects))))
 
 -- ---- in their order; 4 is what the check of the observations found
 

@@ -63,16 +63,16 @@ fn is_short(setup: Setup, subjects: usize, total: usize, largest: usize, lent: L
     requires { ⌜ (setup .effects ≤ 2) × (setup .k ≤ 100000) × (subjects ≤ 4096) × (total ≤ 100000) × (largest ≤ 100000) ⌝ }
     ensures { λ r. ⌜ r ≡ isShort setup subjects total largest lent ⌝ }
 {
-    if lent.work < 4 * cache::ROW_WORDS * largest {
+    if lent.work < work::WORK_WORDS * largest {
         return true;
     }
-    if lent.cache < 24 * setup.k {
+    if lent.cache < cache::KEPT_WORDS * setup.k {
         return true;
     }
     if lent.warm < setup.effects as usize * subjects {
         return true;
     }
-    lent.results < 2 * total + 3 * subjects
+    lent.results < work::FITTED_WORDS * total + work::RESULT_WORDS * subjects
 }
 
 // ---- all of them

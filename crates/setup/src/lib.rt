@@ -140,7 +140,7 @@ fn is_no_tolerance(gradient_tolerance: f64) -> bool
 pub fn is_no_shape(setup: Setup) -> bool
     ensures { λ r. ⌜ r ≡ isNoShape setup ⌝ }
 {
-    if is_beyond(setup.eta_bound, 0.0009765625, 16.0) {
+    if is_beyond(setup.eta_bound, 0.0009765625, float64::EDGE) {
         return true;
     }
     if is_no_tolerance(setup.gradient_tolerance) {

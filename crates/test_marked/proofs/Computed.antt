@@ -17,6 +17,7 @@ use Rattle.cache.specs.Cache as Cache
 use Rattle.cache.specs.Kept as Entries
 use Rattle.population.specs.Kept as Kept
 use Rattle.work.specs.Work as Work
+use Rattle.words.specs.Words as Words
 use Rattle.subject.specs.Reply as Reply
 use Rattle.subject.specs.Subject as Subject
 use Rattle.subject.specs.Observations as Observations
@@ -51,7 +52,7 @@ searches = computed
 
 -- kept evaluations, work words and results
 unfoldable pub words : Computed
-unfolding Cache.part Cache.hash Cache.headOf Cache.chain Cache.bits Cache.hasBit Cache.entryPlace Cache.linkPlace Cache.rowPlace Cache.latestOf Cache.filterOf Cache.linkOf Cache.bitsOf Cache.isRoom Cache.walk Cache.find Cache.raised Cache.evict Cache.putRing Cache.entryWords Cache.withBit Cache.written Cache.isKept Cache.placed Cache.insert Kept.recallAt Kept.orderRows Work.zeros Work.block Work.copyWords Work.copyBlock Work.moveRows Work.isSameRow Work.sameFrom Work.isSameGrid Work.resultWritten Work.fittedAt Work.fittedRow Work.fittedFrom Work.fittedWritten
+unfolding Cache.part Cache.hash Cache.headOf Cache.chain Cache.bits Cache.hasBit Cache.entryPlace Cache.linkPlace Cache.rowPlace Cache.latestOf Cache.filterOf Cache.linkOf Cache.bitsOf Cache.isRoom Cache.walk Cache.find Cache.raised Cache.evict Cache.putRing Cache.entryWords Cache.withBit Cache.written Cache.isKept Cache.placed Cache.insert Kept.recallAt Kept.orderRows Words.zeros Work.block Work.copyWords Work.copyBlock Work.moveRows Work.isSameRow Work.sameFrom Work.isSameGrid Work.resultWritten Work.fittedAt Work.fittedRow Work.fittedFrom Work.fittedWritten
 words = computed
 
 -- a subject's evaluation

@@ -20,6 +20,7 @@ mod reading;
 
 ghost use Prim.Native.Nat.{_≤_};
 use answers::Answer;
+use program_calls::OBSERVATION_WORDS;
 use search::CachedRows;
 use search::Calls;
 use search::Tally;
@@ -99,7 +100,7 @@ fn read_words(words: &mut [u64], left: &mut u64) -> usize {
 // The words of the observations; so many observations.
 fn read_observations(observations: &mut [u64], left: &mut u64) -> usize {
     let n = reading::at_most(reading::number(reading::next(left)), OBSERVATIONS);
-    reading::fill(observations, 5 * n, left);
+    reading::fill(observations, OBSERVATION_WORDS * n, left);
     n
 }
 
@@ -443,7 +444,8 @@ fn act_on(
     if 3 < kind {
         return host;
     }
-    let end = 5 * reading::at_most(host.observations, observations.len() / 5);
+    let end = OBSERVATION_WORDS
+        * reading::at_most(host.observations, observations.len() / OBSERVATION_WORDS);
     let subjects = reading::at_most(host.subjects, counts.len());
     let replied = reading::at_most(host.replied, words.len());
     lend(

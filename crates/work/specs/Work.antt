@@ -19,6 +19,19 @@ mostSubjects = 4096
 abbrev pub mostRows : ℕ
 mostRows = 100000
 
+-- the blocks of rows in the work words, and so the work words of an observation; the results' words of a subject and of an observation
+abbrev pub blocks : ℕ
+blocks = 4
+
+abbrev pub workWords : ℕ
+workWords = blocks * rowWords
+
+abbrev pub resultWords : ℕ
+resultWords = 3
+
+abbrev pub fittedWords : ℕ
+fittedWords = 2
+
 -- ---- the blocks: 0 the rows at eta zero, 1 the best point's, 2 the latest's, 3 the trial's
 
 abbrev pub rowsLength : ℕ → ℕ
@@ -59,15 +72,16 @@ isSameGrid work rows = sameFrom (smaller rows mostRows) work rows 0
 
 unfoldable pub resultWritten : ℕ → Pair → Float → List ℕ → List ℕ
 resultWritten subject eta nll results =
-    let at = 3 * subject in
+    let at = resultWords * subject in
     set (set (set results at (toBits binary64 (eta .first))) (at + 1) (toBits binary64 (eta .second))) (at + 2) (toBits binary64 nll)
 
 unfoldable pub fittedAt : ℕ → ℕ → ℕ
-fittedAt subjects first = 3 * smaller subjects mostSubjects + 2 * smaller first mostRows
+fittedAt subjects first = resultWords * smaller subjects mostSubjects + fittedWords * smaller first mostRows
 
 unfoldable pub fittedRow : ℕ → List ℕ → ℕ → ℕ → List ℕ → List ℕ
 fittedRow at work rows i results =
-    set (set results (at + 2 * i) (getD work (block rows 0 + rowWords * i) 0)) (at + 2 * i + 1) (getD work (block rows 1 + rowWords * i) 0)
+    set (set results (at + fittedWords * i) (getD work (block rows 0 + rowWords * i) 0)) (at + fittedWords * i + 1)
+    (getD work (block rows 1 + rowWords * i) 0)
 
 -- n rows from the i-th on
 unfoldable pub fittedFrom : ℕ → ℕ → List ℕ → ℕ → ℕ → List ℕ → List ℕ

@@ -21,6 +21,14 @@ pub const MOST_SUBJECTS: usize = 4096;
 
 pub const MOST_ROWS: usize = 100000;
 
+// The work words of an observation, a row in each of four blocks.
+pub const WORK_WORDS: usize = 4 * ROW_WORDS;
+
+// The results' words of a subject and of an observation.
+pub const RESULT_WORDS: usize = 3;
+
+pub const FITTED_WORDS: usize = 2;
+
 // The blocks.
 pub const POPULATION: usize = 0;
 

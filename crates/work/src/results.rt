@@ -4,9 +4,11 @@ ghost use mathlib.Core.Path.{_≡_};
 ghost use Rattle.words.specs.Words.{smaller};
 ghost use Rattle.work.specs.Work.{resultWritten, fittedAt, fittedWritten};
 use super::BEST;
+use super::FITTED_WORDS;
 use super::MOST_ROWS;
 use super::MOST_SUBJECTS;
 use super::POPULATION;
+use super::RESULT_WORDS;
 use super::block;
 use cache::ROW_WORDS;
 use matrix::Pair;
@@ -19,7 +21,7 @@ pub fn write_result(results: &mut [u64], subject: usize, eta: Pair, nll: f64)
     if results.len() <= subject {
         return;
     }
-    let at = 3 * subject;
+    let at = RESULT_WORDS * subject;
     words::put(results, at, float64::to_word(eta.first));
     words::put(results, at + 1, float64::to_word(eta.second));
     words::put(results, at + 2, float64::to_word(nll));
@@ -29,7 +31,7 @@ pub fn write_result(results: &mut [u64], subject: usize, eta: Pair, nll: f64)
 fn fitted_at(subjects: usize, first: usize) -> usize
     ensures { λ r. ⌜ r ≡ fittedAt subjects first ⌝ }
 {
-    3 * smaller(subjects, MOST_SUBJECTS) + 2 * smaller(first, MOST_ROWS)
+    RESULT_WORDS * smaller(subjects, MOST_SUBJECTS) + FITTED_WORDS * smaller(first, MOST_ROWS)
 }
 
 // The predictions at eta zero and at the mode.
@@ -44,12 +46,12 @@ pub fn write_fitted(results: &mut [u64], subjects: usize, first: usize, work: &[
     while i < n {
         words::put(
             results,
-            at + 2 * i,
+            at + FITTED_WORDS * i,
             words::read(work, population + ROW_WORDS * i),
         );
         words::put(
             results,
-            at + 2 * i + 1,
+            at + FITTED_WORDS * i + 1,
             words::read(work, best + ROW_WORDS * i),
         );
         i += 1;

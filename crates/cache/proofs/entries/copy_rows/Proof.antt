@@ -3,7 +3,7 @@ use borrow.Author.Needs.{needs}
 use native.Mathlib.Omega.{arith}
 use Rattle.float64.proofs.Laws.{free}
 use Rattle.cache.proofs.Paths.{room-says}
-use Rattle.cache.proofs.KeptEntriesPaths.{copies-no-room, copies-too-many, copies-not-lent, copies-past-end, copies}
+use Rattle.cache.proofs.EntriesPaths.{copies-no-room, copies-too-many, copies-not-lent, copies-past-end, copies}
 use Rattle.cache.proofs.entries.copy_rows.Statement.{statement}
 use Rattle.cache.proofs.entries.copy_rows.Tie as tie
 

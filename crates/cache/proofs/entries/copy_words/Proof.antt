@@ -5,7 +5,7 @@ use Prim.Native.Nat.{_<_}
 use native.Mathlib.Omega.{arith}
 use native.Mathlib.Nat.{mod-lt}
 use Rattle.float64.proofs.Laws.{free}
-use Rattle.cache.proofs.KeptEntriesPaths.{in-one-run, in-two-runs}
+use Rattle.cache.proofs.EntriesPaths.{in-one-run, in-two-runs}
 use Rattle.cache.proofs.entries.copy_words.Statement.{statement}
 use Rattle.cache.proofs.entries.copy_words.Tie as tie
 

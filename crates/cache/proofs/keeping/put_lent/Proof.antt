@@ -12,13 +12,13 @@ rem-at c = search needs
 sub-left : tie.Need-sub-left
 sub-left c = let start = c .before .before in omega (arith, mod-lt (start .args .start) (start .pre .0))
 
-add-put-run : tie.Need-add-put-run
-add-put-run c = let start = c .before .before .before .before in omega (arith, mod-lt (start .args .start) (start .pre .0), start .pre .2)
+add-copy-run : tie.Need-add-copy-run
+add-copy-run c = let start = c .before .before .before .before in omega (arith, mod-lt (start .args .start) (start .pre .0), start .pre .2)
 
-put-run-requires : tie.Need-put-run-requires
-put-run-requires c κs =
+copy-run-requires : tie.Need-copy-run-requires
+copy-run-requires c κs =
     let start = c .before .before .before .before in
-    (omega (arith, mod-lt (start .args .start) (start .pre .0), c .before .if1 .taken, start .pre .2), start .pre .3)
+    (start .pre .3, omega (arith, mod-lt (start .args .start) (start .pre .0), c .before .if1 .taken, start .pre .2))
 
 same-length : tie.Need-same-length
 same-length c = search needs
@@ -26,25 +26,25 @@ same-length c = search needs
 returns : tie.Need-returns
 returns c =
     let test = c .before .before .before .before in
-    in-one-run _ _ _ _ _ _ _ (test .before .before .before .pre .0) (test .if1 .taken) (c .before .before .put-run .ensures)
+    in-one-run _ _ _ _ _ _ _ (test .before .before .before .pre .0) (test .if1 .taken) (c .before .before .copy-run .ensures)
 
-add-put-run-2 : tie.Need-add-put-run-2
-add-put-run-2 c = let start = c .before .before .before .before in omega (arith, mod-lt (start .args .start) (start .pre .0), start .pre .2)
+add-copy-run-2 : tie.Need-add-copy-run-2
+add-copy-run-2 c = let start = c .before .before .before .before in omega (arith, mod-lt (start .args .start) (start .pre .0), start .pre .2)
 
-put-run-requires-2 : tie.Need-put-run-requires-2
-put-run-requires-2 c κs =
+copy-run-requires-2 : tie.Need-copy-run-requires-2
+copy-run-requires-2 c κs =
     let start = c .before .before .before .before in
     let m = mod-lt (start .args .start) (start .pre .0) in
-    (omega (arith, m, start .pre .2), omega (arith, m, c .before .if1 .left, start .pre .3))
+    (omega (arith, m, c .before .if1 .left, start .pre .3), omega (arith, m, start .pre .2))
 
-add-put-run-3 : tie.Need-add-put-run-3
-add-put-run-3 c = search needs
+add-copy-run-3 : tie.Need-add-copy-run-3
+add-copy-run-3 c = search needs
 
-sub-put-run : tie.Need-sub-put-run
-sub-put-run c = search needs
+sub-copy-run : tie.Need-sub-copy-run
+sub-copy-run c = search needs
 
-put-run-requires-3 : tie.Need-put-run-requires-3
-put-run-requires-3 c κs = search needs
+copy-run-requires-3 : tie.Need-copy-run-requires-3
+copy-run-requires-3 c κs = search needs
 
 same-length-2 : tie.Need-same-length-2
 same-length-2 c = search needs
@@ -54,11 +54,11 @@ returns-2 c =
     let first = c .before .before .before .before .before .before in
     let test = first .before .before in
     let start = test .before .before .before in
-    in-two-runs _ _ _ _ _ _ _ (start .pre .0) (start .pre .1) (test .if1 .left) (first .put-run2 .ensures) (c .before .before .put-run3 .ensures)
+    in-two-runs _ _ _ _ _ _ _ (start .pre .0) (start .pre .1) (test .if1 .left) (first .copy-run2 .ensures) (c .before .before .copy-run3 .ensures)
 
 pub put-lent-spec : {M : Type 1} → statement M
 put-lent-spec =
     tie.close
     (tie.spec
-    rem-at sub-left add-put-run put-run-requires same-length returns add-put-run-2 put-run-requires-2 add-put-run-3
-    sub-put-run put-run-requires-3 same-length-2 returns-2)
+    rem-at sub-left add-copy-run copy-run-requires same-length returns add-copy-run-2 copy-run-requires-2 add-copy-run-3
+    sub-copy-run copy-run-requires-3 same-length-2 returns-2)

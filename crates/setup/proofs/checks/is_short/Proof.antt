@@ -9,9 +9,6 @@ use Rattle.setup.proofs.checks.is_short.Tie as tie
 mul-if1 : tie.Need-mul-if1
 mul-if1 c = search needs
 
-mul-if1-2 : tie.Need-mul-if1-2
-mul-if1-2 c = search needs
-
 returns : tie.Need-returns
 returns c = little-work _ _ _ _ _ (c .if1 .taken)
 
@@ -52,5 +49,5 @@ pub is-short-spec : {M : Type 1} → statement M
 is-short-spec =
     tie.close
     (tie.spec
-    mul-if1 mul-if1-2 returns mul-if2 returns-2 cast-if3 mul-if3 returns-3 mul-result mul-result-2 add-result
+    mul-if1 returns mul-if2 returns-2 cast-if3 mul-if3 returns-3 mul-result mul-result-2 add-result
     returns-4)

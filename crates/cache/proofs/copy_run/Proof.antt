@@ -6,8 +6,8 @@ use Prim.Native.Nat.{_-_}
 use lib.ListN.{length, length-set}
 use Rattle.cache.specs.Cache.{copyRun}
 use Rattle.cache.proofs.Runs.{run-end, run-step}
-use Rattle.cache.proofs.entries.copy_run.Statement.{statement}
-use Rattle.cache.proofs.entries.copy_run.Tie as tie
+use Rattle.cache.proofs.copy_run.Statement.{statement}
+use Rattle.cache.proofs.copy_run.Tie as tie
 
 abbrev Inv-loop : tie.InvT-loop
 Inv-loop words from n out₀ to i₀ out i = (copyRun (n - i) words from out to i ≡ copyRun n words from out₀ to 0) × (length out ≡ length out₀)
