@@ -1,7 +1,6 @@
 ghost use mathlib.Core.Path.{_≡_};
 ghost use Rattle.session.specs.Session.{allChecked, objective, reply as replies, failure};
 ghost use Rattle.host_calls.specs.Hosting.{setupOf, parametersOf, out, setupOver, callOver, doneWith};
-use host_calls::Done;
 use host_calls::SessionParameters;
 use host_calls::SessionSetup;
 use likelihood::population_focei::Observation;
@@ -111,54 +110,6 @@ pub extern "C" fn curlewstand_objective(
     begun.number
 }
 
-// A reply, with the tally by value, where `check` is the observations'.
-fn reply_checked(
-    setup: SessionSetup,
-    tally: Tally,
-    check: Check,
-    observations: &[Observation],
-    counts: &[u64],
-    reply: &[u64],
-    state: &mut [u64],
-    answer: &mut [u64],
-    cache: &mut [u64],
-    work: &mut [u64],
-    warm: &mut [u64],
-    results: &mut [u64],
-) -> Done
-    requires { ⌜ check ≡ allChecked (setupOf setup) (now counts) (now observations) ⌝ }
-    ensures { λ r. ⌜ out r (now (state .exit)) (now (answer .exit)) (now (cache .exit)) (now (work .exit)) (now (warm .exit))
-        (now (results .exit))
-        ≡ callOver (setupOf setup) (now (counts .entry)) (now (observations .entry)) tally (now (state .entry)) (now (answer .entry))
-        (now (cache .entry)) (now (work .entry)) (now (warm .entry)) (now (results .entry)) (replies (now (reply .entry))) ⌝ }
-{
-    let n = observations.len();
-    let lent = session::lent_of(n, cache.len(), work.len(), warm.len(), results.len());
-    let admitted = host_calls::replies::admit_reply(
-        setup,
-        tally,
-        check,
-        lent,
-        counts,
-        reply,
-        state,
-    );
-    let evaluation = observations::evaluate(observations, admitted, reply, work);
-    host_calls::replies::finish_reply(
-        setup,
-        tally,
-        admitted,
-        evaluation,
-        counts,
-        state,
-        answer,
-        cache,
-        work,
-        warm,
-        results,
-    )
-}
-
 // Takes the simulator's reply to the question that was asked, and runs on until it has a question or an
 // end. The reply's words are rows: time, side (0 pre, any other post), `width` values, then `width`
 // derivatives for each effect.
@@ -184,10 +135,11 @@ pub extern "C" fn curlewstand_reply(
 {
     let before = observations::tally_now(tally);
     let check = check_lent(setup, observations, counts);
-    let taken = reply_checked(
+    let taken = observations::reply_checked(
         setup,
         before,
         check,
+        false,
         observations,
         counts,
         reply,

@@ -2,7 +2,6 @@ ghost use mathlib.Core.Path.{_≡_};
 ghost use Rattle.subject.specs.Observations.{checkObservations};
 ghost use Rattle.host_calls.specs.Hosting.{setupOf, out, doneWith};
 ghost use Rattle.host_calls.specs.SubjectReplies.{subjectChecked, subjectReplyOver};
-use host_calls::Done;
 use host_calls::SessionSetup;
 use likelihood::population_focei::Observation;
 use search::Tally;
@@ -25,54 +24,6 @@ fn check_subject(
 {
     let n = observations.len();
     observations::check_observations(observations, 0, n, first, setup.width, counts)
-}
-
-// The reply, with the tally by value, where `check` is the observations'.
-fn reply_checked(
-    setup: SessionSetup,
-    tally: Tally,
-    check: Check,
-    observations: &[Observation],
-    counts: &[u64],
-    reply: &[u64],
-    state: &mut [u64],
-    answer: &mut [u64],
-    cache: &mut [u64],
-    work: &mut [u64],
-    warm: &mut [u64],
-    results: &mut [u64],
-) -> Done
-    requires { ⌜ check ≡ subjectChecked (setupOf setup) (now counts) (now observations) (now state) ⌝ }
-    ensures { λ r. ⌜ out r (now (state .exit)) (now (answer .exit)) (now (cache .exit)) (now (work .exit)) (now (warm .exit))
-        (now (results .exit))
-        ≡ subjectReplyOver (setupOf setup) (now (counts .entry)) (now (observations .entry)) tally (now (state .entry))
-        (now (answer .entry)) (now (cache .entry)) (now (work .entry)) (now (warm .entry)) (now (results .entry)) (now (reply .entry)) ⌝ }
-{
-    let n = observations.len();
-    let lent = session::lent_of(n, cache.len(), work.len(), warm.len(), results.len());
-    let admitted = host_calls::replies::admit_subject_reply(
-        setup,
-        tally,
-        check,
-        lent,
-        counts,
-        reply,
-        state,
-    );
-    let evaluation = observations::evaluate(observations, admitted, reply, work);
-    host_calls::replies::finish_reply(
-        setup,
-        tally,
-        admitted,
-        evaluation,
-        counts,
-        state,
-        answer,
-        cache,
-        work,
-        warm,
-        results,
-    )
 }
 
 // Takes the simulator's reply to the question that was asked, and runs on until it has a question or an
@@ -99,10 +50,11 @@ pub extern "C" fn curlewstand_subject_reply(
     let before = observations::tally_now(tally);
     let first = host_calls::replies::subject_first(state);
     let check = check_subject(setup, observations, counts, first);
-    let taken = reply_checked(
+    let taken = observations::reply_checked(
         setup,
         before,
         check,
+        true,
         observations,
         counts,
         reply,

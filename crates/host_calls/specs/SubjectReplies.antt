@@ -1,9 +1,11 @@
 -- A reply that lends the observations of the awaited subject alone, as a host makes it. The tally and the words are lent as for any call
 -- of the session.
+use mathlib.Core.Bool.{Bool}
 use mathlib.Core.List.{List}
 use Prim.Native.Nat.{ℕ, _-_}
 use lib.ListN.{length, getD, take, drop}
 use Rattle.float64.specs.Answer.{Answer, given, refused}
+use Rattle.float64.specs.Pick.{pick}
 use Rattle.likelihood.specs.declared.population_focei.Observation.{Observation}
 use Rattle.subject.specs.Observations.{checkObservations}
 use Rattle.subject.specs.Subject.{evaluating, addObservations}
@@ -17,7 +19,7 @@ use Rattle.session.specs.declared.Admitted.{Admitted}
 use Rattle.session.specs.declared.State.{State}
 use Rattle.state_words.specs.SessionWords.{loadedState}
 use Rattle.session.specs.SubjectReply.{admitSubjectReply}
-use Rattle.host_calls.specs.Hosting.{Out, finishWith}
+use Rattle.host_calls.specs.Hosting.{Out, admitWith, finishWith}
 
 -- the check begins at the first observation of the subject that the state's words name
 unfoldable pub subjectFirst : List ℕ → Check
@@ -29,6 +31,11 @@ subjectChecked setup counts observations state = checkObservations (setup .width
 unfoldable pub admitSubjectWith : Setup → List ℕ → Lent → Check → Tally → List ℕ → Answer State → Admitted
 admitSubjectWith setup counts lent check tally reply (given s) = admitSubjectReply setup counts lent check s tally reply
 admitSubjectWith setup counts lent check tally reply (refused n) = unadmitted
+
+-- a reply that lends the observations of the awaited subject alone, or those of all subjects
+unfoldable pub admitFor : Bool → Setup → List ℕ → Lent → Check → Tally → List ℕ → Answer State → Admitted
+admitFor alone setup counts lent check tally reply s =
+    pick alone (admitSubjectWith setup counts lent check tally reply s) (admitWith setup counts lent check tally reply s)
 
 -- it is let in or not; the observations are added to its evaluation, none where it is not let in; and the rest is as for a reply that
 -- lends all of them

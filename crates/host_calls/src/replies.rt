@@ -2,9 +2,10 @@
 // the observations to the evaluation. Each function is defined for all values and words. Words that are no
 // state get 19.
 ghost use mathlib.Core.Path.{_≡_};
+ghost use Rattle.session.specs.Calls.{lentBy};
 ghost use Rattle.state_words.specs.SessionWords.{loadedState};
 ghost use Rattle.host_calls.specs.Hosting.{setupOf, out, admitWith, finishWith};
-ghost use Rattle.host_calls.specs.SubjectReplies.{subjectFirst, admitSubjectWith};
+ghost use Rattle.host_calls.specs.SubjectReplies.{subjectFirst, admitSubjectWith, admitFor};
 use super::Done;
 use super::SessionSetup;
 use search::Tally;
@@ -15,8 +16,8 @@ use subject::Check;
 use subject::Evaluation;
 use subject::Position;
 
-// The first part of a reply. The state is only read.
-pub fn admit_reply(
+// The first part of a reply that lends the observations of all subjects. The state is only read.
+fn admit_reply(
     setup: SessionSetup,
     tally: Tally,
     check: Check,
@@ -58,7 +59,7 @@ pub fn subject_first(state: &mut [u64]) -> Check
 
 // The first part of a reply that lends the observations of the awaited subject alone. The state is only
 // read.
-pub fn admit_subject_reply(
+fn admit_subject_reply(
     setup: SessionSetup,
     tally: Tally,
     check: Check,
@@ -77,6 +78,32 @@ pub fn admit_subject_reply(
         }
         LoadedState::None => session::checks::unadmitted(),
     }
+}
+
+// The first part of a reply, lent so many observations and words: of one that lends the observations of the
+// awaited subject `alone`, or those of all subjects. The state is only read.
+pub fn admit(
+    setup: SessionSetup,
+    tally: Tally,
+    check: Check,
+    alone: bool,
+    observations: usize,
+    cache: usize,
+    work: usize,
+    warm: usize,
+    results: usize,
+    counts: &[u64],
+    reply: &[u64],
+    state: &mut [u64],
+) -> Admitted
+    ensures { λ r. ⌜ (r ≡ admitFor alone (setupOf setup) (now (counts .entry)) (lentBy observations cache work warm results) check tally
+        (now (reply .entry)) (loadedState (now (state .entry)))) × (now (state .exit) ≡ now (state .entry)) ⌝ }
+{
+    let lent = session::lent_of(observations, cache, work, warm, results);
+    if alone {
+        return admit_subject_reply(setup, tally, check, lent, counts, reply, state);
+    }
+    admit_reply(setup, tally, check, lent, counts, reply, state)
 }
 
 // The second part of a reply, with the evaluation that the observations were added to.

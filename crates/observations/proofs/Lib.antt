@@ -3,3 +3,4 @@ pub mod Deviation
 pub mod Loop
 pub mod Paths
 pub mod Runs
+pub mod Replied

@@ -4,8 +4,11 @@ ghost use lib.ListN.{length, take, drop};
 ghost use Rattle.subject.specs.Subject.{evaluating, addObservations};
 ghost use Rattle.words.specs.Words.{smaller};
 ghost use Rattle.subject.specs.Observations.{observationAt, isNoDeviation, isSound, nextPlace, checkAt, checkObservation, checkObservations};
-ghost use Rattle.observations.specs.Lending.{evaluateOver};
+ghost use Rattle.host_calls.specs.Hosting.{setupOf, out};
+ghost use Rattle.observations.specs.Lending.{evaluateOver, repliedOver};
 use float64::LARGEST;
+use host_calls::Done;
+use host_calls::SessionSetup;
 use likelihood::population_focei::Observation;
 use search::Tally;
 use session::Admitted;
@@ -170,7 +173,7 @@ pub fn keep_tally(tally: &mut Tally, value: Tally)
 }
 
 // The observations of a reply that is let in are added to its evaluation.
-pub fn evaluate(
+fn evaluate(
     observations: &[Observation],
     admitted: Admitted,
     reply: &[u64],
@@ -187,5 +190,58 @@ pub fn evaluate(
         admitted.trial,
         reply,
         work,
+    )
+}
+
+// A reply, with the tally by value, where `check` is what was found of the observations: of those of the
+// awaited subject `alone`, or of all subjects'.
+pub fn reply_checked(
+    setup: SessionSetup,
+    tally: Tally,
+    check: Check,
+    alone: bool,
+    observations: &[Observation],
+    counts: &[u64],
+    reply: &[u64],
+    state: &mut [u64],
+    answer: &mut [u64],
+    cache: &mut [u64],
+    work: &mut [u64],
+    warm: &mut [u64],
+    results: &mut [u64],
+) -> Done
+    ensures { λ r. ⌜ out r (now (state .exit)) (now (answer .exit)) (now (cache .exit)) (now (work .exit)) (now (warm .exit))
+        (now (results .exit))
+        ≡ repliedOver alone (setupOf setup) (now (counts .entry)) (now (observations .entry)) check tally (now (state .entry))
+        (now (answer .entry)) (now (cache .entry)) (now (work .entry)) (now (warm .entry)) (now (results .entry)) (now (reply .entry)) ⌝ }
+{
+    let n = observations.len();
+    let admitted = host_calls::replies::admit(
+        setup,
+        tally,
+        check,
+        alone,
+        n,
+        cache.len(),
+        work.len(),
+        warm.len(),
+        results.len(),
+        counts,
+        reply,
+        state,
+    );
+    let evaluation = evaluate(observations, admitted, reply, work);
+    host_calls::replies::finish_reply(
+        setup,
+        tally,
+        admitted,
+        evaluation,
+        counts,
+        state,
+        answer,
+        cache,
+        work,
+        warm,
+        results,
     )
 }

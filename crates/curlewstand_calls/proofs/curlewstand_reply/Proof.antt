@@ -1,4 +1,4 @@
--- `curlewstand_reply` meets its contract: a walk of its MIR by hand, since it takes lent structs. It is straight: calls, whose answers a law of hosting, in its Whole, puts together. Assumes nothing.
+-- `curlewstand_reply` meets its contract: a walk of its MIR by hand, since it takes lent structs. It is straight: calls, whose answers a law, in Paths, puts together. Assumes nothing.
 use mathlib.Core.Path.{_≡_, refl, sym, ap, subst, _∙_}
 use Prim.Native.Nat.{ℕ, _<_, _≤_, _^_, _+_, _-_, _*_}
 use native.Mathlib.Omega.{arith}
@@ -62,9 +62,11 @@ use Rattle.subject.proofs.Check.Laws as K′
 use Rattle.host_calls.specs.declared.Done.{Done}
 use Rattle.host_calls.proofs.Done as DO
 use Rattle.host_calls.proofs.Done.Laws as DO′
+use mathlib.Core.Bool.{true, false}
 use Rattle.session.specs.Session.{allChecked, reply as replies}
-use Rattle.host_calls.specs.Hosting.{setupOf, out, callOver}
-use Rattle.host_calls.specs.Hosting.{doneWith as done-with}
+use Rattle.host_calls.specs.Hosting.{setupOf, out, callOver, doneWith as done-with}
+use Rattle.observations.specs.Lending.{repliedOver}
+use Rattle.curlewstand_calls.proofs.Paths.{all-replied}
 use Rattle.observations.proofs.tally_now as n
 use Rattle.observations.proofs.tally_now.Symbol as n-def
 use Rattle.observations.proofs.tally_now.Symbol.{name as #n}
@@ -73,14 +75,14 @@ use Rattle.curlewstand_calls.proofs.check_lent as c
 use Rattle.curlewstand_calls.proofs.check_lent.Symbol as c-def
 use Rattle.curlewstand_calls.proofs.check_lent.Symbol.{name as #c}
 use Rattle.curlewstand_calls.proofs.check_lent.Met as c-thm
+use Rattle.observations.proofs.reply_checked as j
+use Rattle.observations.proofs.reply_checked.Symbol as j-def
+use Rattle.observations.proofs.reply_checked.Symbol.{name as #j}
+use Rattle.observations.proofs.reply_checked.Met as j-thm
 use Rattle.observations.proofs.keep_tally as k2
 use Rattle.observations.proofs.keep_tally.Symbol as k2-def
 use Rattle.observations.proofs.keep_tally.Symbol.{name as #k2}
 use Rattle.observations.proofs.keep_tally.Met as k2-thm
-use Rattle.curlewstand_calls.proofs.reply_checked as j
-use Rattle.curlewstand_calls.proofs.reply_checked.Symbol as j-def
-use Rattle.curlewstand_calls.proofs.reply_checked.Symbol.{name as #j}
-use Rattle.curlewstand_calls.proofs.reply_checked.Met as j-thm
 use Rattle.curlewstand_calls.proofs.curlewstand_reply.Key.{name as #f}
 use Rattle.curlewstand_calls.proofs.curlewstand_reply as f
 use Rattle.curlewstand_calls.proofs.curlewstand_reply.Statement as stated
@@ -100,11 +102,11 @@ module _ {M : Type 1} (𝓤 : URA M) (H : Heap 𝓤) (A : Atoms 𝓤) (at-mem : 
   abbrev c-con : Contract 𝓤
   c-con = tripleOf 𝓤 H A c.signature (c.spec 𝓤 H A at-mem run)
 
-  abbrev k2-con : Contract 𝓤
-  k2-con = tripleOf 𝓤 H A k2.signature (k2.spec 𝓤 H A at-mem run)
-
   abbrev j-con : Contract 𝓤
   j-con = tripleOf 𝓤 H A j.signature (j.spec 𝓤 H A at-mem run)
+
+  abbrev k2-con : Contract 𝓤
+  k2-con = tripleOf 𝓤 H A k2.signature (k2.spec 𝓤 H A at-mem run)
 
 module _ {M : Type 1} (𝓤 : URA M) (H : Heap 𝓤) (A : Atoms 𝓤) (W : Given 𝓤 H A) (at-mem : Memory → SProp 𝓤) (run : Routine → Fun 𝓤)
     (κ-observations : Lft) (q-observations : Share) (κ-counts : Lft) (q-counts : Share) (κ-reply : Lft) (q-reply : Share) (κ-tally : Lft) (q-tally : Share) (κ-state : Lft) (q-state : Share) (κ-answer : Lft) (q-answer : Share) (κ-cache : Lft) (q-cache : Share) (κ-work : Lft) (q-work : Share) (κ-warm : Lft) (q-warm : Share) (κ-results : Lft) (q-results : Share) (x-setup : SessionSetup) (x-observations : RefT (List Observation)) (x-counts : RefT (List ℕ)) (x-reply : RefT (List ℕ)) (x-tally : RefT Tally) (x-state : RefT (List ℕ)) (x-answer : RefT (List ℕ)) (x-cache : RefT (List ℕ)) (x-work : RefT (List ℕ)) (x-warm : RefT (List ℕ)) (x-results : RefT (List ℕ)) (v-setup : Val)
@@ -124,7 +126,7 @@ module _ {M : Type 1} (𝓤 : URA M) (H : Heap 𝓤) (A : Atoms 𝓤) (W : Given
   abbrev bound : walkOf 𝓤 H A f.ended stayed (f.clauses 𝓤 H A at-mem run) .Ghost
   bound = (((κ-observations, (κ-counts, (κ-reply, (κ-tally, (κ-state, (κ-answer, (κ-cache, (κ-work, (κ-warm, (κ-results, tt)))))))))), (q-observations, (q-counts, (q-reply, (q-tally, (q-state, (q-answer, (q-cache, (q-work, (q-warm, (q-results, tt)))))))))), tt, x, at), tt)
 
-  module _ (C : Calls 𝓤 H) (Λ : Loops 𝓤 H) (fm : FmC 𝓤 H (W .laws) C) (known-n : Triple 𝓤 (C #n) (n-con 𝓤 H A at-mem run)) (known-c : Triple 𝓤 (C #c) (c-con 𝓤 H A at-mem run)) (known-k2 : Triple 𝓤 (C #k2) (k2-con 𝓤 H A at-mem run)) (known-j : Triple 𝓤 (C #j) (j-con 𝓤 H A at-mem run)) where
+  module _ (C : Calls 𝓤 H) (Λ : Loops 𝓤 H) (fm : FmC 𝓤 H (W .laws) C) (known-n : Triple 𝓤 (C #n) (n-con 𝓤 H A at-mem run)) (known-c : Triple 𝓤 (C #c) (c-con 𝓤 H A at-mem run)) (known-j : Triple 𝓤 (C #j) (j-con 𝓤 H A at-mem run)) (known-k2 : Triple 𝓤 (C #k2) (k2-con 𝓤 H A at-mem run)) where
     walk : ent 𝓤 (onEntry 𝓤 H A f.signature (κ-observations, (κ-counts, (κ-reply, (κ-tally, (κ-state, (κ-answer, (κ-cache, (κ-work, (κ-warm, (κ-results, tt)))))))))) (q-observations, (q-counts, (q-reply, (q-tally, (q-state, (q-answer, (q-cache, (q-work, (q-warm, (q-results, tt)))))))))) x at) (WpFn 𝓤 H C Λ code.function (v-setup ∷ sliceVal (x-observations .ptr) (length (x-observations .now)) ∷ sliceVal (x-counts .ptr) (length (x-counts .now)) ∷ sliceVal (x-reply .ptr) (length (x-reply .now)) ∷ vptr (x-tally .ptr .0) (x-tally .ptr .1) ∷ sliceVal (x-state .ptr) (length (x-state .now)) ∷ sliceVal (x-answer .ptr) (length (x-answer .now)) ∷ sliceVal (x-cache .ptr) (length (x-cache .now)) ∷ sliceVal (x-work .ptr) (length (x-work .now)) ∷ sliceVal (x-warm .ptr) (length (x-warm .now)) ∷ sliceVal (x-results .ptr) (length (x-results .now)) ∷ []) (walkOf 𝓤 H A f.ended stayed (f.clauses 𝓤 H A at-mem run) .post bound))
     walk =
         qed W ((‵ (flft κ-observations q-observations) ⊛ ‵ (flft κ-counts q-counts) ⊛ ‵ (flft κ-reply q-reply) ⊛ ‵ (flft κ-tally q-tally) ⊛ ‵ (flft κ-state q-state) ⊛ ‵ (flft κ-answer q-answer) ⊛ ‵ (flft κ-cache q-cache) ⊛ ‵ (flft κ-work q-work) ⊛ ‵ (flft κ-warm q-warm) ⊛ ‵ (flft κ-results q-results) ⊛ ‵ ftrue) ∷ ‵ (owns (S.the-row ∷ ShrSlice (named 0) κ-observations O.the-row ∷ ShrSlice (named 1) κ-counts u64 ∷ ShrSlice (named 2) κ-reply u64 ∷ MutRef (named 3) κ-tally T.the-row ∷ MutSlice (named 4) κ-state u64 ∷ MutSlice (named 5) κ-answer u64 ∷ MutSlice (named 6) κ-cache u64 ∷ MutSlice (named 7) κ-work u64 ∷ MutSlice (named 8) κ-warm u64 ∷ MutSlice (named 9) κ-results u64 ∷ []) x at) ∷ []) ∵ enter ! C Λ code.function (v-setup ∷ sliceVal (x-observations .ptr) (length (x-observations .now)) ∷ sliceVal (x-counts .ptr) (length (x-counts .now)) ∷ sliceVal (x-reply .ptr) (length (x-reply .now)) ∷ vptr (x-tally .ptr .0) (x-tally .ptr .1) ∷ sliceVal (x-state .ptr) (length (x-state .now)) ∷ sliceVal (x-answer .ptr) (length (x-answer .now)) ∷ sliceVal (x-cache .ptr) (length (x-cache .now)) ∷ sliceVal (x-work .ptr) (length (x-work .now)) ∷ sliceVal (x-warm .ptr) (length (x-warm .now)) ∷ sliceVal (x-results .ptr) (length (x-results .now)) ∷ []) _ $
@@ -179,13 +181,13 @@ module _ {M : Type 1} (𝓤 : URA M) (H : Heap 𝓤) (A : Atoms 𝓤) (W : Given
         move ! (14 ∷ []) $ use1 W (‵ (ShrSlice (named 2) κ-reply u64 .own (x-reply) (sliceVal (x-reply .ptr) (length (x-reply .now)) ∷ [])) ⊛ ‵ (ShrSlice (named 2) κ-reply u64 .own (x-reply) (sliceVal (x-reply .ptr) (length (x-reply .now)) ∷ []))) (shr-slice-copy 𝓤 H A W (named 2) κ-reply u64 .twice x-reply (sliceVal (x-reply .ptr) (length (x-reply .now)) ∷ [])) $ split ! $
         -- `reply_checked`
         move ! (7 ∷ 6 ∷ 22 ∷ 21 ∷ 20 ∷ 19 ∷ 18 ∷ 17 ∷ 16 ∷ 5 ∷ 3 ∷ 1 ∷ 15 ∷ 14 ∷ 13 ∷ 12 ∷ 11 ∷ 10 ∷ []) $ group ! 18 $
-        use1 W (raw (j-con 𝓤 H A at-mem run .pre (((κ-observations, (κ-counts, (κ-reply, (κ-state, (κ-answer, (κ-cache, (κ-work, (κ-warm, (κ-results, tt))))))))), (q-observations, (q-counts, (q-reply, (q-state, (q-answer, (q-cache, (q-work, (q-warm, (q-results, tt))))))))), tt, (x-setup, (r1, (r2, (x-observations, (x-counts, (x-reply, (x-state, (x-answer, (x-cache, (x-work, (x-warm, (x-results, tt)))))))))))), (v-setup ∷ [], (v1 ∷ [], (v2 ∷ [], (sliceVal (x-observations .ptr) (length (x-observations .now)) ∷ [], (sliceVal (x-counts .ptr) (length (x-counts .now)) ∷ [], (sliceVal (x-reply .ptr) (length (x-reply .now)) ∷ [], (sliceVal (x-state .ptr) (length (x-state .now)) ∷ [], (sliceVal (x-answer .ptr) (length (x-answer .now)) ∷ [], (sliceVal (x-cache .ptr) (length (x-cache .now)) ∷ [], (sliceVal (x-work .ptr) (length (x-work .now)) ∷ [], (sliceVal (x-warm .ptr) (length (x-warm .now)) ∷ [], (sliceVal (x-results .ptr) (length (x-results .now)) ∷ [], tt))))))))))))), tt))) (qed W (‵ (flft κ-observations q-observations) ∷ ‵ (flft κ-counts q-counts) ∷ ‵ (flft κ-reply q-reply) ∷ ‵ (flft κ-state q-state) ∷ ‵ (flft κ-answer q-answer) ∷ ‵ (flft κ-cache q-cache) ∷ ‵ (flft κ-work q-work) ∷ ‵ (flft κ-warm q-warm) ∷ ‵ (flft κ-results q-results) ∷ ‵ (ShrSlice (named 0) κ-observations O.the-row .own (x-observations) (sliceVal (x-observations .ptr) (length (x-observations .now)) ∷ [])) ∷ ‵ (ShrSlice (named 1) κ-counts u64 .own (x-counts) (sliceVal (x-counts .ptr) (length (x-counts .now)) ∷ [])) ∷ ‵ (ShrSlice (named 2) κ-reply u64 .own (x-reply) (sliceVal (x-reply .ptr) (length (x-reply .now)) ∷ [])) ∷ ‵ (MutSlice (named 4) κ-state u64 .own (x-state) (sliceVal (x-state .ptr) (length (x-state .now)) ∷ [])) ∷ ‵ (MutSlice (named 5) κ-answer u64 .own (x-answer) (sliceVal (x-answer .ptr) (length (x-answer .now)) ∷ [])) ∷ ‵ (MutSlice (named 6) κ-cache u64 .own (x-cache) (sliceVal (x-cache .ptr) (length (x-cache .now)) ∷ [])) ∷ ‵ (MutSlice (named 7) κ-work u64 .own (x-work) (sliceVal (x-work .ptr) (length (x-work .now)) ∷ [])) ∷ ‵ (MutSlice (named 8) κ-warm u64 .own (x-warm) (sliceVal (x-warm .ptr) (length (x-warm .now)) ∷ [])) ∷ ‵ (MutSlice (named 9) κ-results u64 .own (x-results) (sliceVal (x-results .ptr) (length (x-results .now)) ∷ [])) ∷ []) ∵ says ! e2 $ nothing ! $ move ! (9 ∷ 0 ∷ []) $ join ! $ move ! (8 ∷ 0 ∷ []) $ join ! $ move ! (7 ∷ 0 ∷ []) $ join ! $ move ! (6 ∷ 0 ∷ []) $ join ! $ move ! (5 ∷ 0 ∷ []) $ join ! $ move ! (4 ∷ 0 ∷ []) $ join ! $ move ! (3 ∷ 0 ∷ []) $ join ! $ move ! (2 ∷ 0 ∷ []) $ join ! $ move ! (1 ∷ 0 ∷ []) $ join ! $ frame ! $ nothing ! $ move ! (9 ∷ 0 ∷ []) $ fjoin ! $ move ! (8 ∷ 0 ∷ []) $ fjoin ! $ move ! (7 ∷ 0 ∷ []) $ fjoin ! $ move ! (6 ∷ 0 ∷ []) $ fjoin ! $ move ! (5 ∷ 0 ∷ []) $ fjoin ! $ move ! (4 ∷ 0 ∷ []) $ fjoin ! $ move ! (3 ∷ 0 ∷ []) $ fjoin ! $ move ! (2 ∷ 0 ∷ []) $ fjoin ! $ move ! (1 ∷ 0 ∷ []) $ fjoin ! $ owned ! K.the-row (Is K.the-row) (EL.makes K.the-type K′.the-plain 𝓤 H A) r2 (v2 ∷ []) is2 $ fjoin ! $ owned ! T.the-row (Is T.the-row) (LL.makes T.the-type T′.the-plain 𝓤 H A) r1 (v1 ∷ []) is1 $ fjoin ! $ owned ! S.the-row (Is S.the-row) (LL.makes S.the-type S′.the-plain 𝓤 H A) x-setup (v-setup ∷ []) is-setup $ fjoin ! $ done !) $
-        calls-at ! fm (j-con 𝓤 H A at-mem run) known-j (((κ-observations, (κ-counts, (κ-reply, (κ-state, (κ-answer, (κ-cache, (κ-work, (κ-warm, (κ-results, tt))))))))), (q-observations, (q-counts, (q-reply, (q-state, (q-answer, (q-cache, (q-work, (q-warm, (q-results, tt))))))))), tt, (x-setup, (r1, (r2, (x-observations, (x-counts, (x-reply, (x-state, (x-answer, (x-cache, (x-work, (x-warm, (x-results, tt)))))))))))), (v-setup ∷ [], (v1 ∷ [], (v2 ∷ [], (sliceVal (x-observations .ptr) (length (x-observations .now)) ∷ [], (sliceVal (x-counts .ptr) (length (x-counts .now)) ∷ [], (sliceVal (x-reply .ptr) (length (x-reply .now)) ∷ [], (sliceVal (x-state .ptr) (length (x-state .now)) ∷ [], (sliceVal (x-answer .ptr) (length (x-answer .now)) ∷ [], (sliceVal (x-cache .ptr) (length (x-cache .now)) ∷ [], (sliceVal (x-work .ptr) (length (x-work .now)) ∷ [], (sliceVal (x-warm .ptr) (length (x-warm .now)) ∷ [], (sliceVal (x-results .ptr) (length (x-results .now)) ∷ [], tt))))))))))))), tt) (and-then ! (load ! (from ! (stop !)) (look ! 62 refl)) (and-then ! (load ! (from ! (stop !)) (look ! 40 refl)) (and-then ! (load ! (from ! (stop !)) (look ! 38 refl)) (and-then ! (load ! (from ! (stop !)) (look ! 60 refl)) (and-then ! (load ! (from ! (stop !)) (look ! 58 refl)) (and-then ! (load ! (from ! (stop !)) (look ! 56 refl)) (and-then ! (load ! (from ! (stop !)) (look ! 30 refl)) (and-then ! (load ! (from ! (stop !)) (look ! 26 refl)) (and-then ! (load ! (from ! (stop !)) (look ! 22 refl)) (and-then ! (load ! (from ! (stop !)) (look ! 18 refl)) (and-then ! (load ! (from ! (stop !)) (look ! 14 refl)) (and-then ! (load ! (from ! (stop !)) (look ! 10 refl)) (no-more !))))))))))))) (λ v3.
-        use1 W (later (some (λ (r3 : Done). ((‵ (flft κ-observations q-observations) ⊛ ‵ (flft κ-counts q-counts) ⊛ ‵ (flft κ-reply q-reply) ⊛ ‵ (flft κ-state q-state) ⊛ ‵ (flft κ-answer q-answer) ⊛ ‵ (flft κ-cache q-cache) ⊛ ‵ (flft κ-work q-work) ⊛ ‵ (flft κ-warm q-warm) ⊛ ‵ (flft κ-results q-results) ⊛ ‵ ftrue) ⊛ ‵ (DO.the-row .own r3 (v3 ∷ []))) ⊛ raw (ensured 𝓤 H A j.ended (j.clauses 𝓤 H A at-mem run) (κ-observations, (κ-counts, (κ-reply, (κ-state, (κ-answer, (κ-cache, (κ-work, (κ-warm, (κ-results, tt))))))))) (x-setup, (r1, (r2, (x-observations, (x-counts, (x-reply, (x-state, (x-answer, (x-cache, (x-work, (x-warm, (x-results, tt)))))))))))) tt r3)))) (id⊢ 𝓤 _) $ await ! tt $ pick ! (λ r3.
+        use1 W (raw (j-con 𝓤 H A at-mem run .pre (((κ-observations, (κ-counts, (κ-reply, (κ-state, (κ-answer, (κ-cache, (κ-work, (κ-warm, (κ-results, tt))))))))), (q-observations, (q-counts, (q-reply, (q-state, (q-answer, (q-cache, (q-work, (q-warm, (q-results, tt))))))))), tt, (x-setup, (r1, (r2, (false, (x-observations, (x-counts, (x-reply, (x-state, (x-answer, (x-cache, (x-work, (x-warm, (x-results, tt))))))))))))), (v-setup ∷ [], (v1 ∷ [], (v2 ∷ [], (vbool false ∷ [], (sliceVal (x-observations .ptr) (length (x-observations .now)) ∷ [], (sliceVal (x-counts .ptr) (length (x-counts .now)) ∷ [], (sliceVal (x-reply .ptr) (length (x-reply .now)) ∷ [], (sliceVal (x-state .ptr) (length (x-state .now)) ∷ [], (sliceVal (x-answer .ptr) (length (x-answer .now)) ∷ [], (sliceVal (x-cache .ptr) (length (x-cache .now)) ∷ [], (sliceVal (x-work .ptr) (length (x-work .now)) ∷ [], (sliceVal (x-warm .ptr) (length (x-warm .now)) ∷ [], (sliceVal (x-results .ptr) (length (x-results .now)) ∷ [], tt)))))))))))))), tt))) (qed W (‵ (flft κ-observations q-observations) ∷ ‵ (flft κ-counts q-counts) ∷ ‵ (flft κ-reply q-reply) ∷ ‵ (flft κ-state q-state) ∷ ‵ (flft κ-answer q-answer) ∷ ‵ (flft κ-cache q-cache) ∷ ‵ (flft κ-work q-work) ∷ ‵ (flft κ-warm q-warm) ∷ ‵ (flft κ-results q-results) ∷ ‵ (ShrSlice (named 0) κ-observations O.the-row .own (x-observations) (sliceVal (x-observations .ptr) (length (x-observations .now)) ∷ [])) ∷ ‵ (ShrSlice (named 1) κ-counts u64 .own (x-counts) (sliceVal (x-counts .ptr) (length (x-counts .now)) ∷ [])) ∷ ‵ (ShrSlice (named 2) κ-reply u64 .own (x-reply) (sliceVal (x-reply .ptr) (length (x-reply .now)) ∷ [])) ∷ ‵ (MutSlice (named 4) κ-state u64 .own (x-state) (sliceVal (x-state .ptr) (length (x-state .now)) ∷ [])) ∷ ‵ (MutSlice (named 5) κ-answer u64 .own (x-answer) (sliceVal (x-answer .ptr) (length (x-answer .now)) ∷ [])) ∷ ‵ (MutSlice (named 6) κ-cache u64 .own (x-cache) (sliceVal (x-cache .ptr) (length (x-cache .now)) ∷ [])) ∷ ‵ (MutSlice (named 7) κ-work u64 .own (x-work) (sliceVal (x-work .ptr) (length (x-work .now)) ∷ [])) ∷ ‵ (MutSlice (named 8) κ-warm u64 .own (x-warm) (sliceVal (x-warm .ptr) (length (x-warm .now)) ∷ [])) ∷ ‵ (MutSlice (named 9) κ-results u64 .own (x-results) (sliceVal (x-results .ptr) (length (x-results .now)) ∷ [])) ∷ []) ∵ nothing ! $ move ! (9 ∷ 0 ∷ []) $ join ! $ move ! (8 ∷ 0 ∷ []) $ join ! $ move ! (7 ∷ 0 ∷ []) $ join ! $ move ! (6 ∷ 0 ∷ []) $ join ! $ move ! (5 ∷ 0 ∷ []) $ join ! $ move ! (4 ∷ 0 ∷ []) $ join ! $ move ! (3 ∷ 0 ∷ []) $ join ! $ move ! (2 ∷ 0 ∷ []) $ join ! $ move ! (1 ∷ 0 ∷ []) $ join ! $ nothing ! $ move ! (10 ∷ 0 ∷ []) $ fjoin ! $ move ! (9 ∷ 0 ∷ []) $ fjoin ! $ move ! (8 ∷ 0 ∷ []) $ fjoin ! $ move ! (7 ∷ 0 ∷ []) $ fjoin ! $ move ! (6 ∷ 0 ∷ []) $ fjoin ! $ move ! (5 ∷ 0 ∷ []) $ fjoin ! $ move ! (4 ∷ 0 ∷ []) $ fjoin ! $ move ! (3 ∷ 0 ∷ []) $ fjoin ! $ move ! (2 ∷ 0 ∷ []) $ fjoin ! $ owned ! bool (Is bool) (bool-makes 𝓤 H A W) false (vbool false ∷ []) refl $ fjoin ! $ owned ! K.the-row (Is K.the-row) (EL.makes K.the-type K′.the-plain 𝓤 H A) r2 (v2 ∷ []) is2 $ fjoin ! $ owned ! T.the-row (Is T.the-row) (LL.makes T.the-type T′.the-plain 𝓤 H A) r1 (v1 ∷ []) is1 $ fjoin ! $ owned ! S.the-row (Is S.the-row) (LL.makes S.the-type S′.the-plain 𝓤 H A) x-setup (v-setup ∷ []) is-setup $ fjoin ! $ move ! (1 ∷ 0 ∷ []) $ join ! $ nothing ! $ move ! (1 ∷ 0 ∷ []) $ done !) $
+        calls-at ! fm (j-con 𝓤 H A at-mem run) known-j (((κ-observations, (κ-counts, (κ-reply, (κ-state, (κ-answer, (κ-cache, (κ-work, (κ-warm, (κ-results, tt))))))))), (q-observations, (q-counts, (q-reply, (q-state, (q-answer, (q-cache, (q-work, (q-warm, (q-results, tt))))))))), tt, (x-setup, (r1, (r2, (false, (x-observations, (x-counts, (x-reply, (x-state, (x-answer, (x-cache, (x-work, (x-warm, (x-results, tt))))))))))))), (v-setup ∷ [], (v1 ∷ [], (v2 ∷ [], (vbool false ∷ [], (sliceVal (x-observations .ptr) (length (x-observations .now)) ∷ [], (sliceVal (x-counts .ptr) (length (x-counts .now)) ∷ [], (sliceVal (x-reply .ptr) (length (x-reply .now)) ∷ [], (sliceVal (x-state .ptr) (length (x-state .now)) ∷ [], (sliceVal (x-answer .ptr) (length (x-answer .now)) ∷ [], (sliceVal (x-cache .ptr) (length (x-cache .now)) ∷ [], (sliceVal (x-work .ptr) (length (x-work .now)) ∷ [], (sliceVal (x-warm .ptr) (length (x-warm .now)) ∷ [], (sliceVal (x-results .ptr) (length (x-results .now)) ∷ [], tt)))))))))))))), tt) (and-then ! (load ! (from ! (stop !)) (look ! 62 refl)) (and-then ! (load ! (from ! (stop !)) (look ! 40 refl)) (and-then ! (load ! (from ! (stop !)) (look ! 38 refl)) (and-then ! (false-lit !) (and-then ! (load ! (from ! (stop !)) (look ! 60 refl)) (and-then ! (load ! (from ! (stop !)) (look ! 58 refl)) (and-then ! (load ! (from ! (stop !)) (look ! 56 refl)) (and-then ! (load ! (from ! (stop !)) (look ! 30 refl)) (and-then ! (load ! (from ! (stop !)) (look ! 26 refl)) (and-then ! (load ! (from ! (stop !)) (look ! 22 refl)) (and-then ! (load ! (from ! (stop !)) (look ! 18 refl)) (and-then ! (load ! (from ! (stop !)) (look ! 14 refl)) (and-then ! (load ! (from ! (stop !)) (look ! 10 refl)) (no-more !)))))))))))))) (λ v3.
+        use1 W (later (some (λ (r3 : Done). ((‵ (flft κ-observations q-observations) ⊛ ‵ (flft κ-counts q-counts) ⊛ ‵ (flft κ-reply q-reply) ⊛ ‵ (flft κ-state q-state) ⊛ ‵ (flft κ-answer q-answer) ⊛ ‵ (flft κ-cache q-cache) ⊛ ‵ (flft κ-work q-work) ⊛ ‵ (flft κ-warm q-warm) ⊛ ‵ (flft κ-results q-results) ⊛ ‵ ftrue) ⊛ ‵ (DO.the-row .own r3 (v3 ∷ []))) ⊛ raw (ensured 𝓤 H A j.ended (j.clauses 𝓤 H A at-mem run) (κ-observations, (κ-counts, (κ-reply, (κ-state, (κ-answer, (κ-cache, (κ-work, (κ-warm, (κ-results, tt))))))))) (x-setup, (r1, (r2, (false, (x-observations, (x-counts, (x-reply, (x-state, (x-answer, (x-cache, (x-work, (x-warm, (x-results, tt))))))))))))) tt r3)))) (id⊢ 𝓤 _) $ await ! tt $ pick ! (λ r3.
         split ! $ split ! $
-        move ! (2 ∷ []) $ use1 W (some (λ (z3 : (Unit {0} × (Unit {0} × (Unit {0} × (Unit {0} × (Unit {0} × (Unit {0} × (List ℕ × (List ℕ × (List ℕ × (List ℕ × (List ℕ × (List ℕ × Unit {0}))))))))))))). ‵ (lasts j.ended (κ-observations, (κ-counts, (κ-reply, (κ-state, (κ-answer, (κ-cache, (κ-work, (κ-warm, (κ-results, tt))))))))) (x-setup, (r1, (r2, (x-observations, (x-counts, (x-reply, (x-state, (x-answer, (x-cache, (x-work, (x-warm, (x-results, tt)))))))))))) z3) ⊛ raw (fact 𝓤 (out r3 (z3 .1 .1 .1 .1 .1 .1 .0) (z3 .1 .1 .1 .1 .1 .1 .1 .0) (z3 .1 .1 .1 .1 .1 .1 .1 .1 .0) (z3 .1 .1 .1 .1 .1 .1 .1 .1 .1 .0) (z3 .1 .1 .1 .1 .1 .1 .1 .1 .1 .1 .0) (z3 .1 .1 .1 .1 .1 .1 .1 .1 .1 .1 .1 .0) ≡ callOver (setupOf x-setup) (x-counts .now) (x-observations .now) r1 (x-state .now) (x-answer .now) (x-cache .now) (x-work .now) (x-warm .now) (x-results .now) (replies (x-reply .now)))))) (id⊢ 𝓤 _) $ pick ! (λ z3.
-        split ! $ move ! (1 ∷ []) $ heard ! (out r3 (z3 .1 .1 .1 .1 .1 .1 .0) (z3 .1 .1 .1 .1 .1 .1 .1 .0) (z3 .1 .1 .1 .1 .1 .1 .1 .1 .0) (z3 .1 .1 .1 .1 .1 .1 .1 .1 .1 .0) (z3 .1 .1 .1 .1 .1 .1 .1 .1 .1 .1 .0) (z3 .1 .1 .1 .1 .1 .1 .1 .1 .1 .1 .1 .0) ≡ callOver (setupOf x-setup) (x-counts .now) (x-observations .now) r1 (x-state .now) (x-answer .now) (x-cache .now) (x-work .now) (x-warm .now) (x-results .now) (replies (x-reply .now))) (λ e3.
-        fsplit ! $ drop ! $ fsplit ! $ drop ! $ fsplit ! $ drop ! $ fsplit ! $ drop ! $ fsplit ! $ drop ! $ fsplit ! $ drop ! $ fsplit ! $ fsplit ! $ move ! (1 ∷ []) $ feqL ! (λ len-state3. move ! (1 ∷ []) $ fsplit ! $ fsplit ! $ move ! (1 ∷ []) $ feqL ! (λ len-answer3. move ! (1 ∷ []) $ fsplit ! $ fsplit ! $ move ! (1 ∷ []) $ feqL ! (λ len-cache3. move ! (1 ∷ []) $ fsplit ! $ fsplit ! $ move ! (1 ∷ []) $ feqL ! (λ len-work3. move ! (1 ∷ []) $ fsplit ! $ fsplit ! $ move ! (1 ∷ []) $ feqL ! (λ len-warm3. move ! (1 ∷ []) $ fsplit ! $ fsplit ! $ move ! (1 ∷ []) $ feqL ! (λ len-results3. move ! (1 ∷ []) $ drop ! $
+        move ! (2 ∷ []) $ use1 W (some (λ (z3 : (Unit {0} × (Unit {0} × (Unit {0} × (Unit {0} × (Unit {0} × (Unit {0} × (Unit {0} × (List ℕ × (List ℕ × (List ℕ × (List ℕ × (List ℕ × (List ℕ × Unit {0})))))))))))))). ‵ (lasts j.ended (κ-observations, (κ-counts, (κ-reply, (κ-state, (κ-answer, (κ-cache, (κ-work, (κ-warm, (κ-results, tt))))))))) (x-setup, (r1, (r2, (false, (x-observations, (x-counts, (x-reply, (x-state, (x-answer, (x-cache, (x-work, (x-warm, (x-results, tt))))))))))))) z3) ⊛ raw (fact 𝓤 (out r3 (z3 .1 .1 .1 .1 .1 .1 .1 .0) (z3 .1 .1 .1 .1 .1 .1 .1 .1 .0) (z3 .1 .1 .1 .1 .1 .1 .1 .1 .1 .0) (z3 .1 .1 .1 .1 .1 .1 .1 .1 .1 .1 .0) (z3 .1 .1 .1 .1 .1 .1 .1 .1 .1 .1 .1 .0) (z3 .1 .1 .1 .1 .1 .1 .1 .1 .1 .1 .1 .1 .0) ≡ repliedOver false (setupOf x-setup) (x-counts .now) (x-observations .now) r2 r1 (x-state .now) (x-answer .now) (x-cache .now) (x-work .now) (x-warm .now) (x-results .now) (x-reply .now))))) (id⊢ 𝓤 _) $ pick ! (λ z3.
+        split ! $ move ! (1 ∷ []) $ heard ! (out r3 (z3 .1 .1 .1 .1 .1 .1 .1 .0) (z3 .1 .1 .1 .1 .1 .1 .1 .1 .0) (z3 .1 .1 .1 .1 .1 .1 .1 .1 .1 .0) (z3 .1 .1 .1 .1 .1 .1 .1 .1 .1 .1 .0) (z3 .1 .1 .1 .1 .1 .1 .1 .1 .1 .1 .1 .0) (z3 .1 .1 .1 .1 .1 .1 .1 .1 .1 .1 .1 .1 .0) ≡ repliedOver false (setupOf x-setup) (x-counts .now) (x-observations .now) r2 r1 (x-state .now) (x-answer .now) (x-cache .now) (x-work .now) (x-warm .now) (x-results .now) (x-reply .now)) (λ e3.
+        fsplit ! $ drop ! $ fsplit ! $ drop ! $ fsplit ! $ drop ! $ fsplit ! $ drop ! $ fsplit ! $ drop ! $ fsplit ! $ drop ! $ fsplit ! $ drop ! $ fsplit ! $ fsplit ! $ move ! (1 ∷ []) $ feqL ! (λ len-state3. move ! (1 ∷ []) $ fsplit ! $ fsplit ! $ move ! (1 ∷ []) $ feqL ! (λ len-answer3. move ! (1 ∷ []) $ fsplit ! $ fsplit ! $ move ! (1 ∷ []) $ feqL ! (λ len-cache3. move ! (1 ∷ []) $ fsplit ! $ fsplit ! $ move ! (1 ∷ []) $ feqL ! (λ len-work3. move ! (1 ∷ []) $ fsplit ! $ fsplit ! $ move ! (1 ∷ []) $ feqL ! (λ len-warm3. move ! (1 ∷ []) $ fsplit ! $ fsplit ! $ move ! (1 ∷ []) $ feqL ! (λ len-results3. move ! (1 ∷ []) $ drop ! $
         move ! (7 ∷ []) $ facts ! DO.the-row (Is DO.the-row) (shows 𝓤 H A DO.the-row) r3 (v3 ∷ []) (λ is3.
         land ! (from ! (stop !)) (init ! 42 refl (LL.lawful DO.the-type DO′.the-laws 𝓤 H A W .typed r3 _ is3 .0)) $
         move ! (6 ∷ []) $ split ! $ move ! (1 ∷ []) $ split ! $ move ! (1 ∷ []) $ split ! $ move ! (1 ∷ []) $ split ! $ move ! (1 ∷ []) $ split ! $ move ! (1 ∷ []) $ split ! $ move ! (1 ∷ []) $ split ! $ move ! (1 ∷ []) $ split ! $ move ! (1 ∷ []) $ split ! $ move ! (1 ∷ []) $ drop ! $
@@ -204,18 +206,18 @@ module _ {M : Type 1} (𝓤 : URA M) (H : Heap 𝓤) (A : Atoms 𝓤) (W : Given
         assigns ! (of-opd ! (load ! (from ! (fld ! refl (stop !))) (look-in ! 50 (sub ! 0 refl (whole !))))) (from ! (stop !)) (init ! 78 refl (uint-lawful 𝓤 H A W w32 .typed (r3 .number) _ (done-is r3 v3 is3 .0) .0)) $
         returns ! (look ! 78 refl) $ forget ! 78 refl $ forget ! 76 refl $ forget ! 74 refl $ forget ! 72 refl $ forget ! 70 refl $ forget ! 68 refl $ forget ! 66 refl $ forget ! 64 refl $ forget ! 62 refl $ forget ! 60 refl $ forget ! 58 refl $ forget ! 56 refl $ forget ! 54 refl $ forget ! 52 refl $ forget ! 50 refl $ forget ! 48 refl $ forget ! 46 refl $ forget ! 44 refl $ forget ! 42 refl $ forget ! 40 refl $ forget ! 38 refl $ forget ! 36 refl $ forget ! 34 refl $ forget ! 32 refl $ forget ! 30 refl $ forget ! 28 refl $ forget ! 26 refl $ forget ! 24 refl $ forget ! 22 refl $ forget ! 20 refl $
         move ! (78 ∷ 79 ∷ []) $ free1 ! $ move ! (76 ∷ 77 ∷ []) $ free1 ! $ move ! (74 ∷ 75 ∷ []) $ free1 ! $ move ! (72 ∷ 73 ∷ []) $ free1 ! $ move ! (70 ∷ 71 ∷ []) $ free1 ! $ move ! (68 ∷ 69 ∷ []) $ free1 ! $ move ! (66 ∷ 67 ∷ []) $ free1 ! $ move ! (64 ∷ 65 ∷ []) $ free1 ! $ move ! (62 ∷ 63 ∷ []) $ free1 ! $ move ! (60 ∷ 61 ∷ []) $ free1 ! $ move ! (58 ∷ 59 ∷ []) $ free1 ! $ move ! (56 ∷ 57 ∷ []) $ free1 ! $ move ! (54 ∷ 55 ∷ []) $ free1 ! $ move ! (52 ∷ 53 ∷ []) $ free1 ! $ move ! (50 ∷ 51 ∷ []) $ free1 ! $ move ! (48 ∷ 49 ∷ []) $ free1 ! $ move ! (46 ∷ 47 ∷ []) $ free1 ! $ move ! (44 ∷ 45 ∷ []) $ free1 ! $ move ! (42 ∷ 43 ∷ []) $ free1 ! $ move ! (40 ∷ 41 ∷ []) $ free1 ! $ move ! (38 ∷ 39 ∷ []) $ free1 ! $ move ! (36 ∷ 37 ∷ []) $ free1 ! $ move ! (34 ∷ 35 ∷ []) $ free1 ! $ move ! (32 ∷ 33 ∷ []) $ free1 ! $ move ! (30 ∷ 31 ∷ []) $ free1 ! $ move ! (28 ∷ 29 ∷ []) $ free1 ! $ move ! (26 ∷ 27 ∷ []) $ free1 ! $ move ! (24 ∷ 25 ∷ []) $ free1 ! $ move ! (22 ∷ 23 ∷ []) $ free1 ! $ move ! (20 ∷ 21 ∷ []) $ free1 ! $ free0 ! $
-        keep ! (10 ∷ 9 ∷ 8 ∷ 0 ∷ 7 ∷ 6 ∷ 5 ∷ 4 ∷ 3 ∷ 2 ∷ 19 ∷ 18 ∷ 17 ∷ 1 ∷ 16 ∷ 15 ∷ 14 ∷ 13 ∷ 12 ∷ 11 ∷ []) $ suffices ! _ (ends-at 𝓤 H A f.ended stayed (f.clauses 𝓤 H A at-mem run) W bound (vint w32 (r3 .number)) (r3 .number) (tt, (tt, (tt, (tt, (z4 .0, (z3 .1 .1 .1 .1 .1 .1 .0, (z3 .1 .1 .1 .1 .1 .1 .1 .0, (z3 .1 .1 .1 .1 .1 .1 .1 .1 .0, (z3 .1 .1 .1 .1 .1 .1 .1 .1 .1 .0, (z3 .1 .1 .1 .1 .1 .1 .1 .1 .1 .1 .0, (z3 .1 .1 .1 .1 .1 .1 .1 .1 .1 .1 .1 .0, tt))))))))))) (tt, (tt, (tt, (tt, (tt, (len-state3, (len-answer3, (len-cache3, (len-work3, (len-warm3, (len-results3, tt)))))))))))) $ says ! (ap (λ (y : Tally). out (done-with (r3 .number) y) (z3 .1 .1 .1 .1 .1 .1 .0) (z3 .1 .1 .1 .1 .1 .1 .1 .0) (z3 .1 .1 .1 .1 .1 .1 .1 .1 .0) (z3 .1 .1 .1 .1 .1 .1 .1 .1 .1 .0) (z3 .1 .1 .1 .1 .1 .1 .1 .1 .1 .1 .0) (z3 .1 .1 .1 .1 .1 .1 .1 .1 .1 .1 .1 .0)) e4 ∙ e3 ∙ ap (λ (y : Tally). callOver (setupOf x-setup) (x-counts .now) (x-observations .now) y (x-state .now) (x-answer .now) (x-cache .now) (x-work .now) (x-warm .now) (x-results .now) (replies (x-reply .now))) (e1 .0)) $
+        keep ! (10 ∷ 9 ∷ 8 ∷ 0 ∷ 7 ∷ 6 ∷ 5 ∷ 4 ∷ 3 ∷ 2 ∷ 19 ∷ 18 ∷ 17 ∷ 1 ∷ 16 ∷ 15 ∷ 14 ∷ 13 ∷ 12 ∷ 11 ∷ []) $ suffices ! _ (ends-at 𝓤 H A f.ended stayed (f.clauses 𝓤 H A at-mem run) W bound (vint w32 (r3 .number)) (r3 .number) (tt, (tt, (tt, (tt, (z4 .0, (z3 .1 .1 .1 .1 .1 .1 .1 .0, (z3 .1 .1 .1 .1 .1 .1 .1 .1 .0, (z3 .1 .1 .1 .1 .1 .1 .1 .1 .1 .0, (z3 .1 .1 .1 .1 .1 .1 .1 .1 .1 .1 .0, (z3 .1 .1 .1 .1 .1 .1 .1 .1 .1 .1 .1 .0, (z3 .1 .1 .1 .1 .1 .1 .1 .1 .1 .1 .1 .1 .0, tt))))))))))) (tt, (tt, (tt, (tt, (tt, (len-state3, (len-answer3, (len-cache3, (len-work3, (len-warm3, (len-results3, tt)))))))))))) $ says ! (ap (λ (y : Tally). out (done-with (r3 .number) y) (z3 .1 .1 .1 .1 .1 .1 .1 .0) (z3 .1 .1 .1 .1 .1 .1 .1 .1 .0) (z3 .1 .1 .1 .1 .1 .1 .1 .1 .1 .0) (z3 .1 .1 .1 .1 .1 .1 .1 .1 .1 .1 .0) (z3 .1 .1 .1 .1 .1 .1 .1 .1 .1 .1 .1 .0) (z3 .1 .1 .1 .1 .1 .1 .1 .1 .1 .1 .1 .1 .0)) e4 ∙ all-replied (setupOf x-setup) (x-counts .now) (x-observations .now) r1 (x-state .now) (x-answer .now) (x-cache .now) (x-work .now) (x-warm .now) (x-results .now) (x-reply .now) e2 e3 ∙ ap (λ (y : Tally). callOver (setupOf x-setup) (x-counts .now) (x-observations .now) y (x-state .now) (x-answer .now) (x-cache .now) (x-work .now) (x-warm .now) (x-results .now) (replies (x-reply .now))) (e1 .0)) $
         nothing ! $ move ! (10 ∷ 0 ∷ []) $ join ! $ move ! (9 ∷ 0 ∷ []) $ join ! $ move ! (8 ∷ 0 ∷ []) $ join ! $ move ! (7 ∷ 0 ∷ []) $ join ! $ move ! (6 ∷ 0 ∷ []) $ join ! $ move ! (5 ∷ 0 ∷ []) $ join ! $ move ! (4 ∷ 0 ∷ []) $ join ! $ move ! (3 ∷ 0 ∷ []) $ join ! $ move ! (2 ∷ 0 ∷ []) $ join ! $ move ! (1 ∷ 0 ∷ []) $ join ! $ frame ! $ nothing ! $ move ! (10 ∷ 0 ∷ []) $ fjoin ! $ move ! (9 ∷ 0 ∷ []) $ fjoin ! $ move ! (8 ∷ 0 ∷ []) $ fjoin ! $ move ! (7 ∷ 0 ∷ []) $ fjoin ! $ move ! (6 ∷ 0 ∷ []) $ fjoin ! $ move ! (5 ∷ 0 ∷ []) $ fjoin ! $ move ! (4 ∷ 0 ∷ []) $ fjoin ! $ move ! (3 ∷ 0 ∷ []) $ fjoin ! $ move ! (2 ∷ 0 ∷ []) $ fjoin ! $ move ! (1 ∷ 0 ∷ []) $ fjoin ! $ owned ! S.the-row (Is S.the-row) (LL.makes S.the-type S′.the-plain 𝓤 H A) x-setup (v-setup ∷ []) is-setup $ fjoin ! $ owned ! u32 (Is u32) (uint-makes 𝓤 H A W w32) (r3 .number) (vint w32 (r3 .number) ∷ []) (done-is r3 v3 is3 .0) $ move ! (1 ∷ 0 ∷ []) $
         done !))))))))))))))))))))))))))))))))))))))))))))))))))))))))))
 
 module _ {M : Type 1} (𝓤 : URA M) (H : Heap 𝓤) (A : Atoms 𝓤) (W : Given 𝓤 H A) (at-mem : Memory → SProp 𝓤) (run : Routine → Fun 𝓤) where
-  walks : (𝓣 : Tables 𝓤 H) → Triple 𝓤 (𝓣 .C #n) (n-con 𝓤 H A at-mem run) → Triple 𝓤 (𝓣 .C #c) (c-con 𝓤 H A at-mem run) → Triple 𝓤 (𝓣 .C #k2) (k2-con 𝓤 H A at-mem run) → Triple 𝓤 (𝓣 .C #j) (j-con 𝓤 H A at-mem run) → Walks 𝓤 H A f.ended stayed (WpFn 𝓤 H (𝓣 .C) (𝓣 .Λ) code.function) (f.clauses 𝓤 H A at-mem run)
-  walks 𝓣 known-n known-c known-k2 known-j = walked 𝓤 H A f.ended stayed (f.clauses 𝓤 H A at-mem run) (WpFn 𝓤 H (𝓣 .C) (𝓣 .Λ) code.function) (λ κs. (LL.vals S.the-type S′.the-laws, (slice-vals, (slice-vals, (slice-vals, (ptr-vals, (slice-vals, (slice-vals, (slice-vals, (slice-vals, (slice-vals, (slice-vals, tt))))))))))))
+  walks : (𝓣 : Tables 𝓤 H) → Triple 𝓤 (𝓣 .C #n) (n-con 𝓤 H A at-mem run) → Triple 𝓤 (𝓣 .C #c) (c-con 𝓤 H A at-mem run) → Triple 𝓤 (𝓣 .C #j) (j-con 𝓤 H A at-mem run) → Triple 𝓤 (𝓣 .C #k2) (k2-con 𝓤 H A at-mem run) → Walks 𝓤 H A f.ended stayed (WpFn 𝓤 H (𝓣 .C) (𝓣 .Λ) code.function) (f.clauses 𝓤 H A at-mem run)
+  walks 𝓣 known-n known-c known-j known-k2 = walked 𝓤 H A f.ended stayed (f.clauses 𝓤 H A at-mem run) (WpFn 𝓤 H (𝓣 .C) (𝓣 .Λ) code.function) (λ κs. (LL.vals S.the-type S′.the-laws, (slice-vals, (slice-vals, (slice-vals, (ptr-vals, (slice-vals, (slice-vals, (slice-vals, (slice-vals, (slice-vals, (slice-vals, tt))))))))))))
       (λ κs. (LL.tells S.the-type S′.the-laws, (shr-slice-tells (named 0) (κs .0) O.the-row, (shr-slice-tells (named 1) (κs .1 .0) u64, (shr-slice-tells (named 2) (κs .1 .1 .0) u64, (mut-tells (named 3) (κs .1 .1 .1 .0) T.the-row, (mut-slice-tells (named 4) (κs .1 .1 .1 .1 .0) u64, (mut-slice-tells (named 5) (κs .1 .1 .1 .1 .1 .0) u64, (mut-slice-tells (named 6) (κs .1 .1 .1 .1 .1 .1 .0) u64, (mut-slice-tells (named 7) (κs .1 .1 .1 .1 .1 .1 .1 .0) u64, (mut-slice-tells (named 8) (κs .1 .1 .1 .1 .1 .1 .1 .1 .0) u64, (mut-slice-tells (named 9) (κs .1 .1 .1 .1 .1 .1 .1 .1 .1 .0) u64, tt))))))))))))
-      (λ κs qs bounds a _ are. via 𝓤 _ (fst∗ 𝓤 _ (emp 𝓤)) (walk 𝓤 H A W at-mem run (κs .0) (qs .0) (κs .1 .0) (qs .1 .0) (κs .1 .1 .0) (qs .1 .1 .0) (κs .1 .1 .1 .0) (qs .1 .1 .1 .0) (κs .1 .1 .1 .1 .0) (qs .1 .1 .1 .1 .0) (κs .1 .1 .1 .1 .1 .0) (qs .1 .1 .1 .1 .1 .0) (κs .1 .1 .1 .1 .1 .1 .0) (qs .1 .1 .1 .1 .1 .1 .0) (κs .1 .1 .1 .1 .1 .1 .1 .0) (qs .1 .1 .1 .1 .1 .1 .1 .0) (κs .1 .1 .1 .1 .1 .1 .1 .1 .0) (qs .1 .1 .1 .1 .1 .1 .1 .1 .0) (κs .1 .1 .1 .1 .1 .1 .1 .1 .1 .0) (qs .1 .1 .1 .1 .1 .1 .1 .1 .1 .0) (a .0) (a .1 .0) (a .1 .1 .0) (a .1 .1 .1 .0) (a .1 .1 .1 .1 .0) (a .1 .1 .1 .1 .1 .0) (a .1 .1 .1 .1 .1 .1 .0) (a .1 .1 .1 .1 .1 .1 .1 .0) (a .1 .1 .1 .1 .1 .1 .1 .1 .0) (a .1 .1 .1 .1 .1 .1 .1 .1 .1 .0) (a .1 .1 .1 .1 .1 .1 .1 .1 .1 .1 .0) (LL.val S.the-type S′.the-laws (a .0)) (are .0) (are .1 .0 .0 .1) (are .1 .1 .0 .0 .1) (are .1 .1 .1 .0 .0 .1) (are .1 .1 .1 .1 .1 .0 .0 .1) (are .1 .1 .1 .1 .1 .1 .0 .0 .1) (are .1 .1 .1 .1 .1 .1 .1 .0 .0 .1) (are .1 .1 .1 .1 .1 .1 .1 .1 .0 .0 .1) (are .1 .1 .1 .1 .1 .1 .1 .1 .1 .0 .0 .1) (are .1 .1 .1 .1 .1 .1 .1 .1 .1 .1 .0 .0 .1) (𝓣 .C) (𝓣 .Λ) (fmOf 𝓤 H (W .laws) 𝓣) known-n known-c known-k2 known-j))
+      (λ κs qs bounds a _ are. via 𝓤 _ (fst∗ 𝓤 _ (emp 𝓤)) (walk 𝓤 H A W at-mem run (κs .0) (qs .0) (κs .1 .0) (qs .1 .0) (κs .1 .1 .0) (qs .1 .1 .0) (κs .1 .1 .1 .0) (qs .1 .1 .1 .0) (κs .1 .1 .1 .1 .0) (qs .1 .1 .1 .1 .0) (κs .1 .1 .1 .1 .1 .0) (qs .1 .1 .1 .1 .1 .0) (κs .1 .1 .1 .1 .1 .1 .0) (qs .1 .1 .1 .1 .1 .1 .0) (κs .1 .1 .1 .1 .1 .1 .1 .0) (qs .1 .1 .1 .1 .1 .1 .1 .0) (κs .1 .1 .1 .1 .1 .1 .1 .1 .0) (qs .1 .1 .1 .1 .1 .1 .1 .1 .0) (κs .1 .1 .1 .1 .1 .1 .1 .1 .1 .0) (qs .1 .1 .1 .1 .1 .1 .1 .1 .1 .0) (a .0) (a .1 .0) (a .1 .1 .0) (a .1 .1 .1 .0) (a .1 .1 .1 .1 .0) (a .1 .1 .1 .1 .1 .0) (a .1 .1 .1 .1 .1 .1 .0) (a .1 .1 .1 .1 .1 .1 .1 .0) (a .1 .1 .1 .1 .1 .1 .1 .1 .0) (a .1 .1 .1 .1 .1 .1 .1 .1 .1 .0) (a .1 .1 .1 .1 .1 .1 .1 .1 .1 .1 .0) (LL.val S.the-type S′.the-laws (a .0)) (are .0) (are .1 .0 .0 .1) (are .1 .1 .0 .0 .1) (are .1 .1 .1 .0 .0 .1) (are .1 .1 .1 .1 .1 .0 .0 .1) (are .1 .1 .1 .1 .1 .1 .0 .0 .1) (are .1 .1 .1 .1 .1 .1 .1 .0 .0 .1) (are .1 .1 .1 .1 .1 .1 .1 .1 .0 .0 .1) (are .1 .1 .1 .1 .1 .1 .1 .1 .1 .0 .0 .1) (are .1 .1 .1 .1 .1 .1 .1 .1 .1 .1 .0 .0 .1) (𝓣 .C) (𝓣 .Λ) (fmOf 𝓤 H (W .laws) 𝓣) known-n known-c known-j known-k2))
 
-meets : {M : Type 1} (𝓤 : URA M) (H : Heap 𝓤) (A : Atoms 𝓤) → Given 𝓤 H A → (at-mem : Memory → SProp 𝓤) (run : Routine → Fun 𝓤) (𝓣 : Tables 𝓤 H) → Triple 𝓤 (𝓣 .C #n) (n-con 𝓤 H A at-mem run) → Triple 𝓤 (𝓣 .C #c) (c-con 𝓤 H A at-mem run) → Triple 𝓤 (𝓣 .C #k2) (k2-con 𝓤 H A at-mem run) → Triple 𝓤 (𝓣 .C #j) (j-con 𝓤 H A at-mem run) → Meets 𝓤 H A f.signature (WpFn 𝓤 H (𝓣 .C) (𝓣 .Λ) code.function) (f.spec 𝓤 H A at-mem run)
-meets 𝓤 H A W at-mem run 𝓣 known-n known-c known-k2 known-j = walk-meets 𝓤 H A f.ended stayed W (goes-none 𝓤 H A W 10 (λ _. S.the-row) yes (λ κs x f. refl), (goes-none-slice 𝓤 H A W 10 (0 ∷ []) tt (plain (λ _. O.the-row)) yes, (goes-none-slice 𝓤 H A W 10 (1 ∷ []) tt (plain (λ _. u64)) yes, (goes-none-slice 𝓤 H A W 10 (2 ∷ []) tt (plain (λ _. u64)) yes, (goes-gave-ref 𝓤 H A W 10 3 tt (plain (λ _. T.the-row)), (goes-gave-slice 𝓤 H A W 10 4 tt (plain (λ _. u64)), (goes-gave-slice 𝓤 H A W 10 5 tt (plain (λ _. u64)), (goes-gave-slice 𝓤 H A W 10 6 tt (plain (λ _. u64)), (goes-gave-slice 𝓤 H A W 10 7 tt (plain (λ _. u64)), (goes-gave-slice 𝓤 H A W 10 8 tt (plain (λ _. u64)), (goes-gave-slice 𝓤 H A W 10 9 tt (plain (λ _. u64)), tt))))))))))) (f.clauses 𝓤 H A at-mem run) (WpFn 𝓤 H (𝓣 .C) (𝓣 .Λ) code.function) (WpFn-mono 𝓤 H (W .laws) 𝓣 code.function) (walks 𝓤 H A W at-mem run 𝓣 known-n known-c known-k2 known-j)
+meets : {M : Type 1} (𝓤 : URA M) (H : Heap 𝓤) (A : Atoms 𝓤) → Given 𝓤 H A → (at-mem : Memory → SProp 𝓤) (run : Routine → Fun 𝓤) (𝓣 : Tables 𝓤 H) → Triple 𝓤 (𝓣 .C #n) (n-con 𝓤 H A at-mem run) → Triple 𝓤 (𝓣 .C #c) (c-con 𝓤 H A at-mem run) → Triple 𝓤 (𝓣 .C #j) (j-con 𝓤 H A at-mem run) → Triple 𝓤 (𝓣 .C #k2) (k2-con 𝓤 H A at-mem run) → Meets 𝓤 H A f.signature (WpFn 𝓤 H (𝓣 .C) (𝓣 .Λ) code.function) (f.spec 𝓤 H A at-mem run)
+meets 𝓤 H A W at-mem run 𝓣 known-n known-c known-j known-k2 = walk-meets 𝓤 H A f.ended stayed W (goes-none 𝓤 H A W 10 (λ _. S.the-row) yes (λ κs x f. refl), (goes-none-slice 𝓤 H A W 10 (0 ∷ []) tt (plain (λ _. O.the-row)) yes, (goes-none-slice 𝓤 H A W 10 (1 ∷ []) tt (plain (λ _. u64)) yes, (goes-none-slice 𝓤 H A W 10 (2 ∷ []) tt (plain (λ _. u64)) yes, (goes-gave-ref 𝓤 H A W 10 3 tt (plain (λ _. T.the-row)), (goes-gave-slice 𝓤 H A W 10 4 tt (plain (λ _. u64)), (goes-gave-slice 𝓤 H A W 10 5 tt (plain (λ _. u64)), (goes-gave-slice 𝓤 H A W 10 6 tt (plain (λ _. u64)), (goes-gave-slice 𝓤 H A W 10 7 tt (plain (λ _. u64)), (goes-gave-slice 𝓤 H A W 10 8 tt (plain (λ _. u64)), (goes-gave-slice 𝓤 H A W 10 9 tt (plain (λ _. u64)), tt))))))))))) (f.clauses 𝓤 H A at-mem run) (WpFn 𝓤 H (𝓣 .C) (𝓣 .Λ) code.function) (WpFn-mono 𝓤 H (W .laws) 𝓣 code.function) (walks 𝓤 H A W at-mem run 𝓣 known-n known-c known-j known-k2)
 
 pub curlewstand-reply-spec : {M : Type 1} → stated.statement M
 unfolding code.routine tablesOf
@@ -225,5 +227,5 @@ curlewstand-reply-spec 𝓤 H 𝓜 𝓖 𝓡 =
     (meets 𝓤 H (𝓖 .A) (givenOf 𝓤 H 𝓜 𝓖) (𝓜 .mem) (𝓡 .run) (tablesOf 𝓤 H 𝓜 (tables 𝓤 H 𝓜 𝓡 code.env))
     (cited 𝓤 H (n-con 𝓤 H (𝓖 .A) (𝓜 .mem) (𝓡 .run)) 𝓜 𝓡 code.env #n n-def.routine code.calls-observations·tally-now (n-thm.met 𝓤 H 𝓜 𝓖 𝓡))
     (cited 𝓤 H (c-con 𝓤 H (𝓖 .A) (𝓜 .mem) (𝓡 .run)) 𝓜 𝓡 code.env #c c-def.routine code.calls-curlewstand-calls·check-lent (c-thm.met 𝓤 H 𝓜 𝓖 𝓡))
-    (cited 𝓤 H (k2-con 𝓤 H (𝓖 .A) (𝓜 .mem) (𝓡 .run)) 𝓜 𝓡 code.env #k2 k2-def.routine code.calls-observations·keep-tally (k2-thm.met 𝓤 H 𝓜 𝓖 𝓡))
-    (cited 𝓤 H (j-con 𝓤 H (𝓖 .A) (𝓜 .mem) (𝓡 .run)) 𝓜 𝓡 code.env #j j-def.routine code.calls-curlewstand-calls·reply-checked (j-thm.met 𝓤 H 𝓜 𝓖 𝓡)))
+    (cited 𝓤 H (j-con 𝓤 H (𝓖 .A) (𝓜 .mem) (𝓡 .run)) 𝓜 𝓡 code.env #j j-def.routine code.calls-observations·reply-checked (j-thm.met 𝓤 H 𝓜 𝓖 𝓡))
+    (cited 𝓤 H (k2-con 𝓤 H (𝓖 .A) (𝓜 .mem) (𝓡 .run)) 𝓜 𝓡 code.env #k2 k2-def.routine code.calls-observations·keep-tally (k2-thm.met 𝓤 H 𝓜 𝓖 𝓡)))
