@@ -30,7 +30,7 @@ unfoldable pub admitSubjectWith : Setup → List ℕ → Lent → Check → Tall
 admitSubjectWith setup counts lent check tally reply (given s) = admitSubjectReply setup counts lent check s tally reply
 admitSubjectWith setup counts lent check tally reply (refused n) = unadmitted
 
--- it is let in or not; the observations are added to its evaluation, none where it is not let in; and the rest is as for a reply that
+-- it is accepted or not; the observations are added to its evaluation, none where it is not accepted; and the rest is as for a reply that
 -- lends all of them
 unfoldable pub subjectReplyOver : Setup → List ℕ → List Observation → Tally → List ℕ → List ℕ → List ℕ → List ℕ → List ℕ → List ℕ → List ℕ
     → Out

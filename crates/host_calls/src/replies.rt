@@ -1,6 +1,6 @@
-// A reply in its two parts, with the state and the answer as words (see `hosting`). Between the two a loop adds
+// A reply in its two parts, with the state and the answer as words (see lib.rt). Between the two a loop adds
 // the observations to the evaluation. Each function is defined for all values and words. Words that are no
-// state get 19.
+// state are refused with 19.
 ghost use mathlib.Core.Path.{_≡_};
 ghost use Rattle.state_words.specs.SessionWords.{loadedState};
 ghost use Rattle.host_calls.specs.Hosting.{setupOf, out, admitWith, finishWith};
@@ -15,7 +15,8 @@ use subject::Check;
 use subject::Evaluation;
 use subject::Position;
 
-// The first part of a reply. The state is only read.
+// The first part of a reply that lends all observations: whether it is accepted, and the evaluation that
+// begins with it. The state is only read.
 pub fn admit_reply(
     setup: SessionSetup,
     tally: Tally,
@@ -44,8 +45,8 @@ pub fn admit_reply(
     }
 }
 
-// Where the check begins of the observations of the awaited subject, which alone are lent. The state is
-// only read.
+// Where the check of the observations begins, if those of the awaited subject alone are lent: at the first of
+// the subject that the state's words name. The state is only read.
 pub fn subject_first(state: &mut [u64]) -> Check
     ensures { λ r. ⌜ (r ≡ subjectFirst (now (state .entry))) × (now (state .exit) ≡ now (state .entry)) ⌝ }
 {
@@ -56,8 +57,8 @@ pub fn subject_first(state: &mut [u64]) -> Check
     })
 }
 
-// The first part of a reply that lends the observations of the awaited subject alone. The state is only
-// read.
+// The first part of a reply that lends the observations of the awaited subject alone: whether it is accepted,
+// and the evaluation that begins with it. The state is only read.
 pub fn admit_subject_reply(
     setup: SessionSetup,
     tally: Tally,
@@ -79,7 +80,9 @@ pub fn admit_subject_reply(
     }
 }
 
-// The second part of a reply, with the evaluation that the observations were added to.
+// The second part of a reply: `admitted` is what the first part answered, and `evaluation` the one that the
+// observations were added to. The objective runs on until there is a question or an end, and the state and
+// the answer are written.
 pub fn finish_reply(
     setup: SessionSetup,
     tally: Tally,
