@@ -36,9 +36,9 @@ pub const ROWS_FROM: usize = 18;
 // The numbers that half a word holds: 2^32.
 pub const HALF: u64 = 4294967296;
 
-// The source's CacheKey: the subject, the words of both thetas and both etas, and the optional additive
-// override, with has_additive 0 where there is none. The sign of a zero counts. With one effect the second
-// theta and eta are fixed.
+// The source's CacheKey (with one effect SubjectKey): the subject, the words of both thetas and both etas,
+// and the optional additive override, with has_additive 0 where there is none. The sign of a zero counts.
+// With one effect the second theta and eta are fixed.
 pub struct CacheKey {
     pub subject: u64,
     pub theta0: u64,

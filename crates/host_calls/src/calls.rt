@@ -14,7 +14,8 @@ use subject::Check;
 // The words of a state.
 pub const STATE_WORDS: usize = 63;
 
-// Setup: opens a session where 1 to 5 pass, and writes its state and the answer.
+// Setup: opens a session where the state has room for 63 words and 1 to 5 pass, and writes its state and the
+// answer.
 pub fn open(
     setup: SessionSetup,
     tally: Tally,

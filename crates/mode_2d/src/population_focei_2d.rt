@@ -18,8 +18,8 @@ pub struct Settings2 {
     pub warm: Pair,
 }
 
-// One evaluated point with two effects, with the entries of its information by row and column. Neither the
-// score nor the information includes the prior.
+// One evaluated point with two effects, the source's Conditional2 without its rows, with the entries of its
+// information by row and column. Neither the score nor the information includes the prior.
 pub struct Conditional2 {
     pub eta: Pair,
     pub nll: f64,
@@ -47,10 +47,10 @@ pub enum Stage2 {
     Halted(u32),
 }
 
-// A search with two effects between two evaluations. `seed` numbers the start, 0 to 5; `current` is where its
-// rounds stand, and once they are over its candidate; `best` is the best candidate of the starts before
-// (before the first candidate, the evaluation at zero). `trial` is the point awaited in a round, and
-// `decrease` the fall of `joint` that is foreseen there.
+// A search with two effects between two evaluations. `seed` numbers the start, 0 to 5, and is 6 once the mode
+// is found; `current` is where its rounds stand, and once they are over its candidate; `best` is the best
+// candidate of the starts before (before the first candidate, the evaluation at zero). `trial` is the point
+// awaited in a round, and `decrease` the fall of `joint` that is foreseen there.
 pub struct Search2 {
     pub stage: Stage2,
     pub seed: u32,

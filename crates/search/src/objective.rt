@@ -69,7 +69,7 @@ fn closed_2d(fit: Fit, best: Conditional2, rows: u32) -> Closed
 }
 
 // Check 16 of a search's mode, its best point, and what the mode adds to the objective, for a subject of so
-// many rows: the end of the source's loop over the subjects in `population`.
+// many rows: the curvature and the term of `ofv` in the source's `population`.
 pub fn closed_by(fit: Fit, progress: Progress, rows: u32) -> Closed
     ensures { λ r. ⌜ r ≡ closedBy fit progress rows ⌝ }
 {
@@ -83,7 +83,8 @@ pub fn closed_by(fit: Fit, progress: Progress, rows: u32) -> Closed
 
 // ---- the objective
 
-// The end of an objective after its last subject: refused with 18 where the sum is not finite, else finished.
+// The end of an objective after its last subject, the end of the source's `population`: refused with 18 where
+// the sum is not finite, else finished.
 pub fn objective_of(progress: Progress, tally: Tally, ofv: f64, eta_squares: f64) -> Halted
     ensures { λ r. ⌜ r ≡ objectiveOf progress tally ofv «eta_squares» ⌝ }
 {

@@ -61,9 +61,9 @@ fn key_2d(fit: Fit, subject: usize, eta: Pair) -> CacheKey
     }
 }
 
-// The key under which the evaluation of a subject at eta is kept, the source's CacheKey: subject, the bits of
-// theta and eta, and with one effect of the override. Omega is not in it, since the kept score does not
-// include the prior.
+// The key under which the evaluation of a subject at eta is kept, the source's SubjectKey or with two effects
+// CacheKey: subject, the bits of theta and eta, and with one effect of the override. Omega is not in it,
+// since the kept score does not include the prior.
 pub fn key_of(fit: Fit, subject: usize, eta: Pair) -> CacheKey
     ensures { λ r. ⌜ r ≡ keyOf fit subject eta ⌝ }
 {

@@ -13,7 +13,8 @@ use subject::Position;
 
 // What a session is set up with: the number of effects; omega by row and column (with one effect its first
 // entry); the bound of eta; the outer fit's gradient_tolerance; the number of outputs; K, the most rows that
-// are kept; the additive deviation; the most values and derivatives of a reply; the most evaluations.
+// are kept; the additive deviation; the most values and derivatives of a reply; the most evaluations. (The
+// source's Setup is another thing: a part of a validated request, with names, units, start and limits.)
 pub struct Setup {
     pub effects: u32,
     pub omega00: f64,

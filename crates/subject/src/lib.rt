@@ -51,8 +51,9 @@ pub struct Sums {
     pub observation: usize,
 }
 
-// An evaluation under way with its sums, or the first refusal that it met: document 01's number (8, 9, 12),
-// and for an observation (10, 11, 12) its number within the subject too.
+// A subject's evaluation under way with its sums, or the first refusal that it met: document 01's number (8,
+// 9, 12), and for an observation (10, 11, 12) its number within the subject too. (The source's Evaluation is
+// another thing: the result of a whole objective.)
 pub enum Evaluation {
     Running(Sums),
     Refused(u32),
