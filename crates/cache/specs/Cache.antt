@@ -1,4 +1,5 @@
--- What the functions of this crate compute, over the list of the lent words.
+-- What the functions of this crate compute, over the list of the lent words: the layout and `find` (lib.rt), then `entries`, then
+-- `keeping`.
 use mathlib.Core.Bool.{Bool, false}
 use mathlib.Core.List.{List, [], _∷_}
 use Prim.Native.Nat.{ℕ, zero, suc, _+_, _-_, _*_, _%_, _/_, _^_}

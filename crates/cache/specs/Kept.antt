@@ -78,7 +78,7 @@ unfoldable pub keptAfter : ℕ → List Entry → List Evaluated → List Entry
 keptAfter k l [] = l
 keptAfter k l (x ∷ xs) = keptAfter k (keptWith k l x) xs
 
--- ---- the words: the same by find and insert
+-- ---- the same with the words, by `find` and `insert`
 unfoldable pub unlessAt : Found → Cache → Cache → Cache
 unlessAt (At slot) there new = there
 unlessAt Nothing there new = new

@@ -1,5 +1,5 @@
-// Reading a kept evaluation in the slot where `cache` found it: its terms, and its rows, which stand in a
-// ring.
+// Reading a kept evaluation in the slot where `cache::find` found it: its terms, and its rows, which stand in
+// a ring. Each public function is defined for all words and numbers.
 ghost use mathlib.Core.Path.{_≡_};
 ghost use Prim.Native.Nat.{_+_, _*_, _≤_, _<_};
 ghost use lib.ListN.{length};
@@ -14,7 +14,7 @@ use super::modulo;
 use super::number;
 use words::read;
 
-// The terms in a slot; all 0 where there is no room.
+// The terms of the kept evaluation in a slot; all 0 where K is out of range.
 pub fn terms_of(words: &[u64], k: usize, slot: usize) -> CachedTerms
     ensures { λ r. ⌜ r ≡ termsOf (now (words .entry)) k slot ⌝ }
 {
@@ -67,7 +67,8 @@ fn copy_words(words: &[u64], k: usize, slot: usize, n: usize, out: &mut [u64], t
     copy_run(words, base, n - left, out, to + left);
 }
 
-// Copies the first n rows of a slot to `out`, from word `to` on, where they fit and all rows are lent.
+// Copies the first n rows of the kept evaluation in a slot to `out`, from word `to` on, where they fit and
+// all rows are lent.
 pub fn copy_rows(words: &[u64], k: usize, slot: usize, n: usize, out: &mut [u64], to: usize)
     ensures { λ _. ⌜ now (out .exit) ≡ copied (now (words .entry)) k slot n (now (out .entry)) to ⌝ }
 {

@@ -1,5 +1,6 @@
-// Keeping an evaluation: the source's push to `cache_order` and insert into `cache`. The oldest go until its
-// rows fit, and the entry, its rows, its link and the head of its chain are written as `cache` lays them out.
+// Keeping an evaluation: the source's push to `cache_order` and insert into `cache`. The oldest are dropped
+// until its rows fit, and the entry, its rows, its link and the head of its chain are written as `cache`
+// (lib.rt) lays them out. The public function is defined for all words and numbers.
 ghost use mathlib.Core.Path.{_≡_};
 ghost use Prim.Native.Nat.{_+_, _-_, _*_, _%_, _≤_, _<_};
 ghost use lib.ListN.{length};
@@ -26,7 +27,7 @@ const ENTRY_NUMBERS: usize = 4294967296;
 
 // ---- eviction
 
-// The first row that is kept once n more rows have gone.
+// The first row that is kept once n more rows are dropped.
 fn raised(first_row: usize, next_row: usize, n: usize) -> usize
     ensures { λ r. ⌜ r ≡ raised «first_row» «next_row» n ⌝ }
 {
@@ -36,7 +37,7 @@ fn raised(first_row: usize, next_row: usize, n: usize) -> usize
     next_row
 }
 
-// The oldest go until at most `room` rows are left.
+// Drops the oldest entries until at most `room` rows are left.
 fn evict(words: &[u64], k: usize, room: usize, order: CacheOrder) -> CacheOrder
     requires { ⌜ (0 < k) × (k ≤ 100000) ⌝ }
     ensures { λ r. ⌜ r ≡ evict (order .next - order .oldest) (now (words .entry)) k room
@@ -184,8 +185,8 @@ fn entry_words(key: CacheKey, terms: CachedTerms, n: usize, row: usize) -> [u64;
     ]
 }
 
-// Writes the entry numbered `entry` with its n rows, the first numbered `row`; what is older than `oldest`
-// has gone.
+// Writes the entry numbered `entry` with its n rows, the first numbered `row`; entries older than `oldest`
+// have been dropped.
 fn write_entry(
     words: &mut [u64],
     k: usize,
@@ -254,8 +255,9 @@ fn is_kept(k: usize, order: CacheOrder, n: usize, lent: usize, from: usize) -> b
     false
 }
 
-// Keeps an evaluation with its n rows, which stand in `rows` from word `from` on: the oldest go until it
-// fits.
+// Keeps an evaluation with its n rows, which stand in `rows` from word `from` on, and gives the positions
+// afterwards: the oldest are dropped until it fits. An evaluation without rows, with more than K, or whose
+// rows are not all lent is not kept.
 pub fn insert(
     words: &mut [u64],
     k: usize,

@@ -1,3 +1,15 @@
+// Document 01's kept evaluations in lent words, the oldest out first: the source's `cache` and `cache_order`.
+//
+// The words, for K rows: K heads, K links, K entries of 16 words, 3·K words of rows. Entries are numbered
+// from 1 as they come, and entry s stands in slot s % K. Rows are numbered from 0, and word x of all rows
+// stands at x % (3·K). The entries whose keys' hashes fall to one head are a chain. The head has the number
+// of its latest entry, and above it a filter: a bit for each entry of the chain, so that the head alone shows
+// of most keys that they are not kept. A slot's link has the number of the entry before it in the chain, and
+// above it bits of its own key's hash. An entry whose number is below the oldest is no longer kept, so
+// nothing is ever unlinked.
+//
+// Here are the types, and how an entry is found; `entries` reads what was found, and `keeping` adds an entry.
+// Each public function is defined for all words and numbers.
 ghost use mathlib.Core.Path.{_≡_};
 ghost use Prim.Native.Nat.{_+_, _-_, _%_, _≤_, _<_};
 ghost use lib.ListN.{length};
@@ -9,34 +21,24 @@ pub mod keeping;
 use words::put;
 use words::read;
 
-// Document 01's kept evaluations in lent words, the oldest out first: the source's `cache` and
-// `cache_order`.
-//
-// The words, for K rows: K heads, K links, K entries of 16 words, 3·K words of rows. Entries are numbered
-// from 1 as they come, and entry s stands in slot s % K. Rows are numbered from 0, and word x of all rows
-// stands at x % (3·K). The entries whose keys' hashes fall to one head are a chain. The head has the number
-// of its latest entry, and above it a filter: a bit for each entry of the chain, so that most keys that are
-// not kept are known by the head alone. A slot's link has the number of the entry before it in the chain,
-// and above it bits of its own key's hash. A number below the oldest is dead, so nothing is ever unlinked.
-//
-// Here are the types, and what finds an entry; `entries` reads what was found, and `keeping` adds an entry.
-
-// The layout: the words of a row, and where entries and rows begin, for each row of the room.
+// The words of a row: prediction, time and side.
 pub const ROW_WORDS: usize = 3;
 
 // The words that are lent for each row of the room.
 pub const KEPT_WORDS: usize = 24;
 
+// Where the entries begin, for each row of the room: after a head and a link.
 pub const ENTRIES_FROM: usize = 2;
 
+// Where the rows begin, for each row of the room: after a head, a link and an entry of 16 words.
 pub const ROWS_FROM: usize = 18;
 
-// Half a word: 2^32.
+// The numbers that half a word holds: 2^32.
 pub const HALF: u64 = 4294967296;
 
-// The source's CacheKey: the subject, the words of both thetas and both etas, and the optional additive
-// override, with has_additive 0 where there is none. The sign of a zero counts. With one effect the second
-// theta and eta are fixed.
+// The source's CacheKey (with one effect SubjectKey): the subject, the words of both thetas and both etas,
+// and the optional additive override, with has_additive 0 where there is none. The sign of a zero counts.
+// With one effect the second theta and eta are fixed.
 pub struct CacheKey {
     pub subject: u64,
     pub theta0: u64,
@@ -47,7 +49,8 @@ pub struct CacheKey {
     pub additive: u64,
 }
 
-// The words of an evaluation's nll, score and information, by row and column. Nothing has the prior.
+// What is kept of an evaluation beside its rows: the words of its nll, score and information, by row and
+// column. None of them includes the prior.
 pub struct CachedTerms {
     pub nll: u64,
     pub score0: u64,
@@ -67,7 +70,7 @@ pub struct CacheOrder {
     pub next_row: usize,
 }
 
-// The slot of the entry with a key.
+// The answer of find: the slot of the kept evaluation with a key, or that there is none.
 pub enum Found {
     At(usize),
     Nothing,
@@ -95,7 +98,7 @@ fn less(a: usize, b: usize) -> usize
     0
 }
 
-// a modulo b; where b is 0, a itself. A division is dear, and most numbers are below b already.
+// a modulo b; where b is 0, a itself. A division takes long, and most numbers are below b already.
 pub fn modulo(a: usize, b: usize) -> usize
     ensures { λ r. ⌜ r ≡ a % b ⌝ }
 {
@@ -131,7 +134,7 @@ fn part(word: u64, low: u64, high: u64) -> u64
     (word % HALF + low) % HALF * ((word / HALF + high) % HALF)
 }
 
-// The sum of the parts of a key's words, wrapped and mixed once more.
+// The hash of a key: the sum of the parts of its words, wrapped and mixed once more.
 pub fn hash(key: CacheKey) -> u64
     ensures { λ r. ⌜ r ≡ hash key ⌝ }
 {
@@ -173,7 +176,7 @@ fn has_bit(filter: u64, bit: u64) -> bool
 
 // ---- finding
 
-// Room for 1 to 100,000 rows.
+// Whether K is in range: room for 1 to 100,000 rows.
 pub fn is_room(k: usize) -> bool
     ensures { λ r. ⌜ r ≡ isRoom k ⌝ }
 {
@@ -209,6 +212,7 @@ fn is_same(words: &[u64], at: usize, key: CacheKey) -> bool
     read(words, at + 6) == key.additive
 }
 
+// The word at which the slot of an entry begins.
 fn entry_place(k: usize, entry: usize) -> usize
     requires { ⌜ (0 < k) × (k ≤ 100000) ⌝ }
     ensures { λ r. ⌜ (r ≡ entryPlace k entry) × (r < 10000000) ⌝ }
@@ -255,7 +259,7 @@ fn walk(
     Found::Nothing
 }
 
-// The slot of the kept evaluation with this key.
+// The slot of the kept evaluation with this key: the source's lookup in `cache`.
 pub fn find(words: &[u64], k: usize, order: CacheOrder, key: CacheKey) -> Found
     ensures { λ r. ⌜ r ≡ find (now (words .entry)) k order key ⌝ }
 {

@@ -1,3 +1,11 @@
+// Whole sessions for C and Rust: setup, new objective, reply and failure, with the tally record and the run
+// of observations by reference, and the state and the answer as lent words (see `host_calls`). Each function
+// is defined for every input, refuses what is not right with document 01's number and place, and its contract
+// gives all that it answers and writes. What is lent to be written must overlap nothing else that is lent to
+// the same call.
+//
+// All that decides anything is by value, in `host_calls` and the crates below it; here the tally is copied
+// out, the observations are gone through, and the tally is written back.
 ghost use mathlib.Core.Path.{_≡_};
 ghost use Rattle.session.specs.Session.{allChecked, objective, reply as replies, failure};
 ghost use Rattle.host_calls.specs.Hosting.{setupOf, parametersOf, out, setupOver, callOver, doneWith};
@@ -6,15 +14,6 @@ use host_calls::SessionSetup;
 use likelihood::population_focei::Observation;
 use search::Tally;
 use subject::Check;
-
-// Whole sessions for C and Rust: setup, new objective, reply and failure, with the tally record and the run
-// of observations by reference, and the state and the answer as lent words (see `hosting`). Each function is
-// defined for every input, refuses what is not right with document 01's number and place, and its contract
-// gives all that it answers and writes. What is lent to be written must overlap nothing else that is lent
-// to the same call.
-//
-// All that decides anything is by value, in `word_calls`, `word_replies` and below; here the tally is copied
-// out, the observations are gone through, and the tally is written back.
 
 // ---- what is lent
 
@@ -29,7 +28,8 @@ fn check_lent(setup: SessionSetup, observations: &[Observation], counts: &[u64])
 
 // ---- the calls
 
-// Opens a session: tally, kept, work and warm words are zeroed.
+// Opens a session where the state has room for 63 words and 1 to 5 pass: tally, kept, work and warm words are
+// zeroed. Gives document 01's number, 0 where nothing is refused.
 #[no_mangle]
 pub extern "C" fn curlewstand_setup(
     setup: SessionSetup,
@@ -68,7 +68,8 @@ pub extern "C" fn curlewstand_setup(
     opened.number
 }
 
-// Begins an objective, and runs on until it has a question or an end.
+// Begins an objective, and runs on until it has a question or an end. Gives document 01's number, 0 where
+// nothing is refused.
 #[no_mangle]
 pub extern "C" fn curlewstand_objective(
     setup: SessionSetup,
@@ -110,9 +111,9 @@ pub extern "C" fn curlewstand_objective(
     begun.number
 }
 
-// Takes the simulator's reply to the question that was asked, and runs on until it has a question or an
-// end. The reply's words are rows: time, side (0 pre, any other post), `width` values, then `width`
-// derivatives for each effect.
+// Takes the simulator's reply to the question that was asked, and runs on until it has a question or an end.
+// The reply's words are rows: time, side (0 pre, any other post), `width` values, then `width` derivatives
+// for each effect. Gives document 01's number, 0 where nothing is refused.
 #[no_mangle]
 pub extern "C" fn curlewstand_reply(
     setup: SessionSetup,
@@ -154,7 +155,7 @@ pub extern "C" fn curlewstand_reply(
     taken.number
 }
 
-// The simulator failed: the objective ends with 8.
+// The simulator failed: the objective ends with 8. Gives document 01's number.
 #[no_mangle]
 pub extern "C" fn curlewstand_failure(
     setup: SessionSetup,

@@ -1,3 +1,10 @@
+// A reply for C and Rust that lends the observations of the awaited subject alone: its time does not grow
+// with the number of subjects. It is for a host that changes neither the counts nor any observation from call
+// to call: then it does what `curlewstand_calls::curlewstand_reply` does (session_theorems,
+// specs/SubjectReply.antt), which checks all observations at every call. It is defined for every input,
+// refuses what is not right of what is lent with document 01's number and place, and its contract gives all
+// that it answers and writes. What is lent to be written must overlap nothing else that is lent to the same
+// call.
 ghost use mathlib.Core.Path.{_≡_};
 ghost use Rattle.subject.specs.Observations.{checkObservations};
 ghost use Rattle.host_calls.specs.Hosting.{setupOf, out, doneWith};
@@ -7,13 +14,7 @@ use likelihood::population_focei::Observation;
 use search::Tally;
 use subject::Check;
 
-// A reply for C and Rust that lends the observations of the awaited subject alone: what it takes does not
-// grow with the number of subjects. It is for a host that changes neither the counts nor any observation
-// from call to call: then it is the reply of `host` (see `claims`, SubjectReply), which checks all that
-// there are at every call. It is defined for every input, refuses what is not right of what is lent with
-// document 01's number and place, and its contract gives all that it answers and writes.
-
-// The check of the subject's observations, from where it begins.
+// The check of the subject's observations, from the place where it begins.
 fn check_subject(
     setup: SessionSetup,
     observations: &[Observation],
@@ -26,8 +27,9 @@ fn check_subject(
     observations::check_observations(observations, 0, n, first, setup.width, counts)
 }
 
-// Takes the simulator's reply to the question that was asked, and runs on until it has a question or an
-// end. The observations are those of the subject that was asked for, the counts those of all subjects.
+// Takes the simulator's reply to the question that was asked, and runs on until it has a question or an end.
+// The observations are those of the subject that was asked for, the counts those of all subjects. Gives
+// document 01's number, 0 where nothing is refused.
 #[no_mangle]
 pub extern "C" fn curlewstand_subject_reply(
     setup: SessionSetup,

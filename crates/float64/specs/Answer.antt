@@ -1,11 +1,11 @@
--- What was asked for, or document 01's number for a no.
+-- What was asked for, or a refusal with document 01's number.
 use Prim.Native.Nat.{ℕ}
 
 pub data Answer (X : Type 0) : Type 0 where
   given : X → Answer X
   refused : ℕ → Answer X
 
--- document 01's number for a no, and 0 for an answer
+-- document 01's number of a refusal, and 0 for an answer
 unfoldable pub numberOf : {X : Type 0} → Answer X → ℕ
 numberOf (given x) = 0
 numberOf (refused number) = number

@@ -5,11 +5,11 @@ ghost use lib.Ieee.{binary64, ofBits, toBits};
 ghost use lib.Ieee.Scale.{finite};
 ghost use Rattle.float64.specs.Float64.{abs, max, clamp, nonfinite};
 
-// The largest finite float: above it is only the infinity. A test against the infinity itself would be
-// compiled to many tests of bits.
+// The largest finite float: above it is only infinity. A test against infinity itself would be compiled to
+// many tests of bits.
 pub const LARGEST: f64 = 1.7976931348623157e308;
 
-// Document 01's largest eta_bound, where `exp` ends too.
+// Document 01's largest eta_bound. `libm::exp` is defined from -EDGE to EDGE.
 pub const EDGE: f64 = 16.0;
 
 // The float that a word stands for. Every NaN pattern gives a NaN.
@@ -33,7 +33,7 @@ pub fn to_word(x: f64) -> u64
     f64::to_bits(x)
 }
 
-// Rust's f64::is_finite.
+// Whether a float is neither a NaN nor an infinity: Rust's f64::is_finite.
 pub fn is_finite(x: f64) -> bool
     ensures { λ r. ⌜ r ≡ finite x ⌝ }
 {
@@ -44,7 +44,7 @@ pub fn is_finite(x: f64) -> bool
     false
 }
 
-// A NaN or an infinity: the negated test that the sources write as `!x.is_finite()`.
+// Whether a float is a NaN or an infinity: what the sources write as `!x.is_finite()`.
 pub fn is_nonfinite(x: f64) -> bool
     ensures { λ r. ⌜ r ≡ nonfinite x ⌝ }
 {
@@ -54,7 +54,7 @@ pub fn is_nonfinite(x: f64) -> bool
     true
 }
 
-// Rust's f64::abs: the sign is cleared.
+// The absolute value, Rust's f64::abs: the sign is cleared.
 pub fn abs(x: f64) -> f64
     ensures { λ r. ⌜ r ≡ abs x ⌝ }
 {
@@ -67,7 +67,7 @@ pub fn abs(x: f64) -> f64
     x
 }
 
-// Rust's f64::max: a NaN loses against a number.
+// The larger of two floats, Rust's f64::max: where one is a NaN, it is the other.
 pub fn max(a: f64, b: f64) -> f64
     ensures { λ r. ⌜ r ≡ max a b ⌝ }
 {
@@ -80,7 +80,7 @@ pub fn max(a: f64, b: f64) -> f64
     a
 }
 
-// Rust's f64::clamp: a NaN stays a NaN.
+// The float, or `low` where it is below, or `high` where it is above: Rust's f64::clamp. A NaN stays a NaN.
 pub fn clamp(x: f64, low: f64, high: f64) -> f64
     ensures { λ r. ⌜ r ≡ clamp x low high ⌝ }
 {

@@ -1,4 +1,4 @@
-// Document 01's program: reads records from standard input and writes what `focei_fit::focei` says of them.
+// Document 01's program: reads records from standard input and writes what `focei_fit::focei` makes of them.
 // Only reading and writing are outside the proof.
 use libc::STDIN_FILENO;
 use libc::STDOUT_FILENO;

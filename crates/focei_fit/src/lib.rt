@@ -1,3 +1,5 @@
+// Document 01's program as one function, from the bytes of its records to the bytes that it prints: theta 1,
+// omega 1, eta_bound 4, tolerance 1e-4, 10,000 evaluations, K 64, output budget 10,000, width 1, one effect.
 ghost use mathlib.Core.Path.{_≡_};
 ghost use Prim.Native.Nat.{_≤_};
 ghost use lib.ListN.{length};
@@ -17,9 +19,6 @@ use session::State;
 use setup::Parameters;
 use setup::Setup;
 use subject::AdditiveSd;
-
-// Document 01's program, from the bytes of its records to the bytes that it prints: theta 1, omega 1,
-// eta_bound 4, tolerance 1e-4, 10,000 evaluations, K 64, output budget 10,000, width 1, one effect.
 
 // One more than the questions of a session: each raises the evaluations, of which there are 10,000.
 pub const QUESTIONS: u32 = 10001;
@@ -142,7 +141,8 @@ fn play(
     at
 }
 
-// What is printed of the end. A question that is left, which no session has, is printed as 19.
+// Writes what is printed of the end of an objective. A question that is left, which no session has, is
+// printed as 19.
 fn told(at: Called, counts: &[u64], results: &[u64], out: &mut [u8]) -> usize
     requires { ⌜ length (now counts) ≤ 256 ⌝ }
     ensures { λ r. ⌜ written r (now (out .exit))
@@ -161,7 +161,7 @@ fn told(at: Called, counts: &[u64], results: &[u64], out: &mut [u8]) -> usize
     }
 }
 
-// The objective of a session that is open, to its end.
+// Runs the objective of an open session to its end.
 fn run(
     input: &[u8],
     state: State,
@@ -207,7 +207,7 @@ fn run(
     )
 }
 
-// From setup to the text.
+// Sets up the session of the records, runs its objective, and writes the text.
 fn fit(
     input: &[u8],
     observations: &[u64],
@@ -261,7 +261,7 @@ fn fit(
     }
 }
 
-// With words of its own, enough for 256 records.
+// Fits the records in words of the program's own, enough for 256 records.
 fn lend(input: &[u8], subjects: usize, out: &mut [u8]) -> usize
     requires { ⌜ (length (now input) ≤ 12288) × (subjects ≤ 256) ⌝ }
     ensures { λ r. ⌜ written r (now (out .exit)) ≡ write (lent (now (input .entry)) subjects) (written 0 (now (out .entry))) ⌝ }
@@ -288,7 +288,8 @@ fn lend(input: &[u8], subjects: usize, out: &mut [u8]) -> usize
     )
 }
 
-// What the program prints of its input, and how long it is: as much of it as `out` has room for.
+// Writes what the program prints of its input, as much of it as `out` has room for, and gives its length. It
+// is defined for all bytes.
 pub fn focei(input: &[u8], out: &mut [u8]) -> usize
     ensures { λ r. ⌜ written r (now (out .exit)) ≡ write (output (now (input .entry))) (written 0 (now (out .entry))) ⌝ }
 {

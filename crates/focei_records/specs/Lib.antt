@@ -1,2 +1,2 @@
--- What a reader must believe of this crate: document 01's records and its simulator.
+-- What a reader must believe of this crate: Records (document 01's records, their check 20, and its simulator).
 pub mod Records

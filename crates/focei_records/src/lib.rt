@@ -1,20 +1,20 @@
+// Document 01's records: 48 bytes each, little-endian, of subject and reserved word (32 bits each) and the
+// floats value, additive, proportional, base, slope. Here are their check (20), the numbers of records of the
+// subjects, the observations in words, and the simulator over base and slope. Each public function is defined
+// for all bytes and numbers.
 ghost use mathlib.Core.Path.{_≡_};
 ghost use Prim.Native.Nat.{_+_, _*_, _/_, _≤_, _<_};
 ghost use lib.ListN.{length};
 ghost use Rattle.words.specs.Written.{written, write};
 ghost use Rattle.focei_records.specs.Records.{halfAt, wordAt, subjectAt, reservedAt, floatAt, countFrom, counts, observationAt, observations, cohortFrom, cohort, rowAt, reply};
 
-// Document 01's records: 48 bytes each, little-endian, of subject and reserved word (32 bits each) and the
-// floats value, additive, proportional, base, slope. Their check, the numbers of records of the subjects,
-// the observations in words, and the simulator over base and slope. Each public function is defined for
-// all bytes and numbers.
-
-// The bytes of a record, and the most records that the program takes.
+// The bytes of a record.
 pub const RECORD_BYTES: usize = 48;
 
+// The most records that the program takes.
 pub const MOST_RECORDS: usize = 256;
 
-// What the check of the records finds: how many subjects they have, or that they are no records (20).
+// What check 20 of the records finds: how many subjects they have, or that it refuses them.
 pub enum Cohort {
     Subjects(usize),
     Refused,
@@ -68,7 +68,7 @@ fn float_at(input: &[u8], i: usize, field: usize) -> u64
     word_at(input, RECORD_BYTES * i + 8 + 8 * field)
 }
 
-// ---- question 20
+// ---- check 20
 
 // Reserved words are 0, and the subjects count from 0, each the one before it or the next.
 fn subjects(input: &[u8]) -> Cohort
@@ -92,7 +92,8 @@ fn subjects(input: &[u8]) -> Cohort
     Cohort::Subjects(subjects)
 }
 
-// Whole records, at most 256, and their subjects.
+// Document 01's check 20 of the records: whole records, at most 256, reserved words 0, and subjects that
+// count from 0. Gives the number of subjects.
 pub fn cohort_of(input: &[u8]) -> Cohort
     ensures { λ r. ⌜ r ≡ cohort (now (input .entry)) ⌝ }
 {
@@ -123,7 +124,7 @@ fn count(input: &[u8], records: usize, subject: usize) -> u64
     total
 }
 
-// The number of records of each subject, for so many subjects.
+// Writes the number of records of each subject, for so many subjects, and gives the number of words written.
 pub fn counts(input: &[u8], subjects: usize, out: &mut [u64]) -> usize
     ensures { λ r. ⌜ written r (now (out .exit)) ≡ write (counts (now (input .entry)) subjects) (written 0 (now (out .entry))) ⌝ }
 {
@@ -151,7 +152,7 @@ fn observation(input: &[u8], i: usize, out: &mut [u64], at: usize) -> usize
     words::word(out, additive, float_at(input, i, 2))
 }
 
-// The observations of all records.
+// Writes the observations of all records, five words each, and gives the number of words written.
 pub fn observations(input: &[u8], out: &mut [u64]) -> usize
     ensures { λ r. ⌜ written r (now (out .exit)) ≡ write (observations (now (input .entry))) (written 0 (now (out .entry))) ⌝ }
 {
@@ -180,7 +181,9 @@ fn row(input: &[u8], i: usize, individual: f64, out: &mut [u64], at: usize) -> u
     words::word(out, value, float64::to_word(slope))
 }
 
-// The rows of so many records from the first on, as far as there are records.
+// The simulator: writes the rows of a reply for so many records from record `first` on, as far as there are
+// records, and gives the number of words written. A row is time 0, side pre, base + slope · individual, and
+// its derivative.
 pub fn reply(input: &[u8], first: usize, rows: usize, individual: f64, out: &mut [u64]) -> usize
     ensures { λ r. ⌜ written r (now (out .exit))
         ≡ write (reply (now (input .entry)) first rows individual) (written 0 (now (out .entry))) ⌝ }

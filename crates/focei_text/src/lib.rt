@@ -1,3 +1,8 @@
+// The lines that document 01's program prints: `O`, `S`, `F` and `H` of a finished objective, or `R` of a
+// refusal. A line is a letter and its fields, each after a space; floats are hexadecimal and numbers decimal.
+// Each function takes the place at which to write and gives the place after it; at the end of what is lent
+// nothing is written and the place stays, so that what does not fit is cut off. Each public function is
+// defined for all values and words.
 ghost use mathlib.Core.Path.{_≡_};
 ghost use Rattle.work.specs.Work.{resultWords};
 ghost use mathlib.Core.List.{[], _∷_};
@@ -8,10 +13,6 @@ ghost use Rattle.focei_text.specs.Report.{none, subjectField, observatio
 use search::Place;
 use work::FITTED_WORDS;
 use work::RESULT_WORDS;
-
-// Bytes and words written one after the other into what is lent, and the digits of numbers. Each function
-// takes the place at which to write and gives back the place after it; at the end of what is lent nothing
-// is written and the place stays, so that what does not fit is cut off.
 
 // ---- numbers
 
@@ -26,7 +27,7 @@ fn glyph(digit: u64) -> u8
     b'a' + (digit - 10) as u8
 }
 
-// Sixteen digits, the topmost first.
+// Writes a word as sixteen hexadecimal digits, the topmost first.
 pub fn hexadecimal(out: &mut [u8], at: usize, value: u64) -> usize
     ensures { λ r. ⌜ written r (now (out .exit)) ≡ write (hexadecimal value) (written at (now (out .entry))) ⌝ }
 {
@@ -41,7 +42,7 @@ pub fn hexadecimal(out: &mut [u8], at: usize, value: u64) -> usize
     end
 }
 
-// At most so many digits.
+// Writes a number in decimal, with at most so many digits.
 fn digits(out: &mut [u8], at: usize, most: u32, value: u64) -> usize
     ensures { λ r. ⌜ written r (now (out .exit)) ≡ write (digits most value) (written at (now (out .entry))) ⌝ }
 {
@@ -55,16 +56,12 @@ fn digits(out: &mut [u8], at: usize, most: u32, value: u64) -> usize
     words::byte(out, end, glyph(value % 10))
 }
 
-// As many digits as the number has: at most twenty.
+// Writes a number in decimal, with as many digits as it has: at most twenty.
 pub fn decimal(out: &mut [u8], at: usize, value: u64) -> usize
     ensures { λ r. ⌜ written r (now (out .exit)) ≡ write (decimal value) (written at (now (out .entry))) ⌝ }
 {
     digits(out, at, 20, value)
 }
-
-// The lines that document 01's program prints: `O`, `S`, `F` and `H` of a finished objective, or `R` of a
-// refusal. A line is a letter and its fields, each after a space. Each function writes from a place on and
-// gives back the place after it; each is defined for all values and words.
 
 // ---- fields
 
@@ -111,6 +108,8 @@ fn observation_field(out: &mut [u8], at: usize, place: Place) -> usize
     }
 }
 
+// Writes the `R` line of a refusal: document 01's number, the subject and the observation, with a hyphen for
+// what it has not.
 pub fn refused(out: &mut [u8], at: usize, number: u32, place: Place) -> usize
     ensures { λ r. ⌜ written r (now (out .exit)) ≡ write (refusalLine number place) (written at (now (out .entry))) ⌝ }
 {
@@ -214,7 +213,7 @@ fn fitted_lines(
     end
 }
 
-// Those of all subjects.
+// The predictions of all observations of all subjects.
 fn all_fitted(out: &mut [u8], at: usize, subjects: usize, counts: &[u64], results: &[u64]) -> usize
     requires { ⌜ subjects ≤ 4096 ⌝ }
     ensures { λ r. ⌜ written r (now (out .exit))
@@ -242,6 +241,8 @@ fn subjects_of(counts: &[u64]) -> usize
     work::MOST_SUBJECTS
 }
 
+// Writes the lines of a finished objective: `O` with the objective and the evaluations, an `S` line with the
+// eta of each subject, an `F` line with the predictions of each observation, and `H` with the shrinkage.
 pub fn finished(
     out: &mut [u8],
     at: usize,

@@ -1,5 +1,5 @@
--- Paths: the ways through the code. Whole: a reply over the observations, put together from its parts.
--- Subject: the first part of a reply that lends one subject's observations.
+-- Paths: the ways through the code, for its proofs. Whole: the calls over a list of observations, put together from their parts. Subject:
+-- where the check of one subject's observations begins.
 pub mod Paths
 pub mod Whole
 mod Subject

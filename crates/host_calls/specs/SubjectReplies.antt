@@ -37,7 +37,7 @@ unfoldable pub admitFor : Bool → Setup → List ℕ → Lent → Check → Tal
 admitFor alone setup counts lent check tally reply s =
     pick alone (admitSubjectWith setup counts lent check tally reply s) (admitWith setup counts lent check tally reply s)
 
--- it is let in or not; the observations are added to its evaluation, none where it is not let in; and the rest is as for a reply that
+-- it is accepted or not; the observations are added to its evaluation, none where it is not accepted; and the rest is as for a reply that
 -- lends all of them
 unfoldable pub subjectReplyOver : Setup → List ℕ → List Observation → Tally → List ℕ → List ℕ → List ℕ → List ℕ → List ℕ → List ℕ → List ℕ
     → Out

@@ -1,6 +1,7 @@
-// Setup, new objective and failure with the state and the answer as words (see `hosting`). The tally goes by
-// value here, and of the observations what was found of them. Each function is defined for all values and words. Words that
-// are no state get 19, and so does a setup that is lent fewer.
+// Setup, new objective and failure with the state and the answer as words (see lib.rt). The tally goes by
+// value here, and of the observations there is what was found of them. Each function is defined for all
+// values and words. Words that are no state are refused with 19, and so is a setup that is lent fewer than
+// 63.
 ghost use mathlib.Core.Path.{_≡_};
 ghost use Rattle.host_calls.specs.Hosting.{setupOf, parametersOf, out, openWith, objectiveWith, failureWith};
 use super::Done;
@@ -13,7 +14,8 @@ use subject::Check;
 // The words of a state.
 pub const STATE_WORDS: usize = 63;
 
-// Setup.
+// Setup: opens a session where the state has room for 63 words and 1 to 5 pass, and writes its state and the
+// answer.
 pub fn open(
     setup: SessionSetup,
     tally: Tally,
@@ -50,7 +52,8 @@ pub fn open(
     super::opened(set_up, state, answer)
 }
 
-// A new objective.
+// A new objective: begins it where it is accepted, runs it until there is a question or an end, and writes
+// the state and the answer.
 pub fn begin_objective(
     setup: SessionSetup,
     parameters: SessionParameters,
@@ -91,7 +94,8 @@ pub fn begin_objective(
     }
 }
 
-// The simulator failed.
+// The simulator failed: where the failure is accepted, the objective ends with 8. The state and the answer
+// are written.
 pub fn fail(
     setup: SessionSetup,
     tally: Tally,

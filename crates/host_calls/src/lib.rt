@@ -1,3 +1,12 @@
+// What crosses to a host that keeps the state and takes the answer as words: the setup and the parameters as
+// it gives them, and a call's answer, state and tally as it gets them. The calls are in `calls`, a reply's
+// two parts in `replies`. Each function is defined for all values and words.
+//
+// The state is the 63 words of `state_words`. A refusal with 1 to 5 or 19 alters nothing but the answer.
+//
+// The answer is five words: 0 for a question, then both etas and both individual values; 1 for an end, then
+// the objective (0 for setup) and zeros; 2 for a refusal, then its number, 0 for no place, 1 for a subject
+// and 2 for an observation, the subject and the observation.
 ghost use mathlib.Core.Path.{_≡_};
 ghost use Rattle.search.specs.declared.Place.the-variants.{Nowhere};
 ghost use Rattle.host_calls.specs.Hosting.{additiveSd, setupOf, parametersOf, setupFrom, setupBits, parametersFrom, parameterBits, placeWords, answerOf, answered, numberOf, isUnaltered, toldAs, told, noState, opened};
@@ -16,17 +25,8 @@ use setup::Parameters;
 use setup::Setup;
 use subject::AdditiveSd;
 
-// What crosses to a host that keeps the state and takes the answer as words: the setup and the parameters as
-// it gives them, and a call's answer, state and tally as it gets them. Each function is defined for all
-// values and words.
-//
-// The state is the 63 words of `session_words`. A refusal with 1 to 5 or 19 alters nothing but the answer.
-//
-// The answer is five words: 0 for a question, then both etas and both individual values; 1 for an end, then
-// the objective (0 for setup) and zeros; 2 for a refusal, then its number, 0 for no place, 1 for a subject
-// and 2 for an observation, the subject and the observation.
-
-// The setup as a host has it: `additive` overrides the observations' own deviations where `has_additive`.
+// The setup of a session as a host gives it: `additive` overrides the observations' own deviations where
+// `has_additive`.
 #[repr(C)]
 pub struct SessionSetup {
     pub effects: u32,
@@ -44,7 +44,8 @@ pub struct SessionSetup {
     pub max_evaluations: u32,
 }
 
-// What may change with each objective.
+// The parameters of an objective as a host gives them: theta, the second theta with two effects, and with one
+// effect omega and an additive override where `has_additive`.
 #[repr(C)]
 pub struct SessionParameters {
     pub theta: f64,
@@ -54,13 +55,13 @@ pub struct SessionParameters {
     pub additive: f64,
 }
 
-// Document 01's number, 0 where nothing is refused, and the tally.
+// What a call gives back beside the words: document 01's number, 0 where nothing is refused, and the tally.
 pub struct Done {
     pub number: u32,
     pub tally: Tally,
 }
 
-// The words of an answer.
+// The five words of an answer.
 pub struct AnswerWords {
     pub kind: u64,
     pub first: u64,
@@ -80,7 +81,7 @@ fn additive_sd(has_additive: bool, additive: f64) -> AdditiveSd
     AdditiveSd::Own
 }
 
-// The setup as the session has it: whatever it is, it is the one that its bits stand for.
+// The setup as the session has it. Whatever a host gives, this is the setup that its bits stand for.
 pub fn setup_of(setup: SessionSetup) -> Setup
     ensures { λ r. ⌜ (r ≡ setupOf setup) × (setupOf setup ≡ setupFrom (setupBits setup)) ⌝ }
 {
@@ -101,7 +102,8 @@ pub fn setup_of(setup: SessionSetup) -> Setup
     }
 }
 
-// The parameters as the session has them, and as their bits stand for.
+// The parameters as the session has them. Whatever a host gives, these are the parameters that their bits
+// stand for.
 pub fn parameters_of(parameters: SessionParameters) -> Parameters
     ensures { λ r. ⌜ (r ≡ parametersOf parameters) × (parametersOf parameters ≡ parametersFrom (parameterBits parameters)) ⌝ }
 {
@@ -188,7 +190,7 @@ fn number_of(step: Step) -> u32
     }
 }
 
-// Whether it is the number of a refusal that alters nothing.
+// Whether this is the number of a refusal that alters nothing: 1 to 5 or 19.
 fn is_unaltered(number: u32) -> bool
     ensures { λ r. ⌜ r ≡ isUnaltered number ⌝ }
 {
@@ -201,7 +203,8 @@ fn is_unaltered(number: u32) -> bool
     number == 19
 }
 
-// The answer is written, and the state unless nothing is altered.
+// Hands a call's answer to the host: writes the answer's words, and the state's unless the call was refused
+// and alters nothing.
 pub fn told(called: Called, state: &mut [u64], answer: &mut [u64]) -> Done
     ensures { λ r. ⌜ toldAs r (now (state .exit)) (now (answer .exit)) ≡ told called (now (state .entry)) (now (answer .entry)) ⌝ }
 {
@@ -217,7 +220,7 @@ pub fn told(called: Called, state: &mut [u64], answer: &mut [u64]) -> Done
     Done { number, tally }
 }
 
-// The words are no state: 19.
+// The answer where the lent words are no state: 19.
 pub fn no_state(tally: Tally, answer: &mut [u64]) -> Done
     ensures { λ r. ⌜ (r ≡ noState tally) × (now (answer .exit) ≡ answered (placeWords 19 Nowhere) (now (answer .entry))) ⌝ }
 {
@@ -225,7 +228,8 @@ pub fn no_state(tally: Tally, answer: &mut [u64]) -> Done
     Done { number: 19, tally }
 }
 
-// A setup: the answer is written, and the state where there is one.
+// Hands the answer of setup to the host: writes the answer's words, and the state's where a session was
+// opened.
 pub fn opened(begun: Begun, state: &mut [u64], answer: &mut [u64]) -> Done
     ensures { λ r. ⌜ toldAs r (now (state .exit)) (now (answer .exit)) ≡ opened begun (now (state .entry)) (now (answer .entry)) ⌝ }
 {

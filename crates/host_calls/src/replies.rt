@@ -1,6 +1,6 @@
-// A reply in its two parts, with the state and the answer as words (see `hosting`). Between the two a loop adds
+// A reply in its two parts, with the state and the answer as words (see lib.rt). Between the two a loop adds
 // the observations to the evaluation. Each function is defined for all values and words. Words that are no
-// state get 19.
+// state are refused with 19.
 ghost use mathlib.Core.Path.{_≡_};
 ghost use Rattle.session.specs.Calls.{lentBy};
 ghost use Rattle.state_words.specs.SessionWords.{loadedState};
@@ -16,7 +16,8 @@ use subject::Check;
 use subject::Evaluation;
 use subject::Position;
 
-// The first part of a reply that lends the observations of all subjects. The state is only read.
+// The first part of a reply that lends all observations: whether it is accepted, and the evaluation that
+// begins with it. The state is only read.
 fn admit_reply(
     setup: SessionSetup,
     tally: Tally,
@@ -45,8 +46,8 @@ fn admit_reply(
     }
 }
 
-// Where the check begins of the observations of the awaited subject, which alone are lent. The state is
-// only read.
+// Where the check of the observations begins, if those of the awaited subject alone are lent: at the first of
+// the subject that the state's words name. The state is only read.
 pub fn subject_first(state: &mut [u64]) -> Check
     ensures { λ r. ⌜ (r ≡ subjectFirst (now (state .entry))) × (now (state .exit) ≡ now (state .entry)) ⌝ }
 {
@@ -57,8 +58,8 @@ pub fn subject_first(state: &mut [u64]) -> Check
     })
 }
 
-// The first part of a reply that lends the observations of the awaited subject alone. The state is only
-// read.
+// The first part of a reply that lends the observations of the awaited subject alone: whether it is accepted,
+// and the evaluation that begins with it. The state is only read.
 fn admit_subject_reply(
     setup: SessionSetup,
     tally: Tally,
@@ -106,7 +107,9 @@ pub fn admit(
     admit_reply(setup, tally, check, lent, counts, reply, state)
 }
 
-// The second part of a reply, with the evaluation that the observations were added to.
+// The second part of a reply: `admitted` is what the first part answered, and `evaluation` the one that the
+// observations were added to. The objective runs on until there is a question or an end, and the state and
+// the answer are written.
 pub fn finish_reply(
     setup: SessionSetup,
     tally: Tally,

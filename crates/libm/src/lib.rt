@@ -41,8 +41,8 @@ const P4: f64 = -1.65339022054652515390e-06;
 
 const P5: f64 = 4.13813679705723846039e-08;
 
-// a - b as a float. No branch: whether a variance is below or above 1 is not to be guessed by the
-// processor.
+// a - b as a float. There is no branch, since the processor would often guess wrong whether a variance is
+// below or above 1.
 fn difference(a: u32, b: u32) -> f64
     ensures { λ r. ⌜ r ≡ ofInt binary64 (minus a b) ⌝ }
 {
@@ -83,8 +83,8 @@ fn log_of_word(word: u64, up: u32) -> f64
     log_around(dk, x)
 }
 
-// The natural logarithm: of zero minus infinity, below zero NaN, of infinity and NaN themselves. A
-// positive normal float comes first, so that no test of a NaN is on its way.
+// The natural logarithm, log of musl's log.c. Zero gives minus infinity, a number below zero NaN; infinity
+// and NaN give themselves. A positive normal float is answered first, without a test for NaN.
 pub fn log(x: f64) -> f64
     ensures { λ r. ⌜ r ≡ log x ⌝ }
 {
@@ -153,6 +153,7 @@ fn multiple(x: f64, hx: u64) -> i64
     std::num::truncating_f64_to_i64(INV_LN2 * x + 0.5)
 }
 
+// exp of an x from -EDGE to EDGE, by musl's three ranges of |x|.
 fn exp_within(x: f64) -> f64
     requires { ⌜ Within x ⌝ }
     ensures { λ r. ⌜ r ≡ expWithin x ⌝ }
@@ -168,7 +169,7 @@ fn exp_within(x: f64) -> f64
     exp_around(x, k)
 }
 
-// e^x from -EDGE to EDGE (16), both included; NaN elsewhere.
+// e^x, exp of musl's exp.c, for x from -EDGE to EDGE (16), both included; NaN elsewhere.
 pub fn exp(x: f64) -> f64
     ensures { λ r. ⌜ r ≡ exp x ⌝ }
 {

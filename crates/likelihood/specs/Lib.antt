@@ -1,5 +1,5 @@
--- What a reader must believe of this crate: Terms, to be held beside the paper, and RowTerms, to be held beside population_focei.rs.
--- What a reader must believe of this crate: Row2, to be held beside population_focei_2d.rs.
+-- What a reader must believe of this crate: Terms, to be held beside the paper; RowTerms, to be held beside population_focei.rs; Row2, to
+-- be held beside population_focei_2d.rs.
 pub mod Terms
 pub mod RowTerms
 pub mod Row2

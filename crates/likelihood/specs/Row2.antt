@@ -1,4 +1,4 @@
--- One turn of the loop over a subject's rows in population_focei_2d.rs.
+-- The body of the loop over a subject's rows, in `subject` of population_focei_2d.rs.
 use mathlib.Core.List.{List}
 use Prim.Native.Nat.{ℕ}
 use lib.Ieee.{Float, le}
@@ -18,7 +18,7 @@ unfoldable pub answer : RowVariance → Answer Float
 answer (Valid R) = given R
 answer Invalid = refused 11
 
--- document 01's question 11
+-- document 01's check 11
 unfoldable pub rowVariance : Observation → Float → List Float → Answer Float
 rowVariance observation prediction f-eta =
     let R = variance (observation .additive) (observation .proportional) prediction in

@@ -1,4 +1,4 @@
--- row_terms of population_focei.rs.
+-- `row_terms` of population_focei.rs.
 use lib.Ieee.{Float, le}
 use Rattle.float64.specs.Arithmetic.{word}
 use Rattle.float64.specs.Float64.{nonfinite}
@@ -28,7 +28,7 @@ termsAt R observation prediction f-eta =
       information = informationTerm R f-eta f-eta scaled scaled;
     }
 
--- document 01's question 12
+-- document 01's check 12
 unfoldable pub finiteTerms : RowTerms → Answer RowTerms
 finiteTerms t =
     pick (nonfinite (t .nll)) (refused 12)
@@ -36,7 +36,7 @@ finiteTerms t =
     (pick (nonfinite (t .information)) (refused 12)
     (given t)))
 
--- its question 11, and then 12
+-- document 01's check 11, and then 12
 unfoldable pub rowTerms : Observation → Float → Float → Float → Answer RowTerms
 rowTerms observation prediction f-eta additive =
     let R = variance additive (observation .proportional) prediction in

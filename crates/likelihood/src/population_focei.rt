@@ -1,4 +1,5 @@
-// A row of a fit with one random effect.
+// A row of a fit with one random effect: `row_terms` of population_focei.rs. Each function is defined for all
+// floats.
 ghost use mathlib.Core.Path.{_≡_};
 ghost use mathlib.Core.Bool.{true};
 ghost use lib.Ieee.{le};
@@ -8,10 +9,11 @@ ghost use Rattle.float64.specs.Pick.{pick};
 ghost use Rattle.likelihood.specs.RowTerms.{answer, rowTerms};
 use float64::LARGEST;
 
+// log 2π, which each observation adds to twice its negative log likelihood.
 pub const LOG_2PI: f64 = 1.8378770664093453;
 
-// A measured value, the output and the row of the simulator's reply that predict it, and the additive
-// and the proportional deviation of its error.
+// A measured value, the output and the row of the simulator's reply that predict it, and the additive and the
+// proportional deviation of its error.
 #[repr(C)]
 pub struct Observation {
     pub output: usize,
@@ -21,23 +23,23 @@ pub struct Observation {
     pub proportional: f64,
 }
 
-// A row's part of the negative log likelihood, of its derivative by eta, and of the expected
-// information.
+// What a row adds to the negative log likelihood, to its derivative by eta, and to the expected information.
 pub struct RowTerms {
     pub nll: f64,
     pub score: f64,
     pub information: f64,
 }
 
-// The answer of row_terms, with a case for each of the source's two errors.
+// The answer of row_terms: the terms of a row, or one of the source's two errors, document 01's 11
+// (InvalidVariance) and 12 (Overflow).
 pub enum Row {
     Terms(RowTerms),
     InvalidVariance,
     Overflow,
 }
 
-// The source's two tests of a variance, that it is not finite or is at most 0, in one: a variance is above
-// 0 and up to the largest finite float. A NaN fails the first test.
+// Whether a variance is refused. A variance is above 0 and at most the largest finite float; that is the
+// source's two tests, `!variance.is_finite()` and `variance <= 0.`, in one. A NaN is refused.
 pub fn is_no_variance(variance: f64) -> bool
     ensures { λ r. ⌜ r ≡ pick (nonfinite variance) true (le variance (word 0)) ⌝ }
 {
@@ -47,7 +49,8 @@ pub fn is_no_variance(variance: f64) -> bool
     true
 }
 
-// The terms of a row. `additive` is the observation's own, or the one that overrides it.
+// The terms of a row, the source's `row_terms`. `f_eta` is the derivative of the prediction by eta;
+// `additive` is the observation's own additive deviation, or the one that overrides it.
 pub fn row_terms(observation: Observation, prediction: f64, f_eta: f64, additive: f64) -> Row
     ensures { λ r. ⌜ answer r ≡ rowTerms observation prediction «f_eta» additive ⌝ }
 {

@@ -9,7 +9,7 @@ use Rattle.machine.specs.Rules.{Rules, Trial, points, point, after, want
 pub data Event (Settings Point Conditional Trial : Type 0) : Type 0 where
   -- a subject's search begins: the subject, its settings, the tally's evaluations
   Began : ℕ → Settings → ℕ → Event Settings Point Conditional Trial
-  -- it asks an evaluation
+  -- it asks for an evaluation
   Ask : Point → Event Settings Point Conditional Trial
   -- nothing is kept for it and check 6 passes: the tally's evaluations, now one more
   Count : ℕ → Event Settings Point Conditional Trial
@@ -50,7 +50,7 @@ module _ (R : Rules) where
     pub settings : R .Settings
     -- the evaluations that it was given, in their order
     pub trials : List (Trial R)
-    -- how many it asked
+    -- how many it asked for
     pub asked : ℕ
     -- the tally's evaluations when it began, and as it left them
     pub from : ℕ

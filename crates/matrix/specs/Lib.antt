@@ -1,2 +1,2 @@
--- What a reader must believe of this crate, to be held beside population_focei_2d.rs.
+-- What a reader must believe of this crate: Matrix, to be held beside population_focei_2d.rs.
 pub mod Matrix

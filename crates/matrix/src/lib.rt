@@ -1,28 +1,30 @@
-// Pairs and two by two matrices of floats, by value, with the operations of population_focei_2d.rs in
-// its order. Each function is defined for all floats.
+// Pairs and two by two matrices of floats, by value, with the operations of population_focei_2d.rs in that
+// file's order. Each function is defined for all floats.
 ghost use mathlib.Core.Path.{_≡_};
 ghost use Rattle.matrix.specs.Matrix.{answer, determinant, hasNonfiniteEntry, inverse, inversePositive, product, dot};
 
-// The source's Vector, a value for each effect, where a struct or an enum holds one.
+// The source's Vector: a value for each effect. It is used where a struct or an enum holds one; elsewhere a
+// vector is an array.
 pub struct Pair {
     pub first: f64,
     pub second: f64,
 }
 
-// The answer of inverse_positive: the determinant, or no inverse. An enum holds no array, so the
-// inverse itself, which the source answers too, is `inverse(matrix, det)`.
+// The answer of inverse_positive: the determinant of a matrix that has an inverse, or none. The source
+// answers with the inverse too; an enum holds no array, so here it is `inverse(matrix, det)`.
 pub enum InversePositive {
     Exists(f64),
     None,
 }
 
+// The determinant of a matrix, the source's `determinant`.
 pub fn determinant(matrix: [[f64; 2]; 2]) -> f64
     ensures { λ r. ⌜ r ≡ determinant matrix ⌝ }
 {
     matrix[0][0] * matrix[1][1] - matrix[0][1] * matrix[1][0]
 }
 
-// Whether some entry is a NaN or an infinity.
+// Whether some entry of a matrix is a NaN or an infinity.
 pub fn has_nonfinite_entry(matrix: [[f64; 2]; 2]) -> bool
     ensures { λ r. ⌜ r ≡ hasNonfiniteEntry matrix ⌝ }
 {
@@ -38,8 +40,8 @@ pub fn has_nonfinite_entry(matrix: [[f64; 2]; 2]) -> bool
     float64::is_nonfinite(matrix[1][1])
 }
 
-// The determinant of a matrix that is positive on the diagonal and has an inverse. The last test turns
-// away a matrix that only rounding keeps from being singular.
+// The source's `inverse_positive`: the determinant of a matrix whose diagonal is positive and which has an
+// inverse. The last test refuses a matrix whose determinant is so small that it may be rounding alone.
 pub fn inverse_positive(matrix: [[f64; 2]; 2]) -> InversePositive
     ensures { λ r. ⌜ answer matrix r ≡ inversePositive matrix ⌝ }
 {
@@ -62,7 +64,7 @@ pub fn inverse_positive(matrix: [[f64; 2]; 2]) -> InversePositive
     InversePositive::Exists(det)
 }
 
-// The inverse of a matrix whose determinant is `det`.
+// The inverse of a matrix whose determinant is `det`, as `inverse_positive` of the source computes it.
 pub fn inverse(matrix: [[f64; 2]; 2], det: f64) -> [[f64; 2]; 2]
     ensures { λ r. ⌜ r ≡ inverse matrix det ⌝ }
 {
@@ -72,6 +74,7 @@ pub fn inverse(matrix: [[f64; 2]; 2], det: f64) -> [[f64; 2]; 2]
     ]
 }
 
+// A matrix times a vector, the source's `product`.
 pub fn product(matrix: [[f64; 2]; 2], vector: [f64; 2]) -> [f64; 2]
     ensures { λ r. ⌜ r ≡ product matrix vector ⌝ }
 {
@@ -81,6 +84,7 @@ pub fn product(matrix: [[f64; 2]; 2], vector: [f64; 2]) -> [f64; 2]
     ]
 }
 
+// The sum of the products of two vectors' entries, the source's `dot`.
 pub fn dot(left: [f64; 2], right: [f64; 2]) -> f64
     ensures { λ r. ⌜ r ≡ dot left right ⌝ }
 {

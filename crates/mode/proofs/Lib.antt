@@ -1,1 +1,2 @@
+-- Paths: the ways through `Search::request` and `Search::advance`, for their proofs.
 pub mod Paths

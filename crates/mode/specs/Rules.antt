@@ -92,7 +92,7 @@ firstScore x c = pick (eqb (x .count) 0) (c .score) (x .first)
 unfoldable pub fell : Search → Conditional → Bool
 fell x c = pick (isAbove (x .latest)) (pick (isUnder c) true (x .fall)) (x .fall)
 
--- the next grid point, held against the latest one
+-- the next grid point, compared with the latest one
 unfoldable pub screened : Search → Conditional → Search
 screened x c =
     record {
@@ -124,8 +124,8 @@ entered s x =
       best = pick (isCloser (x .left) (x .right)) (x .left) (x .right);
     }
 
--- 13 and 14 leave the search on the grid. So does a grid without a cell, which only a NaN score makes: the start's right end is not above
--- 0.
+-- 13 and 14 leave the search on the grid. So does a grid without an upward cell, which only a NaN score makes: then the right end is that
+-- of the start, which is not above 0.
 unfoldable pub chosen : Settings → Search → Search
 chosen s x =
     pick (ltb (x .count) 17) x

@@ -1,3 +1,3 @@
-// The searches for a subject's conditional mode, as rules: what is asked next, and what an evaluated
-// point makes of the search. Each module is the search of the source file of its name.
+// The search for a subject's conditional mode with one effect, as rules: what is asked next, and what an
+// evaluated point makes of the search. The module is the search of the source file of its name.
 pub mod population_focei;

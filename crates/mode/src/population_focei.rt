@@ -1,12 +1,12 @@
-// The one-effect search, `mode` of population_focei.rs: seventeen grid points, the warm start, secant
-// steps, halvings.
+// The one-effect search, `mode` of population_focei.rs: seventeen grid points, the warm start, secant steps,
+// halvings. Each public function is defined for all values.
 ghost use mathlib.Core.Path.{_≡_};
 ghost use Prim.Native.Nat.{_<_};
 ghost use Rattle.float64.specs.Pick.{pick};
 ghost use Rattle.mode.specs.Rules.{etaTolerance, gridPoint, secantPoint, midpoint, settled, isAbove, isUnder, isCloser, firstScore, fell, firstStage, start, request, screened, entered, tried, chosen, advance};
 
-// What a search is given: eta_bound, omega, the tolerance of eta (`eta_tolerance`) and the subject's
-// warm start.
+// What a search is given: eta_bound, omega, the tolerance of eta (`eta_tolerance`) and the subject's warm
+// start.
 pub struct Settings {
     pub eta_bound: f64,
     pub omega: f64,
@@ -14,7 +14,8 @@ pub struct Settings {
     pub warm: f64,
 }
 
-// One evaluated point. The prior's eta / omega is added to the score.
+// One evaluated point, the source's Conditional without its rows. Its score has the prior's eta / omega
+// added.
 pub struct Conditional {
     pub eta: f64,
     pub nll: f64,
@@ -22,6 +23,7 @@ pub struct Conditional {
     pub information: f64,
 }
 
+// The stages of a search, in their order: the points of the grid, the warm start, secant steps, halvings.
 pub enum Stage {
     Grid,
     Warm,
@@ -29,9 +31,9 @@ pub enum Stage {
     Halving,
 }
 
-// A search between two evaluations. `count` is the number of points of the stage that are evaluated.
-// Of the grid it keeps the first score, the latest point, whether the score fell from above 0 to 0 or
-// below, and the latest cell that rises: `left` and `right`, which are the bracket afterwards.
+// A search between two evaluations. `count` is the number of points of the stage that are evaluated. Of the
+// grid it keeps the first score, the latest point, whether the score fell from above 0 to 0 or below, and the
+// latest upward cell: `left` and `right`, which are the bracket afterwards.
 pub struct Search {
     pub stage: Stage,
     pub count: u32,
@@ -43,33 +45,36 @@ pub struct Search {
     pub best: Conditional,
 }
 
-// The next point, a mode (the search's best point), or document 01's number for a no: 13, 14 or 15.
+// What a search asks for: the next point, to end in its mode (the search's best point), or to end in a
+// refusal with document 01's number, 13, 14 or 15.
 pub enum Request {
     Point(f64),
     Mode,
     Refused(u32),
 }
 
-// The tolerance of a search's modes, in eta.
+// The tolerance of eta within which a mode is settled: gradient_tolerance · 1e-4, clamped to 1e-12..1e-8.
 pub fn eta_tolerance(gradient_tolerance: f64) -> f64
     ensures { λ r. ⌜ r ≡ etaTolerance «gradient_tolerance» ⌝ }
 {
     float64::clamp(gradient_tolerance * 1e-4, 1e-12, 1e-8)
 }
 
+// Whether a point's score is above 0.
 pub fn is_above(c: Conditional) -> bool
     ensures { λ r. ⌜ r ≡ isAbove c ⌝ }
 {
     c.score > 0.0
 }
 
+// Whether a point's score is 0 or below.
 pub fn is_under(c: Conditional) -> bool
     ensures { λ r. ⌜ r ≡ isUnder c ⌝ }
 {
     c.score <= 0.0
 }
 
-// Whether a has the smaller absolute score.
+// Whether the first point has the smaller absolute score.
 pub fn is_closer(a: Conditional, b: Conditional) -> bool
     ensures { λ r. ⌜ r ≡ isCloser a b ⌝ }
 {
@@ -117,6 +122,7 @@ fn settled(s: Settings, value: Conditional, left: Conditional, right: Conditiona
     float64::abs(value.score) / (1.0 / s.omega + value.information) <= s.tolerance
 }
 
+// The score of the first grid point.
 fn first_score(x: Search, c: Conditional) -> f64
     ensures { λ r. ⌜ r ≡ firstScore x c ⌝ }
 {
@@ -126,6 +132,7 @@ fn first_score(x: Search, c: Conditional) -> f64
     x.first
 }
 
+// Whether the score has fallen from above 0 to 0 or below, here or before.
 fn fell(x: Search, c: Conditional) -> bool
     ensures { λ r. ⌜ r ≡ fell x c ⌝ }
 {
@@ -138,7 +145,7 @@ fn fell(x: Search, c: Conditional) -> bool
     x.fall
 }
 
-// The warm start is tried where it lies strictly inside the cell.
+// The stage after the grid: the warm start is tried where it lies strictly inside the cell.
 fn first_stage(s: Settings, left: Conditional, right: Conditional) -> Stage
     ensures { λ r. ⌜ r ≡ firstStage s left right ⌝ }
 {
@@ -151,7 +158,7 @@ fn first_stage(s: Settings, left: Conditional, right: Conditional) -> Stage
     Stage::Secant
 }
 
-// The search with one more grid point, held against the latest one.
+// The search with one more grid point, compared with the latest one.
 fn screened(x: Search, c: Conditional) -> Search
     requires { ⌜ x .count < 17 ⌝ }
     ensures { λ r. ⌜ r ≡ screened x c ⌝ }
@@ -193,7 +200,7 @@ fn entered(s: Settings, x: Search) -> Search
     }
 }
 
-// After the last grid point the search enters its cell, unless 13 or 14 holds it back.
+// After the last grid point the search enters its cell, unless it is to be refused with 13 or 14.
 fn chosen(s: Settings, x: Search) -> Search
     ensures { λ r. ⌜ r ≡ chosen s x ⌝ }
 {
@@ -238,7 +245,7 @@ fn tried(stage: Stage, count: u32, x: Search, c: Conditional) -> Search
 }
 
 impl Search {
-    // A search that has asked nothing.
+    // A search that has not asked for anything yet.
     pub fn start() -> Search
         ensures { λ r. ⌜ r ≡ start ⌝ }
     {
@@ -260,7 +267,7 @@ impl Search {
         }
     }
 
-    // What the search asks next.
+    // What the search asks for next.
     pub fn request(self, s: Settings) -> Request
         ensures { λ r. ⌜ r ≡ request s self ⌝ }
     {
@@ -297,7 +304,7 @@ impl Search {
         }
     }
 
-    // The search with one more evaluated point. One that has no point left to ask for stays as it is.
+    // The search with one more evaluated point. A search that has no point left to ask for stays as it is.
     pub fn advance(self, s: Settings, c: Conditional) -> Search
         ensures { λ r. ⌜ r ≡ advance s self c ⌝ }
     {

@@ -1,5 +1,5 @@
-// The two-effect search, `mode` of population_focei_2d.rs: the point zero, then from each of six starts
-// up to 48 Newton rounds of up to 22 reductions (`mode_from_seed`).
+// The two-effect search, `mode` of population_focei_2d.rs: the point zero, then from each of six starts up to
+// 48 Newton rounds of up to 22 reductions (`mode_from_seed`). Each public function is defined for all values.
 ghost use mathlib.Core.Path.{_≡_};
 ghost use Prim.Native.Nat.{_<_, _≤_, _-_};
 ghost use Rattle.mode_2d.specs.Rules.{vector, pairOf, precision, priorScore, joint, penalisedScore, maxAbs, norm, curvature, stepBy, scale, reduced, trialPoint, decrease, isSame, isPassedOver, nextReduction, isTaken, startPoint, isUnresolved, isFar, better, between, finish, start, request, advance};
@@ -7,8 +7,8 @@ ghost use Rattle.mode_2d.specs.Turns.{over, beginning, taking, leaving, 
 use matrix::InversePositive;
 use matrix::Pair;
 
-// What a search is given: eta_bound, the entries of the precision (omega's inverse) by row and column, and
-// the subject's warm start.
+// What a search with two effects is given: eta_bound, the entries of the precision (omega's inverse) by row
+// and column, and the subject's warm start.
 pub struct Settings2 {
     pub eta_bound: f64,
     pub p00: f64,
@@ -18,7 +18,8 @@ pub struct Settings2 {
     pub warm: Pair,
 }
 
-// One evaluated point, with the entries of its information by row and column. Nothing has the prior.
+// One evaluated point with two effects, the source's Conditional2 without its rows, with the entries of its
+// information by row and column. Neither the score nor the information includes the prior.
 pub struct Conditional2 {
     pub eta: Pair,
     pub nll: f64,
@@ -29,15 +30,15 @@ pub struct Conditional2 {
     pub i11: f64,
 }
 
-// The Newton step of a round: from `eta` against `direction`, where the penalised score is `score`.
+// The Newton step of a round: from `eta`, where the penalised score is `score`, against `direction`.
 pub struct NewtonStep {
     pub eta: Pair,
     pub score: Pair,
     pub direction: Pair,
 }
 
-// The point awaited: zero, a start, or a trial of a round. Or the end: a mode, or document 01's number for
-// a no.
+// The point that a search waits for: zero, a start, or a trial of a round; or its end: a mode, or a refusal
+// with document 01's number.
 pub enum Stage2 {
     Zero,
     Start,
@@ -46,10 +47,10 @@ pub enum Stage2 {
     Halted(u32),
 }
 
-// A search between two evaluations. `seed` numbers the start, 0 to 5; `current` is where its rounds stand,
-// and once they are over its candidate; `best` is the best candidate of the starts before (before the
-// first candidate, the evaluation at zero). `trial` is the point awaited in a round, and `decrease` the
-// fall of `joint` that is foreseen there.
+// A search with two effects between two evaluations. `seed` numbers the start, 0 to 5, and is 6 once the mode
+// is found; `current` is where its rounds stand, and once they are over its candidate; `best` is the best
+// candidate of the starts before (before the first candidate, the evaluation at zero). `trial` is the point
+// awaited in a round, and `decrease` the fall of `joint` that is foreseen there.
 pub struct Search2 {
     pub stage: Stage2,
     pub seed: u32,
@@ -62,23 +63,23 @@ pub struct Search2 {
 }
 
 // What an evaluated point leads to: to the first start; to a start's rounds, which go on in this round from
-// this reduction on, at this point (from 22 on there is no reduction, and they are over); or to nothing
-// more.
+// this reduction on, at this point (from 22 on there is no reduction, and they are over); or to nothing more.
 pub enum Turn {
     FirstStart,
     Rounds(u32, u32, Conditional2),
     Ended,
 }
 
-// What the rounds do next: a trial is asked for, of a round and a reduction, with the fall of `joint` that is
-// foreseen there; or they are over; or there is no step, for want of an inverse of the curvature.
+// What the rounds of a start do next: they ask for a trial, of a round and a reduction, with the fall of
+// `joint` that is foreseen there; or they are over; or there is no step, since the curvature has no inverse.
 pub enum Onward {
     Try(u32, u32, Pair, f64),
     Over,
     NoInverse,
 }
 
-// The next point, a mode (the search's best point), or document 01's number for a no: 13, 14 or 16.
+// What a search with two effects asks for: the next point, to end in its mode (the search's best point), or
+// to end in a refusal with document 01's number, 13, 14 or 16.
 pub enum Request2 {
     Point(Pair),
     Mode,
@@ -113,7 +114,7 @@ fn prior_score(s: Settings2, eta: Pair) -> [f64; 2]
     matrix::product(precision(s), vector(eta))
 }
 
-// Document 01's joint: the penalised negative log likelihood.
+// Document 01's joint, the penalised negative log likelihood of an evaluated point: the source's `joint`.
 pub fn joint(s: Settings2, c: Conditional2) -> f64
     ensures { λ r. ⌜ r ≡ joint s c ⌝ }
 {
@@ -238,14 +239,15 @@ fn next_reduction(eta_bound: f64, step: NewtonStep, from: u32) -> u32
     reduction
 }
 
-// Whether `joint` at the trial's evaluation c falls by at least 1e-4 of what was foreseen.
+// Whether the trial of a round is taken: `joint` at its evaluation c falls by at least 1e-4 of what was
+// foreseen.
 pub fn is_taken(s: Settings2, x: Search2, c: Conditional2) -> bool
     ensures { λ r. ⌜ r ≡ isTaken s x c ⌝ }
 {
     joint(s, c) <= joint(s, x.current) - 1e-4 * x.decrease
 }
 
-// The six starts.
+// The six starts: the warm start, zero, and half the bound to either side in each effect.
 fn start_point(s: Settings2, seed: u32) -> Pair
     ensures { λ r. ⌜ r ≡ startPoint s seed ⌝ }
 {
@@ -399,7 +401,8 @@ fn proceed(s: Settings2, round: u32, from: u32, c: Conditional2) -> Onward
     Onward::Over
 }
 
-// The search afterwards. Without an inverse of the curvature it ends with 16.
+// The search after an evaluated point, in the rounds of a start. Without an inverse of the curvature it ends
+// with 16.
 fn go_on(
     s: Settings2,
     seed: u32,
@@ -454,7 +457,7 @@ fn take(s: Settings2, x: Search2, c: Conditional2) -> Turn
     over(c)
 }
 
-// A trial that is not: the next reduction, unless this was the last of 22.
+// A trial that is not taken: the next reduction follows, unless this was the last of 22.
 fn leave(x: Search2) -> Turn
     ensures { λ r. ⌜ r ≡ leaving x ⌝ }
 {
@@ -485,7 +488,7 @@ fn turn_after(s: Settings2, x: Search2, c: Conditional2) -> Turn
 }
 
 impl Search2 {
-    // A search that has asked nothing.
+    // A search that has not asked for anything yet.
     pub fn start() -> Search2
         ensures { λ r. ⌜ r ≡ start ⌝ }
     {
@@ -505,7 +508,7 @@ impl Search2 {
         between(Stage2::Zero, 0, nowhere, nowhere)
     }
 
-    // What the search asks next.
+    // What the search asks for next.
     pub fn request(self, s: Settings2) -> Request2
         ensures { λ r. ⌜ r ≡ request s self ⌝ }
     {
@@ -525,7 +528,7 @@ impl Search2 {
         }
     }
 
-    // The search with one more evaluated point. One that has ended stays as it is.
+    // The search with one more evaluated point. A search that has ended stays as it is.
     pub fn advance(self, s: Settings2, c: Conditional2) -> Search2
         ensures { λ r. ⌜ r ≡ advance s self c ⌝ }
     {

@@ -73,7 +73,7 @@ isStart Trial = false
 isStart Found = false
 isStart (Halted n) = false
 
--- the evaluations of the starts, each as had at its own trial
+-- the evaluations of the starts, each as the search was given it
 unfoldable pub startsFrom : Settings2 → Search2 → List Conditional2 → List Conditional2
 startsFrom s x [] = []
 startsFrom s x (c ∷ h) = pick (isStart (x .stage)) (c ∷ startsFrom s (advance s x c) h) (startsFrom s (advance s x c) h)

@@ -1,3 +1,6 @@
+// The only readers of lent structs: the observations, which are checked (4) and added to an evaluation one
+// after the other, and the tally, which is copied out before a call decides anything and written back after
+// it. Each public function is defined for all values and words.
 ghost use mathlib.Core.Path.{_≡_};
 ghost use Prim.Native.Nat.{_<_, _-_};
 ghost use lib.ListN.{length, take, drop};
@@ -18,10 +21,7 @@ use subject::Position;
 use subject::Trial;
 use words::smaller;
 
-// The lent observations: a subject's are added to its evaluation one after the other, and all are checked.
-// Here alone are they read.
-
-// The one reader of a lent observation.
+// Reads a lent observation; no other function does.
 fn observation_at(observations: &[Observation], i: usize) -> Observation
     requires { ⌜ i < length (now observations) ⌝ }
     ensures { λ r. ⌜ r ≡ observationAt (now (observations .entry)) i ⌝ }
@@ -29,8 +29,8 @@ fn observation_at(observations: &[Observation], i: usize) -> Observation
     observations[i]
 }
 
-// The observations from number `from` up to, but without, `to`, one after the other: a subject's, where
-// these are its bounds.
+// An evaluation with the observations from number `from` up to, but without, `to` added, one after the other:
+// with a subject's, where these are its bounds.
 pub fn add_observations(
     observations: &[Observation],
     from: usize,
@@ -55,9 +55,9 @@ pub fn add_observations(
     sums
 }
 
-// ---- their check
+// ---- the check of the observations
 
-// Document 01's question 4.
+// Document 01's check 4 of one observation.
 fn is_sound(observation: Observation, width: u32) -> bool
     ensures { λ r. ⌜ r ≡ isSound observation width ⌝ }
 {
@@ -79,8 +79,8 @@ fn is_sound(observation: Observation, width: u32) -> bool
     0.0 < observation.proportional
 }
 
-// A deviation is from 0 up to the largest finite float; a NaN fails the first test. Few tests, since every
-// call of a session checks all observations.
+// Whether a deviation is refused: it must be from 0 up to the largest finite float, and a NaN fails the first
+// test. There are few tests, since every call of a session checks all observations.
 fn is_no_deviation(deviation: f64) -> bool
     ensures { λ r. ⌜ r ≡ isNoDeviation deviation ⌝ }
 {
@@ -107,7 +107,7 @@ fn next_place(place: Position, count: u64) -> Position
     }
 }
 
-// The observation at the place that was reached.
+// The check with the observation at the place that was reached.
 fn check_at(place: Position, observation: Observation, width: u32, counts: &[u64]) -> Check
     ensures { λ r. ⌜ r ≡ checkAt width (now (counts .entry)) observation place ⌝ }
 {
@@ -118,7 +118,8 @@ fn check_at(place: Position, observation: Observation, width: u32, counts: &[u64
     Check::Unsound(place)
 }
 
-// One observation more; `counts` are the subjects' numbers of observations.
+// Document 01's check 4 with one observation more; `counts` are the subjects' numbers of observations. After
+// the first that is not sound nothing changes.
 pub fn check_observation(
     check: Check,
     observation: Observation,
@@ -133,7 +134,8 @@ pub fn check_observation(
     }
 }
 
-// The observations from number `from` up to, but without, `to`, one after the other.
+// Document 01's check 4 with the observations from number `from` up to, but without, `to`, one after the
+// other; `counts` are the subjects' numbers of observations.
 pub fn check_observations(
     observations: &[Observation],
     from: usize,
@@ -155,24 +157,23 @@ pub fn check_observations(
     checked
 }
 
-// What a call of a session is lent by reference to structs: the tally record, copied out before all that
-// decides anything and written back after it, and the observations of a reply.
+// ---- what a call of a session is lent by reference
 
-// The tally as it is lent.
+// Copies out the tally as it is lent to a call.
 pub fn tally_now(tally: &mut Tally) -> Tally
     ensures { λ r. ⌜ (r ≡ now (tally .entry)) × (now (tally .exit) ≡ now (tally .entry)) ⌝ }
 {
     *tally
 }
 
-// And as a call leaves it.
+// Writes the tally back as a call leaves it.
 pub fn keep_tally(tally: &mut Tally, value: Tally)
     ensures { λ _. ⌜ now (tally .exit) ≡ value ⌝ }
 {
     *tally = value;
 }
 
-// The observations of a reply that is let in are added to its evaluation.
+// Adds the observations of a reply to its evaluation; where the reply is not accepted there are none to add.
 fn evaluate(
     observations: &[Observation],
     admitted: Admitted,

@@ -1,7 +1,5 @@
--- Paths: the ways through the code, for its proofs.
--- Paths: the ways through the code, for its proofs.
--- Paths: the way through the code, for its proofs.
--- Paths: the ways through the code, for its proofs. Loops: those through the labelled loop. Passing: a kept evaluation is a turn that goes on.
+-- Paths, KeptPointsPaths, AnswersPaths, StepsPaths: the ways through the code of lib, kept_points, answers and steps, for its proofs.
+-- Loops: the ways through the labelled loop. Passing: a kept evaluation is a turn that goes on.
 pub mod Paths
 pub mod KeptPointsPaths
 pub mod AnswersPaths

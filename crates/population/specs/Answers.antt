@@ -1,4 +1,4 @@
--- A reply is kept: that part of `receive` which does not touch the search.
+-- A reply is kept: the part of `receive` (Population) that does not touch the search.
 use mathlib.Core.List.{List}
 use Prim.Native.Nat.{ℕ}
 use Rattle.matrix.specs.declared.Pair.{Pair}

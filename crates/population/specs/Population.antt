@@ -33,7 +33,7 @@ use Rattle.population.specs.declared.Turned.the-variants.{On, Halt}
 
 -- ---- lent words
 
--- a subject's number of observations; above 100,000, which check 1 refuses, that
+-- a subject's number of observations, at most 100,000: more are refused by check 1
 unfoldable pub rowsOf : List ℕ → ℕ → ℕ
 rowsOf counts subject = let n = getD counts subject 0 in pick (ltb n mostRows) n mostRows
 
@@ -134,7 +134,7 @@ unfoldable pub served : (S : Store) → Fit → List ℕ → Progress → Tally 
 served S fit counts progress tally kept work warm results =
     servedBy S fit counts progress tally kept work warm results (B.wantedBy fit progress)
 
--- where it ends the objective the work words are cleared
+-- where the turn ends the objective the work words are cleared
 unfoldable pub isOver : Turned → Bool
 isOver (On progress) = false
 isOver (Halt halted) = B.isOver (halted .step)

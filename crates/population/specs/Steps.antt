@@ -30,6 +30,6 @@ unkept fit counts progress tally work warm results Wants.Mode = atMode fit count
 unkept fit counts progress tally work warm results (Wants.Refused number) =
     ended (Halt (B.refusedBy progress tally number (Subject (progress .subject)))) work warm results
 
--- where it ends the objective the work words are cleared
+-- where the turn ends the objective the work words are cleared
 unfoldable pub cleared : Ended → Ended
 cleared e = ended (e .turned) (pick (isOver (e .turned)) (zeros (length (e .work))) (e .work)) (e .warm) (e .results)

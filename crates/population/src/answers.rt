@@ -9,13 +9,14 @@ use search::Fit;
 use search::Tally;
 use subject::Sums;
 
-// The kept evaluations with one more, and the tally with their rows.
+// The positions of the kept evaluations with one more, and the tally with their rows.
 pub struct Kept {
     pub order: CacheOrder,
     pub tally: Tally,
 }
 
-// The evaluation of the point that was asked for, whose rows are in the trial block, is kept.
+// Keeps the evaluation of the point eta that was asked for, whose rows are in the trial block of the work
+// words, under its key. Defined for all values and words.
 pub fn keep(
     fit: Fit,
     counts: &[u64],
@@ -45,7 +46,7 @@ pub fn keep(
     }
 }
 
-// The rows that are kept.
+// The number of rows that are kept.
 fn cached_rows(order: CacheOrder) -> usize
     ensures { λ r. ⌜ r ≡ orderRows order ⌝ }
 {

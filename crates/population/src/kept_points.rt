@@ -1,6 +1,6 @@
-// The way of a subject's search through kept evaluations: as long as the point that it wants is kept, it
-// goes on with what is kept of it. The loop of each number of effects carries the search alone and not
-// the whole objective, since a value is copied wherever it is passed on.
+// The way of a subject's search through kept evaluations: as long as the point that it wants is kept, it goes
+// on with what is kept of it. The loop of each number of effects carries the search alone and not the whole
+// objective, since a value is copied wherever it is passed on.
 ghost use mathlib.Core.Path.{_≡_};
 ghost use Rattle.mode_2d.specs.Rules.{of};
 ghost use Rattle.work.specs.Work.{block};
@@ -21,26 +21,28 @@ use search::Progress;
 use search::Wanted;
 use subject::Sums;
 
-// An evaluation of the point that a search asked for, which the search has not got yet. Its rows are in
-// the trial block.
+// An evaluation of the point that a search asked for, which the search has not been given yet, or none. Its
+// rows are in the trial block.
 pub enum InHand {
     Nothing,
     Evaluated(Pair, Sums),
 }
 
-// Where a search has come to, the requests that are left, and what it wants now.
+// Where an objective's search has come to, the requests that are left, and what it wants now.
 pub struct Reached {
     pub progress: Progress,
     pub left: usize,
     pub wanted: Wanted,
 }
 
+// Where a search with one effect has come to, the requests that are left, and what it wants now.
 pub struct Reached1 {
     pub search: Search,
     pub left: usize,
     pub wanted: Wanted,
 }
 
+// Where a search with two effects has come to, the requests that are left, and what it wants now.
 pub struct Reached2 {
     pub search: Search2,
     pub left: usize,
@@ -76,7 +78,7 @@ fn eta_of(wanted: Wanted) -> Pair
 }
 
 // The slot of the kept evaluation of a point, unless it is over. Both loops call it, so that it is compiled
-// by itself, and two floats are handed over faster than a pair.
+// once, by itself; two floats are passed faster than a pair.
 fn kept_at(
     over: bool,
     fit: Fit,
@@ -95,7 +97,7 @@ fn kept_at(
     cache::find(cache, fit.k, order, key)
 }
 
-// The rows of a kept evaluation go to the trial block.
+// Copies the rows of a kept evaluation to the trial block.
 fn recall_rows(k: usize, slot: usize, rows: usize, cache: &[u64], work: &mut [u64])
     ensures { λ _. ⌜ now (work .exit) ≡ copied (now (cache .entry)) k slot rows (now (work .entry)) (block rows 3) ⌝ }
 {
@@ -103,7 +105,7 @@ fn recall_rows(k: usize, slot: usize, rows: usize, cache: &[u64], work: &mut [u6
     cache::entries::copy_rows(cache, k, slot, rows, work, trial);
 }
 
-// Its sums.
+// The sums of a kept evaluation.
 fn recall(k: usize, slot: usize, cache: &[u64]) -> Sums
     ensures { λ r. ⌜ r ≡ sumsOf (termsOf (now (cache .entry)) k slot) ⌝ }
 {
@@ -112,7 +114,7 @@ fn recall(k: usize, slot: usize, cache: &[u64]) -> Sums
 
 // ---- one effect
 
-// The search with what is in hand; the rows of the trial block go where it has them.
+// The search with what is in hand; the rows of the trial block go to the blocks where the search has them.
 fn take_1d(
     fit: Fit,
     settings: Settings,
@@ -237,9 +239,10 @@ fn through_kept_2d(
     }
 }
 
-// ---- either
+// ---- with one effect or two
 
-// With what is in hand, and then through at most `fuel` kept evaluations.
+// The subject's search with what is in hand, and then through at most `fuel` kept evaluations, until it wants
+// a point that is not kept, its mode or a refusal.
 pub fn through_kept(
     fit: Fit,
     counts: &[u64],

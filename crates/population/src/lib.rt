@@ -1,3 +1,8 @@
+// The population objective, `population` of population_focei.rs and population_focei_2d.rs, as a machine over
+// lent words: subject after subject, a search asks for points, kept evaluations or replies answer it, and its
+// mode is added to the objective. Here are the counts and the warm starts in lent words, and what is done
+// with a mode; `kept_points` takes a search through kept evaluations, `answers` keeps a reply, and `steps`
+// has the loop over the requests. Each function is defined for all values and words.
 ghost use mathlib.Core.Path.{_≡_};
 ghost use Rattle.population.specs.Population.{rowsOf, warmOf, warmStored, worked, nextSubject, ended, atMode};
 
@@ -14,13 +19,7 @@ use search::Place;
 use search::Progress;
 use search::Tally;
 
-// The population objective, `population` of population_focei.rs and population_focei_2d.rs, as a machine
-// over lent words: subject after subject, a search asks for points, kept evaluations or replies answer
-// it, and its mode is added to the objective. Here are the types and definitions, the observations and
-// warm starts in lent words, and what is done with a mode; kept evaluations are in `kept_points`, replies
-// in `answers`, and the loop over the requests is in `steps`.
-
-// A turn of the loop over the remaining requests: it goes on, which costs no evaluation, or halts.
+// A turn of the loop over the remaining requests: it goes on, without an evaluation, or halts with an answer.
 pub enum Turned {
     On(Progress),
     Halt(Halted),
@@ -28,7 +27,7 @@ pub enum Turned {
 
 // ---- lent words
 
-// A subject's number of observations, at most the domain's largest.
+// A subject's number of observations, at most document 01's largest.
 pub fn rows_of(counts: &[u64], subject: usize) -> usize
     ensures { λ r. ⌜ r ≡ rowsOf (now (counts .entry)) subject ⌝ }
 {
@@ -39,7 +38,8 @@ pub fn rows_of(counts: &[u64], subject: usize) -> usize
     work::MOST_ROWS
 }
 
-// The source's warm_etas: a word for each subject, or two with two effects.
+// A subject's warm start, the source's warm_etas: a word for each subject, or two with two effects. Beyond
+// the end it is zero.
 pub fn warm_of(warm: &[u64], effects: u32, subject: usize) -> Pair
     ensures { λ r. ⌜ r ≡ warmOf (now (warm .entry)) effects subject ⌝ }
 {
@@ -61,6 +61,7 @@ pub fn warm_of(warm: &[u64], effects: u32, subject: usize) -> Pair
     }
 }
 
+// Stores a subject's warm start; nothing is written beyond the end.
 fn store_warm(warm: &mut [u64], effects: u32, subject: usize, eta: Pair)
     ensures { λ _. ⌜ now (warm .exit) ≡ warmStored effects subject eta (now (warm .entry)) ⌝ }
 {
@@ -77,8 +78,8 @@ fn store_warm(warm: &mut [u64], effects: u32, subject: usize, eta: Pair)
 
 // ---- a mode
 
-// The mode is past 17: it is added to the objective, and the next subject's search begins, with nothing
-// of this one's left in the work words.
+// The mode has passed check 17: it is added to the objective, and the next subject's search begins, with the
+// work words cleared of this one's rows; after the last subject the objective ends.
 fn next_subject(
     fit: Fit,
     counts: &[u64],
@@ -104,7 +105,8 @@ fn next_subject(
     Turned::Halt(search::objective::objective_of(progress, tally, ofv, eta_squares))
 }
 
-// The search has its mode: 16, the warm start is stored, 17, the results are written.
+// What is done with a search's mode: check 16, the warm start is stored, check 17, the results are written,
+// and the mode is added to the objective. Then the next subject begins, or the objective ends.
 pub fn at_mode(
     fit: Fit,
     counts: &[u64],

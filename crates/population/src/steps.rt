@@ -1,4 +1,4 @@
-// A step of an objective over lent words: requests of its searches, each a point or a mode, through kept
+// A step of an objective over lent words: requests of its searches, each for a point or a mode, through kept
 // evaluations until there is a question or an end.
 ghost use mathlib.Core.Path.{_≡_};
 ghost use Rattle.machine.specs.Machine.{loop};
@@ -16,7 +16,7 @@ use search::Step;
 use search::Tally;
 use search::Wanted;
 
-// A request that no kept evaluation answers.
+// What is done with a request that no kept evaluation answers.
 fn served(
     fit: Fit,
     counts: &[u64],
@@ -52,7 +52,8 @@ fn is_over(turned: Turned) -> bool
     }
 }
 
-// Such a request; where it ends the objective the work words are cleared.
+// What is done with a request that no kept evaluation answers; where it ends the objective the work words are
+// cleared.
 fn turn(
     fit: Fit,
     counts: &[u64],
@@ -75,8 +76,9 @@ fn turn(
 }
 
 // The loop over the remaining requests, at most `fuel` of them: with what is in hand, through kept
-// evaluations and modes, until there is a question or an end. Fuel is more than a session's objective can
-// need. A turn of this loop is a request that no kept evaluation answers.
+// evaluations and modes, until there is a question or an end. A turn of this loop is a request that no kept
+// evaluation answers. `fuel` is more than a session's objective can need; if it were used up, the answer
+// would be 19. Defined for all values and words.
 pub fn requests(
     fit: Fit,
     counts: &[u64],

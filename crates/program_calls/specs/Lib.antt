@@ -1,2 +1,2 @@
--- What a reader must believe of this crate: which observations lent words are, and that a call is the session's of these observations.
+-- What a reader must believe of this crate: which observations lent words are, and that a call is the session's with these observations.
 pub mod Recorded

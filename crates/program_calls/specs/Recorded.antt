@@ -1,4 +1,5 @@
--- Observations in words, five each: output, row, value, additive and proportional deviation, the floats by their bits.
+-- Observations in words, five each: output, row, value, additive and proportional deviation, the floats by their bits; and the calls of a
+-- session over them.
 use mathlib.Core.List.{List, [], _∷_}
 use Prim.Native.Nat.{ℕ, zero, suc, _+_, _-_, _*_, _/_}
 use lib.ListN.{length, getD}

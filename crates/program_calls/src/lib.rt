@@ -1,3 +1,7 @@
+// A session's calls with the observations in lent words, for programs that read them from a file: the calls
+// of `session_calls` with a check of the observations, and a reply's loop over them, that read words. An
+// observation is five words: output, row, value, additive and proportional deviation, the floats by their
+// bits. The tally goes by value. Each function is defined for all values and words.
 ghost use mathlib.Core.Path.{_≡_};
 ghost use Prim.Native.Nat.{_-_};
 ghost use lib.ListN.{length, take, drop, getD};
@@ -21,9 +25,6 @@ use subject::Position;
 use subject::Trial;
 use words::smaller;
 
-// Observations in lent words, five each: output, row, value, additive and proportional deviation, the floats
-// by their bits. For programs that read them from a file; `recorded_calls` has a session's calls over them.
-
 // The words of an observation.
 pub const OBSERVATION_WORDS: usize = 5;
 
@@ -39,14 +40,14 @@ fn float_at(words: &[u64], i: usize) -> f64
     float64::from_word(words::read(words, i))
 }
 
-// The number of whole observations.
+// The number of whole observations in lent words.
 pub fn count_of(words: &[u64]) -> usize
     ensures { λ r. ⌜ r ≡ length (observationsOf (now (words .entry))) ⌝ }
 {
     words.len() / OBSERVATION_WORDS
 }
 
-// Observation i. Beyond the end every word is 0.
+// Observation i of lent words. Beyond the end every word is 0.
 pub fn observation_at(words: &[u64], i: usize) -> Observation
     ensures { λ r. ⌜ r ≡ observationIn (now (words .entry)) i ⌝ }
 {
@@ -69,7 +70,8 @@ pub fn observation_at(words: &[u64], i: usize) -> Observation
     }
 }
 
-// Document 01's question 4, of all of them; `counts` are the subjects' numbers of observations.
+// Document 01's check 4 of all observations in lent words; `counts` are the subjects' numbers of
+// observations.
 pub fn check_words(words: &[u64], width: u32, counts: &[u64]) -> Check
     ensures { λ r. ⌜ r ≡ checkObservations width (now (counts .entry)) (observationsOf (now (words .entry))) firstCheck ⌝ }
 {
@@ -87,8 +89,8 @@ pub fn check_words(words: &[u64], width: u32, counts: &[u64]) -> Check
     check
 }
 
-// The observations from number `from` up to, but without, `to`, one after the other: a subject's, where
-// these are its bounds.
+// An evaluation with the observations from number `from` up to, but without, `to` added, one after the other:
+// with a subject's, where these are its bounds.
 pub fn add_words(
     words: &[u64],
     from: usize,
@@ -113,10 +115,9 @@ pub fn add_words(
     sums
 }
 
-// A session's calls with the observations in lent words (see `recorded`), for programs that read them from a
-// file. The tally goes by value. Each function is defined for all values and words.
+// ---- the calls
 
-// 1 to 5; where they pass, tally, kept, work and warm words are zeroed.
+// Setup: opens a session where 1 to 5 pass; tally, kept, work and warm words are zeroed.
 pub fn open(
     setup: Setup,
     tally: Tally,
@@ -136,7 +137,7 @@ pub fn open(
     session_calls::open(setup, tally, check, n, counts, cache, work, warm, results)
 }
 
-// A new objective.
+// A new objective: begins it where it is accepted, and runs it until there is a question or an end.
 pub fn objective(
     setup: Setup,
     parameters: Parameters,
@@ -170,7 +171,8 @@ pub fn objective(
     )
 }
 
-// The simulator's reply to the question that was asked.
+// The simulator's reply to the question that was asked: where it is accepted, its evaluation is kept and the
+// objective runs on until there is a question or an end.
 pub fn reply(
     setup: Setup,
     state: State,
@@ -216,7 +218,7 @@ pub fn reply(
     )
 }
 
-// The simulator failed.
+// The simulator failed: where the failure is accepted, the objective ends with 8.
 pub fn failure(
     setup: Setup,
     state: State,

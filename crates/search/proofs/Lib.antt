@@ -1,7 +1,4 @@
--- Paths: the ways through the code, for its proofs.
--- Paths: the ways through the code, for its proofs.
--- Paths: the ways through the code, for its proofs.
--- Paths: the ways through the code, for its proofs.
+-- Paths, PointsPaths, QuestionsPaths, ObjectivePaths: the ways through the code of lib, points, questions and objective, for its proofs.
 pub mod Paths
 pub mod PointsPaths
 pub mod QuestionsPaths

@@ -1,4 +1,4 @@
--- A subject's search within an objective, with one effect or two.
+-- One subject's search within an objective, by value, with one effect or two.
 use mathlib.Core.Bool.{Bool, true, false}
 use mathlib.Core.List.{List}
 use Prim.Native.Nat.{ℕ, _+_}
@@ -56,7 +56,7 @@ use Rattle.search.specs.declared.Mode.{Mode}
 use Rattle.search.specs.declared.Closed.{Closed}
 use Rattle.search.specs.declared.Closed.the-variants.{Positive, NotPositive}
 
--- ---- what the searches of an objective share
+-- ---- what the searches of an objective have in common
 
 unfoldable pub fitWith : Setup → Pair → List (List Float) → Float → Fit
 fitWith setup theta precision det = record {
@@ -212,7 +212,7 @@ conditional2 eta sums = record {
 
 -- ---- where the rows of the work words' blocks come from: 0 the rows at eta zero, 1 the best point's, 2 the latest's, 3 the trial's
 
--- on the grid the ninth point is eta zero, and the best the closer end of the latest cell that rises
+-- on the grid the ninth point is eta zero, and the best is the closer end of the latest upward cell
 unfoldable pub gridSources : Search → Conditional → Sources
 gridSources x c = record {
   population = pick (eqb (x .count) 8) 3 0;
@@ -318,7 +318,7 @@ refusedBy progress tally number place = record { progress = idle progress; tally
 unfoldable pub counted : Tally → Tally
 counted tally = record { calls = record { 0 = tally .calls .0 + 1 }; «cached_rows» = tally .«cached_rows» }
 
--- question 7, of an evaluation that is counted
+-- check 7, of an evaluation that is counted
 unfoldable pub askFor : Progress → Tally → Pair → Answer Pair → Halted
 askFor progress tally eta (given individual) = record {
   progress = awaiting progress individual;
@@ -327,7 +327,7 @@ askFor progress tally eta (given individual) = record {
 }
 askFor progress tally eta (refused number) = refusedBy progress tally number (Subject (progress .subject))
 
--- question 6
+-- check 6
 unfoldable pub ask : Fit → Progress → Tally → Pair → Halted
 ask fit progress tally eta =
     pick (ltb (tally .calls .0) (fit .«max_evaluations»))
@@ -339,7 +339,7 @@ isOver (Asked eta individual) = false
 isOver (Finished ofv) = true
 isOver (Refused number place) = true
 
--- ---- a mode: question 16, and its part of the objective
+-- ---- a mode: check 16, and its part of the objective
 
 -- 2 nll - n log 2π + eta² / omega + log (omega · curvature)
 unfoldable pub closed1 : Fit → Conditional → ℕ → Closed
@@ -407,7 +407,7 @@ finished progress ofv eta-squares = record {
   «eta_squares» = eta-squares;
 }
 
--- question 18
+-- check 18
 unfoldable pub objectiveOf : Progress → Tally → Float → Float → Halted
 objectiveOf progress tally ofv eta-squares =
     pick (nonfinite ofv) (refusedBy progress tally 18 Nowhere)

@@ -1,3 +1,7 @@
+// One subject's search within an objective, by value, with one effect or two: the types, what the searches of
+// an objective have in common, how a subject's search begins, and the answers of a step. `points` has what a
+// search wants and what an evaluated point makes of it, `questions` the key of an evaluation and the question
+// for it, `objective` what a mode adds to the objective. Each function is defined for all values.
 ghost use mathlib.Core.Path.{_≡_};
 ghost use Rattle.search.specs.Subjects.{fitWith, fit2, fitOf, beginSubject, idle, refusedBy, isOver};
 
@@ -14,26 +18,25 @@ use setup::Setup;
 use subject::AdditiveSd;
 use work::Sources;
 
-// A subject's search within an objective, by value, with one effect or two: the types and definitions, what
-// the searches of an objective share, how a subject's search begins, and the answers of a step. Each
-// function is defined for all values. What a search wants and what comes of it are in `points`,
-// `questions` and `objective`.
-
-// The source's `calls` and `cached_rows`, in units that never meet in a sum. Document 01's tally.
+// The source's `calls`: how many evaluations were asked for. A type of its own, so that it is never added to
+// rows.
 #[repr(C)]
 pub struct Calls(pub u32);
 
+// The source's `cached_rows`: how many rows are kept. A type of its own, so that it is never added to
+// evaluations.
 #[repr(C)]
 pub struct CachedRows(pub usize);
 
+// Document 01's tally: the evaluations so far, and the rows that are kept.
 #[repr(C)]
 pub struct Tally {
     pub calls: Calls,
     pub cached_rows: CachedRows,
 }
 
-// What the searches of an objective share, made of the setup and the objective's own parameters: omega
-// with one effect, its inverse (the precision, by row and column) and determinant with two.
+// What the searches of an objective have in common, made of the setup and the objective's own parameters:
+// omega with one effect; with two its inverse (the precision, by row and column) and its determinant.
 pub struct Fit {
     pub effects: u32,
     pub eta_bound: f64,
@@ -50,9 +53,9 @@ pub struct Fit {
     pub max_evaluations: u32,
 }
 
-// Where an objective stands: whether a reply is awaited, and then the individual values that were asked
-// for; the subject, the number of its first observation among all, its warm start and its search (by the
-// number of effects, one of the two); the objective's sum so far, and the sum of the squares of eta.
+// Where an objective stands: whether a reply is awaited, and then the individual values that were asked for;
+// the subject, the number of its first observation among all, its warm start and its search (by the number of
+// effects, one of the two); the objective's sum so far, and the sum of the squares of eta.
 pub struct Progress {
     pub awaits: bool,
     pub individual: Pair,
@@ -65,54 +68,56 @@ pub struct Progress {
     pub eta_squares: f64,
 }
 
-// What a refusal is of.
+// What a refusal is about: nothing in particular, a subject, or a subject and one of its observations.
 pub enum Place {
     Nowhere,
     Subject(usize),
     Observation(usize, usize),
 }
 
-// The answer of a step: a question, with eta and the individual values; the objective; or document 01's
-// number for a no, and its place.
+// The answer of a step: a question, with eta and the individual values; the finished objective; or a refusal,
+// with document 01's number and its place.
 pub enum Step {
     Asked(Pair, Pair),
     Finished(f64),
     Refused(u32, Place),
 }
 
-// The end of a step.
+// The end of a step: where the objective stands, the tally, and the answer.
 pub struct Halted {
     pub progress: Progress,
     pub tally: Tally,
     pub step: Step,
 }
 
-// What the subject's search wants, with one effect or two.
+// What a subject's search wants, with one effect or two: a point, to end in its mode, or to end in a refusal
+// with document 01's number.
 pub enum Wanted {
     Point(Pair),
     Mode,
     Refused(u32),
 }
 
-// A search with one evaluation more, and from where the blocks of the work words get their rows.
+// A search with one evaluation more, and the blocks from which the blocks of the work words get their rows.
 pub struct Advanced {
     pub progress: Progress,
     pub sources: Sources,
 }
 
-// A mode past check 16, with what it adds to the objective; or no positive curvature.
+// A mode that has passed check 16: eta, the negative log likelihood there, and what it adds to the objective.
 pub struct Mode {
     pub eta: Pair,
     pub nll: f64,
     pub term: f64,
 }
 
+// What check 16 finds of a mode: its curvature is positive, or it is not.
 pub enum Closed {
     Positive(Mode),
     NotPositive,
 }
 
-// ---- what the searches of an objective share
+// ---- what the searches of an objective have in common
 
 // The precision and the determinant of an accepted omega; without an inverse all are 0.
 fn fit_2d(setup: Setup, theta: Pair) -> Fit
@@ -149,6 +154,7 @@ fn fit_with(setup: Setup, theta: Pair, precision: [[f64; 2]; 2], det_omega: f64)
     }
 }
 
+// What the searches of an objective have in common, by the session's setup and the objective's parameters.
 pub fn fit_of(setup: Setup, parameters: Parameters) -> Fit
     ensures { λ r. ⌜ r ≡ fitOf setup parameters ⌝ }
 {
@@ -159,7 +165,8 @@ pub fn fit_of(setup: Setup, parameters: Parameters) -> Fit
     fit_with(own, parameters.theta, [[0.0, 0.0], [0.0, 0.0]], 0.0)
 }
 
-// A subject's search begins.
+// Where an objective stands as a subject's search begins: `first` is the number of the subject's first
+// observation among all, `warm` its warm start, and the sums are those of the subjects before.
 pub fn begin_subject(
     subject: usize,
     first: usize,
@@ -196,6 +203,7 @@ fn idle(progress: Progress) -> Progress
     next
 }
 
+// The end of a step in a refusal that ends the objective: no reply is awaited any more.
 pub fn refused(progress: Progress, tally: Tally, number: u32, place: Place) -> Halted
     ensures { λ r. ⌜ r ≡ refusedBy progress tally number place ⌝ }
 {
@@ -206,6 +214,7 @@ pub fn refused(progress: Progress, tally: Tally, number: u32, place: Place) -> H
     }
 }
 
+// Whether the answer of a step ends the objective: everything but a question does.
 pub fn is_over(step: Step) -> bool
     ensures { λ r. ⌜ r ≡ isOver step ⌝ }
 {

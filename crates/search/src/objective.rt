@@ -1,5 +1,5 @@
-// What a subject's mode adds to the objective, with one effect or two, past check 16; and the objective
-// once all subjects are done, past check 18. By value, and defined for all values.
+// What a subject's mode adds to the objective, with one effect or two, once it has passed check 16; and the
+// objective after the last subject, with check 18. By value; each function is defined for all values.
 ghost use mathlib.Core.Path.{_≡_};
 ghost use Rattle.search.specs.Subjects.{closed1, closed2, closedBy, finished, objectiveOf};
 use super::Closed;
@@ -17,7 +17,7 @@ use mode_2d::population_focei_2d::Conditional2;
 
 // ---- a mode
 
-// With one effect: the curvature at the mode, and its part of the objective.
+// With one effect: the curvature at the mode (check 16), and what the mode adds to the objective.
 fn closed_1d(fit: Fit, best: Conditional, rows: u32) -> Closed
     ensures { λ r. ⌜ r ≡ closed1 fit best rows ⌝ }
 {
@@ -42,6 +42,7 @@ fn closed_1d(fit: Fit, best: Conditional, rows: u32) -> Closed
     })
 }
 
+// With two effects: the curvature at the mode (check 16), and what the mode adds to the objective.
 fn closed_2d(fit: Fit, best: Conditional2, rows: u32) -> Closed
     ensures { λ r. ⌜ r ≡ closed2 fit best rows ⌝ }
 {
@@ -67,6 +68,8 @@ fn closed_2d(fit: Fit, best: Conditional2, rows: u32) -> Closed
     }
 }
 
+// Check 16 of a search's mode, its best point, and what the mode adds to the objective, for a subject of so
+// many rows: the curvature and the term of `ofv` in the source's `population`.
 pub fn closed_by(fit: Fit, progress: Progress, rows: u32) -> Closed
     ensures { λ r. ⌜ r ≡ closedBy fit progress rows ⌝ }
 {
@@ -80,7 +83,8 @@ pub fn closed_by(fit: Fit, progress: Progress, rows: u32) -> Closed
 
 // ---- the objective
 
-// All subjects are done: 18, or the objective.
+// The end of an objective after its last subject, the end of the source's `population`: refused with 18 where
+// the sum is not finite, else finished.
 pub fn objective_of(progress: Progress, tally: Tally, ofv: f64, eta_squares: f64) -> Halted
     ensures { λ r. ⌜ r ≡ objectiveOf progress tally ofv «eta_squares» ⌝ }
 {

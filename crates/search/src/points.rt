@@ -1,6 +1,6 @@
 // What a subject's search asks for within an objective, and what an evaluated point makes of it, with one
-// effect or two: the point that is wanted, the search afterwards, and from where the blocks of the work
-// words get their rows. By value, and defined for all values.
+// effect or two: the point that is wanted, the search afterwards, and from where the blocks of the work words
+// get their rows. By value; each function is defined for all values.
 ghost use mathlib.Core.Path.{_≡_};
 ghost use Rattle.float64.specs.Pick.{pick};
 ghost use Rattle.search.specs.Subjects.{settings, settings2, wanted1, wanted2, wantedBy, conditional1, conditional2, gridSources, bracketSources, sources1, currentSource, isNewBest, populationSource, sources2, withSearch};
@@ -23,6 +23,7 @@ use work::Sources;
 
 // ---- what the search wants
 
+// The settings of a subject's search with one effect: those of the objective, and the subject's warm start.
 pub fn settings(fit: Fit, progress: Progress) -> Settings
     ensures { λ r. ⌜ r ≡ settings fit progress ⌝ }
 {
@@ -34,6 +35,7 @@ pub fn settings(fit: Fit, progress: Progress) -> Settings
     }
 }
 
+// The settings of a subject's search with two effects: those of the objective, and the subject's warm start.
 pub fn settings_2d(fit: Fit, progress: Progress) -> Settings2
     ensures { λ r. ⌜ r ≡ settings2 fit progress ⌝ }
 {
@@ -48,6 +50,8 @@ pub fn settings_2d(fit: Fit, progress: Progress) -> Settings2
     }
 }
 
+// What a search with one effect wants now, as for either number of effects: a point has 0 for its second
+// value.
 pub fn wanted_1d(settings: Settings, search: Search) -> Wanted
     ensures { λ r. ⌜ r ≡ wanted1 settings search ⌝ }
 {
@@ -61,6 +65,7 @@ pub fn wanted_1d(settings: Settings, search: Search) -> Wanted
     }
 }
 
+// What a search with two effects wants now, as for either number of effects.
 pub fn wanted_2d(settings: Settings2, search: Search2) -> Wanted
     ensures { λ r. ⌜ r ≡ wanted2 settings search ⌝ }
 {
@@ -71,6 +76,7 @@ pub fn wanted_2d(settings: Settings2, search: Search2) -> Wanted
     }
 }
 
+// What the subject's search wants now, with one effect or two.
 pub fn wanted_by(fit: Fit, progress: Progress) -> Wanted
     ensures { λ r. ⌜ r ≡ wantedBy fit progress ⌝ }
 {
@@ -84,7 +90,8 @@ pub fn wanted_by(fit: Fit, progress: Progress) -> Wanted
 
 // ---- an evaluated point
 
-// The prior's eta / omega is added here, and never kept.
+// The evaluated point that a search with one effect is given, from the sums of an evaluation at eta. The
+// prior's eta / omega is added to the score here, and never kept.
 pub fn conditional(fit: Fit, eta: Pair, sums: Sums) -> Conditional
     ensures { λ r. ⌜ r ≡ conditional1 fit eta sums ⌝ }
 {
@@ -96,6 +103,7 @@ pub fn conditional(fit: Fit, eta: Pair, sums: Sums) -> Conditional
     }
 }
 
+// The evaluated point that a search with two effects is given, from the sums of an evaluation at eta.
 pub fn conditional_2d(eta: Pair, sums: Sums) -> Conditional2
     ensures { λ r. ⌜ r ≡ conditional2 eta sums ⌝ }
 {
@@ -120,8 +128,8 @@ fn select(test: bool, a: usize, b: usize) -> usize
     b
 }
 
-// One effect, on the grid: the ninth point is eta zero. The best is the closer end of the latest cell that
-// rises, as the search will have it once the grid is whole.
+// One effect, on the grid: the ninth point is eta zero. The best is the closer end of the latest upward cell,
+// as the search will have it once the grid is whole.
 fn grid_sources(search: Search, c: Conditional) -> Sources
     ensures { λ r. ⌜ r ≡ gridSources search c ⌝ }
 {
@@ -154,6 +162,8 @@ fn bracket_sources(search: Search, c: Conditional) -> Sources
     }
 }
 
+// With one effect: from where the blocks of the work words get their rows, as the search is given the point
+// c.
 pub fn sources(search: Search, c: Conditional) -> Sources
     ensures { λ r. ⌜ r ≡ sources1 search c ⌝ }
 {
@@ -183,7 +193,7 @@ fn current_source(settings: Settings2, search: Search2, c: Conditional2) -> usiz
     }
 }
 
-// Whether the rounds of a start are over, and its candidate is the best so far, which it is at the first
+// Whether the rounds of a start are over and its candidate is the best so far, which it is at the first
 // start, and later where its joint is lower.
 fn is_new_best(settings: Settings2, search: Search2, after: Search2) -> bool
     ensures { λ r. ⌜ r ≡ isNewBest settings search after ⌝ }
@@ -211,6 +221,8 @@ fn population_source(search: Search2) -> usize
     }
 }
 
+// With two effects: from where the blocks of the work words get their rows, as the point c makes `after` of
+// `search`.
 pub fn sources_2d(settings: Settings2, search: Search2, after: Search2, c: Conditional2) -> Sources
     ensures { λ r. ⌜ r ≡ sources2 settings search after c ⌝ }
 {
@@ -222,6 +234,7 @@ pub fn sources_2d(settings: Settings2, search: Search2, after: Search2, c: Condi
     }
 }
 
+// The objective with these searches; no reply is awaited any more.
 pub fn with_search(progress: Progress, search: Search, search_2d: Search2) -> Progress
     ensures { λ r. ⌜ r ≡ withSearch progress search «search_2d» ⌝ }
 {

@@ -1,6 +1,6 @@
 // The evaluation of a point, as an objective asks for it: the key under which it is kept, its sums as the
-// words that are kept and back, and where it is not kept the question for it, with 6 and 7. By value, and
-// defined for all values.
+// words that are kept and back, and where it is not kept the question for it, with checks 6 and 7. By value;
+// each public function is defined for all values.
 ghost use mathlib.Core.Path.{_≡_};
 ghost use Prim.Native.Nat.{_<_};
 ghost use Rattle.search.specs.Subjects.{key1, key2, keyOf, sumsOf, termsOf, awaiting, counted, ask};
@@ -20,8 +20,8 @@ use subject::Sums;
 
 // ---- kept evaluations
 
-// The key of an evaluation: subject, the bits of theta and eta, and with one effect of the override.
-// Omega is not in it, since the kept score lacks the prior.
+// The key of an evaluation with one effect: subject, the bits of theta and eta, and of the override. Omega is
+// not in it, since the kept score does not include the prior.
 fn key_1d(fit: Fit, subject: usize, eta: Pair) -> CacheKey
     ensures { λ r. ⌜ r ≡ key1 fit subject eta ⌝ }
 {
@@ -61,6 +61,9 @@ fn key_2d(fit: Fit, subject: usize, eta: Pair) -> CacheKey
     }
 }
 
+// The key under which the evaluation of a subject at eta is kept, the source's SubjectKey or with two effects
+// CacheKey: subject, the bits of theta and eta, and with one effect of the override. Omega is not in it,
+// since the kept score does not include the prior.
 pub fn key_of(fit: Fit, subject: usize, eta: Pair) -> CacheKey
     ensures { λ r. ⌜ r ≡ keyOf fit subject eta ⌝ }
 {
@@ -70,6 +73,7 @@ pub fn key_of(fit: Fit, subject: usize, eta: Pair) -> CacheKey
     key_1d(fit, subject, eta)
 }
 
+// The sums of a kept evaluation, from its words.
 pub fn sums_of(terms: CachedTerms) -> Sums
     ensures { λ r. ⌜ r ≡ sumsOf terms ⌝ }
 {
@@ -87,6 +91,7 @@ pub fn sums_of(terms: CachedTerms) -> Sums
     }
 }
 
+// The words that are kept of an evaluation's sums.
 pub fn terms_of(sums: Sums) -> CachedTerms
     ensures { λ r. ⌜ r ≡ termsOf sums ⌝ }
 {
@@ -124,7 +129,8 @@ fn counted(tally: Tally) -> Tally
     }
 }
 
-// The point is not kept: 6, then it is counted, then 7, then it is asked for.
+// What is done where the wanted point is not kept: 6 where no evaluation is left; else it is counted; then 7
+// where its individual values are refused; else the question for it.
 pub fn ask(fit: Fit, progress: Progress, tally: Tally, eta: Pair) -> Halted
     ensures { λ r. ⌜ r ≡ ask fit progress tally eta ⌝ }
 {

@@ -161,7 +161,7 @@ trialBy setup state rows = record {
 abbrev pub nothingAdmitted : Awaited → Trial → ℕ → Admitted
 nothingAdmitted awaited trial number = record { awaited = awaited; from = 0; to = 0; evaluation = E.Refused number; trial = trial }
 
--- a reply to no state
+-- a reply where the lent words are no state
 abbrev pub unadmitted : Admitted
 unadmitted =
     nothingAdmitted unawaited

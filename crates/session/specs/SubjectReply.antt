@@ -1,4 +1,4 @@
--- Whether a reply is let in that lends the observations of the awaited subject alone: 19, then 1 to 5 of what is lent, and what its
+-- Whether a reply is accepted that lends the observations of the awaited subject alone: 19, then 1 to 5 of what is lent, and what its
 -- observations are added to.
 use mathlib.Core.List.{List}
 use Prim.Native.Nat.{ℕ}
@@ -32,13 +32,13 @@ awaitedPoint setup counts n state tally =
     (Wants.Refused 19))
     (Wants.Refused 19)
 
--- the checks of what is lent count where a point is wanted; else 19
+-- what the checks of what is lent found, where a point is wanted; else 19
 unfoldable pub awaitedFor : Admission → Wanted → Awaited
 awaitedFor admission (Wants.Point eta) = record { admission = admission; eta = eta }
 awaitedFor admission Wants.Mode = unawaited
 awaitedFor admission (Wants.Refused number) = unawaited
 
--- what is begun with a reply that is let in, over the observations lent from number `from` up to, but without, `to`
+-- what is begun with a reply that is accepted, over the observations lent from number `from` up to, but without, `to`
 unfoldable pub admittedOver : Setup → Trial → List ℕ → Awaited → ℕ → ℕ → Admission → Admitted
 admittedOver setup trial reply awaited from to A.Accepted =
     record {

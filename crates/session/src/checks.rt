@@ -1,6 +1,6 @@
-// What lets a call of a session in, by value, before anything is written: document 01's check 19, then 1 to 5
-// again; and of a reply that is let in what its observations are added to. Each function is defined for all
-// values.
+// Whether a call of a session is accepted, by value, before anything is written: document 01's check 19, then
+// 1 to 5 again; and of a reply that is accepted what its observations are added to. Each function is defined
+// for all values.
 ghost use mathlib.Core.Path.{_≡_};
 ghost use Prim.Native.Nat.{_+_};
 ghost use lib.ListN.{length};
@@ -81,7 +81,7 @@ fn is_placed(effects: u32, counts: &[u64], observations: usize, progress: Progre
     false
 }
 
-// And the kept rows are at most K.
+// Whether the state's positions are in range as for `is_placed`, and the kept rows are at most K.
 fn is_standing(
     setup: Setup,
     counts: &[u64],
@@ -99,7 +99,7 @@ fn is_standing(
 
 // ---- a new objective
 
-// 19, then 1 to 5.
+// Whether a new objective is accepted: 19, then 1 to 5 with the objective's own parameters.
 pub fn admit_objective(
     setup: Setup,
     parameters: Parameters,
@@ -123,7 +123,7 @@ pub fn admit_objective(
 
 // ---- a reply, and its failure
 
-// 19: a reply is awaited, and the state's positions are right among so many observations; then what the
+// 19: a reply is awaited, and the state's positions are in range for so many observations; then what the
 // search wants.
 fn awaited_point(
     setup: Setup,
@@ -145,7 +145,7 @@ fn awaited_point(
     Wanted::Refused(19)
 }
 
-// The checks of what is lent count where a point is wanted; else 19.
+// What the checks of the lent words and observations found, where a point is wanted; else 19.
 fn awaited_for(wanted: Wanted, admission: Admission) -> Awaited
     ensures { λ r. ⌜ r ≡ awaitedFor admission wanted ⌝ }
 {
@@ -168,7 +168,8 @@ fn unawaited() -> Awaited
     }
 }
 
-// 19, then 1 to 5.
+// Whether a reply or a failure is accepted where all observations are lent: 19, then 1 to 5; and the point
+// that was asked for.
 pub fn admit_awaited(
     setup: Setup,
     state: State,
@@ -214,8 +215,9 @@ fn end_of(first: usize, rows: usize, observations: usize) -> usize
     first + rows
 }
 
-// What is begun with a reply, over the observations lent from number `from` up to, but without, `to`: 8
-// and 9 where it is let in. The observations are added to the evaluation after it, one after the other.
+// A reply over the observations lent from number `from` up to, but without, `to`: where it is accepted, its
+// evaluation begins, with 8 and 9. The observations are added to the evaluation afterwards, one after the
+// other.
 fn admitted_over(
     setup: Setup,
     trial: Trial,
@@ -243,7 +245,7 @@ fn admitted_over(
     }
 }
 
-// The first part of a reply: 19, 1 to 5, then 8 and 9.
+// The first part of a reply that lends all observations: 19, 1 to 5, then 8 and 9.
 pub fn admit_reply(
     setup: Setup,
     state: State,
@@ -263,7 +265,8 @@ pub fn admit_reply(
     admitted_over(setup, trial, reply, awaited, progress.first, to)
 }
 
-// The same for a reply that lends the observations of the awaited subject alone, which `check` is of.
+// The first part of a reply that lends the observations of the awaited subject alone, of which `check` was
+// found: 19, 1 to 5 of what is lent, then 8 and 9.
 pub fn admit_subject_reply(
     setup: Setup,
     state: State,
@@ -298,7 +301,7 @@ fn nothing_admitted(awaited: Awaited, trial: Trial, number: u32) -> Admitted
     }
 }
 
-// A reply to no state.
+// The first part of a reply where the lent words are no state: refused with 19.
 pub fn unadmitted() -> Admitted
     ensures { λ r. ⌜ r ≡ unadmitted ⌝ }
 {

@@ -1,3 +1,7 @@
+// What a session's calls stand on, by value: what is handed from call to call, how a session and an objective
+// begin, and the shrinkage of a finished objective; whether a call is accepted is in `checks`. Of the
+// observations there is what was found of them: how many there are, and their check. Each function is defined
+// for all values and words.
 ghost use mathlib.Core.Path.{_≡_};
 ghost use lib.ListN.{length};
 ghost use Rattle.session.specs.Calls.{lentBy, refusedAs, startOf, firstState, shrinkage};
@@ -20,19 +24,15 @@ use subject::Evaluation;
 use subject::Position;
 use subject::Trial;
 
-// What a session's calls stand on, by value: what is handed from call to call, check 19, and what is let
-// in. Of the observations there is what was found of them: how many there are, and their check. Each
-// function is defined for all values and words.
-
-// What a host hands from call to call: the objective's parameters, where it stands, and the positions of
-// the kept evaluations.
+// What a host hands from call to call: the objective's parameters, where it stands, and the positions of the
+// kept evaluations.
 pub struct State {
     pub parameters: Parameters,
     pub progress: Progress,
     pub order: CacheOrder,
 }
 
-// What a call gives back.
+// What a call after setup gives back: the state, the tally and the answer.
 pub struct Called {
     pub state: State,
     pub tally: Tally,
@@ -45,20 +45,20 @@ pub enum Opening {
     Refused(u32, Place),
 }
 
-// What setup gives back.
+// What setup gives back: its answer and the tally.
 pub struct Begun {
     pub opening: Opening,
     pub tally: Tally,
 }
 
-// Whether a reply or a failure is let in: 19 and 1 to 5, and the point that was asked for.
+// Whether a reply or a failure is accepted (19, then 1 to 5), and the point that was asked for.
 pub struct Awaited {
     pub admission: Admission,
     pub eta: Pair,
 }
 
-// A reply that is let in, or not: the evaluation that begins with it, and the numbers of the observations
-// that it is over, from `from` up to, but without, `to`. Where it is not let in there are none.
+// A reply, accepted or not: the evaluation that begins with it, and the numbers of the observations that it
+// is over, from `from` up to, but without, `to`. Where it is not accepted there are none.
 pub struct Admitted {
     pub awaited: Awaited,
     pub from: usize,
@@ -69,6 +69,7 @@ pub struct Admitted {
 
 // ---- what is lent, and refusals
 
+// How much is lent to a call: so many observations, and the words of these slices.
 pub fn lent_by(
     observations: usize,
     cache: &[u64],
@@ -89,7 +90,7 @@ pub fn lent_by(
     }
 }
 
-// The same by the numbers alone.
+// How much is lent to a call: so many observations and so many words of each kind.
 pub fn lent_of(observations: usize, cache: usize, work: usize, warm: usize, results: usize) -> Lent
     ensures { λ r. ⌜ r ≡ lentBy observations cache work warm results ⌝ }
 {
@@ -102,7 +103,7 @@ pub fn lent_of(observations: usize, cache: usize, work: usize, warm: usize, resu
     }
 }
 
-// The check of the observations begins at the first.
+// The check of the observations before the first of them.
 pub fn first_check() -> Check
     ensures { λ r. ⌜ r ≡ firstCheck ⌝ }
 {
@@ -112,7 +113,7 @@ pub fn first_check() -> Check
     })
 }
 
-// A refusal that alters nothing.
+// What a call gives back that is refused and alters nothing: state and tally as they were.
 pub fn refused_as(state: State, tally: Tally, number: u32, place: Place) -> Called
     ensures { λ r. ⌜ r ≡ refusedAs state tally number place ⌝ }
 {
@@ -125,7 +126,8 @@ pub fn refused_as(state: State, tally: Tally, number: u32, place: Place) -> Call
 
 // ---- setup
 
-// Nothing is asked yet, nothing is kept, and every warm start is zero.
+// The state of a session that was just opened: nothing is asked yet, nothing is kept, and every warm start is
+// zero.
 pub fn first_state(setup: Setup) -> State
     ensures { λ r. ⌜ r ≡ firstState setup ⌝ }
 {
@@ -152,6 +154,8 @@ pub fn first_state(setup: Setup) -> State
 
 // ---- a new objective
 
+// The state as an objective begins: its parameters, the first subject's search from its warm start, and the
+// kept evaluations as they are.
 pub fn start_of(parameters: Parameters, warm: &[u64], effects: u32, order: CacheOrder) -> State
     ensures { λ r. ⌜ r ≡ startOf parameters (now (warm .entry)) effects order ⌝ }
 {
@@ -165,7 +169,7 @@ pub fn start_of(parameters: Parameters, warm: &[u64], effects: u32, order: Cache
 
 // ---- a finished objective
 
-// With one effect: 1 - ((sum of eta²) / n) / omega, over n subjects.
+// The shrinkage of a finished objective with one effect: 1 - ((sum of eta²) / n) / omega, over n subjects.
 pub fn shrinkage(state: State, subjects: u32) -> f64
     ensures { λ r. ⌜ r ≡ shrinkage state subjects ⌝ }
 {

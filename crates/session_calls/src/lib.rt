@@ -1,3 +1,8 @@
+// A session's calls over lent words: setup (`open`), a new objective (`begin_objective`), the second part of
+// a reply (`finish_reply`) and a failure of the simulator (`fail`). All but setup come to a run of the
+// objective (`run`), to a refusal that ends it (`ended_as`) or to one that alters nothing. The tally goes by
+// value here, and of the observations there is what was found of them: how many there are, and their check.
+// Each function is defined for all values and words.
 ghost use mathlib.Core.Path.{_≡_};
 ghost use lib.ListN.{length};
 ghost use Rattle.words.specs.Words.{zeros};
@@ -23,13 +28,10 @@ use setup::Setup;
 use subject::Check;
 use subject::Evaluation;
 
-// The run of an objective over lent words, from where it stands until there is a question or an end, and a
-// refusal that ends it. All calls of a session come to one of the two.
-
 // The requests that a call may make: 4,096 subjects, each with a search of at most 6,343 points and its end.
 pub const FUEL: usize = 25985024;
 
-// From where it stands, with what is in hand, until there is a question or an end.
+// Runs an objective from where it stands, with what is in hand, until there is a question or an end.
 pub fn run(
     setup: Setup,
     state: State,
@@ -78,7 +80,7 @@ pub fn run(
     }
 }
 
-// A refusal that ends the objective.
+// A refusal that ends the objective: no reply is awaited any more, and the work words are cleared.
 pub fn ended_as(state: State, tally: Tally, number: u32, place: Place, work: &mut [u64]) -> Called
     ensures { λ r. ⌜ (r ≡ endedAs state tally number place) × (now (work .exit) ≡ zeros (length (now (work .entry)))) ⌝ }
 {
@@ -100,13 +102,10 @@ pub fn ended_as(state: State, tally: Tally, number: u32, place: Place, work: &mu
     }
 }
 
-// A session's calls over lent words that need no reply's words: setup, new objective, and a reply's failure.
-// The tally goes by value here, and of the observations what was found of them: how many there are, and
-// their check. Each function is defined for all values and words.
-
 // ---- setup
 
-// 1 to 5; where they pass, tally, kept, work and warm words are zeroed.
+// Opens a session where 1 to 5 pass: tally, kept, work and warm words are zeroed. Else it is refused, and
+// nothing is altered.
 pub fn open(
     setup: Setup,
     tally: Tally,
@@ -149,7 +148,8 @@ pub fn open(
 
 // ---- a new objective
 
-// Where nothing is refused, the searches of all the subjects.
+// Begins an objective where it is accepted (19, then 1 to 5), and runs it until there is a question or an
+// end.
 pub fn begin_objective(
     setup: Setup,
     parameters: Parameters,
@@ -196,7 +196,7 @@ pub fn begin_objective(
 
 // ---- the simulator failed
 
-// The simulator failed: 8.
+// The simulator failed: where the failure is accepted (19, then 1 to 5), the objective ends with 8.
 pub fn fail(
     setup: Setup,
     state: State,
@@ -232,11 +232,12 @@ pub fn fail(
     }
 }
 
-// The second part of a reply's call over lent words: the evaluation is at its end, and what follows of it.
-// The first part, which lets the reply in, is `session::checks::admit_reply`; between the two a loop adds the
-// observations to the evaluation.
+// ---- the second part of a reply
+//
+// The first part, `session::checks::admit_reply`, accepts the reply; between the two a loop adds the
+// observations to its evaluation.
 
-// The evaluation is at its end: it is kept and the searches go on with it, or its refusal ends the
+// What follows the end of an evaluation: it is kept and the searches go on with it, or its refusal ends the
 // objective.
 fn follow(
     setup: Setup,
@@ -292,7 +293,9 @@ fn follow(
     }
 }
 
-// The second part of a reply, with the evaluation that the observations were added to.
+// The second part of a reply: `admitted` is what the first part answered, and `evaluation` the one that the
+// observations were added to. The evaluation is kept and the objective runs on until there is a question or
+// an end; or it is refused, which ends the objective; or the reply was not accepted, and nothing is altered.
 pub fn finish_reply(
     setup: Setup,
     state: State,

@@ -1,3 +1,12 @@
+-- Each claim of specs/ has its theorem in the file of the same name, but for these: Claim in Session (`every-session`), Setup in Opening,
+-- Shown in Written (`every-word`). What they rest on:
+-- the machine is lawful: Entries, Turns (every entry and every turn goes one of the ways of `Lawful`), Searches (a subject's search is a
+-- search of the rules), Standing (what stays true from call to call), Always (what a machine's turns and entries keep), Stores (what an
+-- objective needs of its kept evaluations), Accepted, Domains, Points (what the checks give);
+-- the requests are enough: Entered, Requests, Remaining, Limits, Endings;
+-- where a session stands: Placed, Lengths; SubjectChecks is for SubjectReply, Copies for Refined;
+-- what words show: Words, ModeWords, Blocks, Trials, Results, Middle; what is asked for and kept: Asked, Evaluated;
+-- floats of the format: Formats, Formatted, Fitting. Plain has small facts that the others share.
 pub mod Accepted
 pub mod Always
 pub mod Asked

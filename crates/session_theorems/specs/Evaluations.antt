@@ -114,7 +114,7 @@ module _ (setup : Setup) (counts : List ℕ) (observations : List Observation) w
         (individual .first ≡ theta .first *ᶠ exp (eta .first))
         × (setup .effects ≡ 2 → individual .second ≡ theta .second *ᶠ exp (eta .second))
 
--- in the session that an accepted setup opened: nothing is kept yet, and so it goes on after any list of calls
+-- in the session that an accepted setup opened: at first nothing is kept, and after any list of calls the above holds
 abbrev pub EveryEvaluation : Type 0
 EveryEvaluation = (setup : Setup) (counts : List ℕ) (observations : List Observation) (lent : Lent) (results : List ℕ)
     → Granted setup counts observations lent results

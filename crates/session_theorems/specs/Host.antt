@@ -161,7 +161,7 @@ module _ (I : Inner) (L : Reads I) (O : Original (I .rules)) (l : Lending) (ds :
     -- one call more leaves the words alone of the subjects whose mode it does not reach
     pub unwritten : (c : Call) → let r = call (M l) c (reached l ds) in
         Unwritten (l .setup) (l .counts) (reached l ds) (r .answer) (r .state)
-    -- it is told as the machine's answer; and so a reply where one subject's observations are lent
+    -- its answer is the machine's; and so is that of a reply that lends one subject's observations
     pub tells : (c : Call) → Told (does (all l now) (calls c)) now (call (M l) c (reached l ds) .answer)
     pub tells-own : (said : List ℕ) → Told (does (own l now) (replies said)) now (call (M l) (reply said) (reached l ds) .answer)
 

@@ -1,4 +1,4 @@
--- What a session lets in, wherever it stands: a reply or a failure that is awaited, and a new objective while none is. None of these
+-- What a session accepts, wherever it stands: a reply or a failure that is awaited, and a new objective while none is. None of these
 -- calls gets 19, and 1 to 5 refuse nothing but a new objective, for its own parameters.
 use mathlib.Core.Path.{_≡_}
 use mathlib.Core.Bool.{true, false}

@@ -128,10 +128,10 @@ module _ (l : Lending) where
   pub record ZerosAfterAnEnd (x : Exported) : Type 0 where
     -- after 6 to 18 the work words are zeros, as many as were lent, and the state that is saved awaits no reply
     pub refusals : EndsObjective (number x) → (does l x .work ≡ zeros (length (l .work))) × (Awaits (does l x .told .state) → ⊥)
-    -- and so on success: the answer's first word is 1
+    -- on success, where the answer's first word is 1, it is the same
     pub finished : 1 ≤ length (l .answer) → getD (does l x .told .answer) 0 0 ≡ 1
         → (does l x .work ≡ zeros (length (l .work))) × (Awaits (does l x .told .state) → ⊥)
-    -- a question awaits its reply: the answer's first word is 0
+    -- after a question, where the answer's first word is 0, the state awaits its reply
     pub asked : 1 ≤ length (l .answer) → getD (does l x .told .answer) 0 0 ≡ 0 → Awaits (does l x .told .state)
 
 -- ---- the requests that a call may make are never used up: more of them, and whatever answer after the last, would change nothing

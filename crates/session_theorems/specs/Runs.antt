@@ -1,5 +1,5 @@
--- Every search of every session is a run of the source's `mode`, as the source writes it (source's specs): the evaluations that it was
--- given are those that the run asks for, one after the other, and it ends as the run does.
+-- Every search of every session is a run of the source's `mode`, as the source writes it (specs of the crate source): the evaluations
+-- that it was given are those that the run asks for, one after the other, and it ends as the run does.
 use mathlib.Core.Path.{_≡_}
 use mathlib.Core.Logic.{_⊎_}
 use mathlib.Core.Bool.{true}

@@ -1,5 +1,5 @@
--- A reply that lends the observations of the awaited subject alone is the reply that lends all of them, where the latter is let in: where
--- the state's positions are right, and 1 to 5 pass of all that there is. It is so for any words and any state.
+-- A reply that lends the observations of the awaited subject alone is the reply that lends all of them, where the latter is accepted:
+-- where the state's positions are right, and 1 to 5 pass of all that there is. It is so for any words and any state.
 use mathlib.Core.Path.{_≡_}
 use mathlib.Core.Bool.{true}
 use mathlib.Core.List.{List}
@@ -23,7 +23,7 @@ use Rattle.host_calls.specs.Hosting.{callOver}
 use Rattle.host_calls.specs.SubjectReplies.{subjectReplyOver}
 use Rattle.session_theorems.specs.Setup.{Granted}
 
--- those of the subject that the state stands at
+-- the observations of the subject that the state stands at
 abbrev pub ownOf : List ℕ → List Observation → State → List Observation
 ownOf counts observations s = take (rowsOf counts (s .progress .subject)) (drop (s .progress .first) observations)
 

@@ -1,5 +1,5 @@
--- Paths: the ways through the code of this crate and of setup_checks. Bounds: the bounds that a passed check gives.
--- Subject: the exits of `subject_checks`.
+-- Paths: the ways through the code of lib and checks, for its proofs. Bounds: the bounds that a passed check gives. Subject: the exits of
+-- `subject_checks`.
 pub mod Paths
 pub mod Bounds
 mod Subject

@@ -1,5 +1,5 @@
-// Document 01's checks 1 to 5 of what a session is given, in their order. Each function is defined for all
-// values.
+// Document 01's checks 1 to 5 of what a session is given, in their order. Each public function is defined for
+// all values.
 ghost use mathlib.Core.Path.{_≡_};
 ghost use Prim.Native.Nat.{_≤_};
 ghost use Rattle.setup.specs.Admission.{countObservations, isCohort, isShort, admitted, checks};
@@ -14,6 +14,7 @@ use subject::Check;
 
 // ---- 1
 
+// The sum and the largest of the subjects' numbers of observations, for checks 1 and 5.
 pub fn count_observations(counts: &[u64]) -> Counts
     ensures { λ r. ⌜ r ≡ countObservations (now (counts .entry)) ⌝ }
 {
@@ -37,6 +38,8 @@ pub fn count_observations(counts: &[u64]) -> Counts
     Counts::Within(total, largest)
 }
 
+// Whether check 1 passes: 1 or 2 effects, 1 to 4,096 subjects, and as many observations lent as the subjects
+// have.
 fn is_cohort(effects: u32, subjects: usize, total: usize, observations: usize) -> bool
     ensures { λ r. ⌜ r ≡ isCohort effects subjects total observations ⌝ }
 {
@@ -57,8 +60,8 @@ fn is_cohort(effects: u32, subjects: usize, total: usize, observations: usize) -
 
 // ---- 5
 
-// Too few words: 12 for each row of the largest subject, 24 for each row that is kept, one warm start for
-// each subject and effect, three results for each subject and two for each observation.
+// Whether too few words are lent: 12 for each row of the largest subject, 24 for each row that is kept, one
+// warm start for each subject and effect, three results for each subject and two for each observation.
 fn is_short(setup: Setup, subjects: usize, total: usize, largest: usize, lent: Lent) -> bool
     requires { ⌜ (setup .effects ≤ 2) × (setup .k ≤ 100000) × (subjects ≤ 4096) × (total ≤ 100000) × (largest ≤ 100000) ⌝ }
     ensures { λ r. ⌜ r ≡ isShort setup subjects total largest lent ⌝ }
@@ -106,7 +109,8 @@ fn admitted(
     }
 }
 
-// Checks 1 to 5 in their order. `check` is what check_observations found of all the lent observations.
+// Checks 1 to 5 in their order. `check` is what `observations::check_observations` found of all the lent
+// observations (4).
 pub fn checks(setup: Setup, counts: &[u64], lent: Lent, check: Check) -> Admission
     ensures { λ r. ⌜ r ≡ checks setup (now (counts .entry)) lent check ⌝ }
 {
@@ -123,8 +127,9 @@ pub fn checks(setup: Setup, counts: &[u64], lent: Lent, check: Check) -> Admissi
 
 // ---- where one subject's observations are lent
 
-// Checks 1 to 5 in their order, of this subject's count and its observations, which `check` is of. The
-// other subjects' are not looked at: a host that lends them no more has had them checked before.
+// Checks 1 to 5 in their order where the observations of one subject alone are lent: of this subject's count,
+// and of its observations, of which `check` was found. The other subjects' counts and observations are not
+// looked at.
 pub fn subject_checks(
     setup: Setup,
     counts: &[u64],

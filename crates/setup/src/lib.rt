@@ -1,3 +1,6 @@
+// What a session is given, the answer of document 01's checks of it, checks 2 and 3, which look at the setup
+// alone, and the setup of one objective. `checks` has 1 to 5 in their order. Each function is defined for all
+// values.
 ghost use mathlib.Core.Path.{_≡_};
 ghost use Rattle.setup.specs.Admission.{isBeyond, isNoVariance, isNoOmega, isNoOverride, isNoTolerance, isNoShape, withParameters};
 
@@ -8,12 +11,10 @@ use matrix::Pair;
 use subject::AdditiveSd;
 use subject::Position;
 
-// What a session is given, and the answer of document 01's checks of it; the checks 2 and 3, which look at
-// the setup alone, and an objective's own setup. Each function is defined for all values.
-
-// Effects; omega by row and column (with one effect its first entry); the bound of eta; the outer fit's
-// gradient_tolerance; the number of outputs; K, the most rows that are kept; the additive deviation; the
-// most values and derivatives of a reply; the most evaluations.
+// What a session is set up with: the number of effects; omega by row and column (with one effect its first
+// entry); the bound of eta; the outer fit's gradient_tolerance; the number of outputs; K, the most rows that
+// are kept; the additive deviation; the most values and derivatives of a reply; the most evaluations. (The
+// source's Setup is another thing: a part of a validated request, with names, units, start and limits.)
 pub struct Setup {
     pub effects: u32,
     pub omega00: f64,
@@ -36,7 +37,8 @@ pub struct Parameters {
     pub additive_sd: AdditiveSd,
 }
 
-// The numbers of what is lent: observations, and words.
+// How much is lent to a call: the number of observations, and the numbers of work, cache, warm and result
+// words.
 pub struct Lent {
     pub observations: usize,
     pub work: usize,
@@ -45,14 +47,15 @@ pub struct Lent {
     pub results: usize,
 }
 
-// The subjects' numbers of observations: all of them together and the largest, or outside document 01's
-// domain, with none or with more than 100,000 in all.
+// What is found of the subjects' numbers of observations: their sum and the largest; or that they are outside
+// document 01's domain, with a subject that has none or with more than 100,000 in all.
 pub enum Counts {
     Within(usize, usize),
     Outside,
 }
 
-// The answer of the checks: passed, document 01's number for a no, or 4 with its place.
+// The answer of the checks: accepted, refused with document 01's number, or refused with 4 at the place of an
+// observation.
 pub enum Admission {
     Accepted,
     Refused(u32),
@@ -79,8 +82,8 @@ fn is_no_variance(omega: f64) -> bool
     is_beyond(omega, 0.00000095367431640625, 1048576.0)
 }
 
-// Whether check 2 refuses: a variance is from 2^-20 to 2^20, and with two effects omega is symmetric and has
-// an inverse.
+// Whether check 2 refuses: each variance must be from 2^-20 to 2^20, and with two effects omega must be
+// symmetric and have an inverse.
 pub fn is_no_omega(setup: Setup) -> bool
     ensures { λ r. ⌜ r ≡ isNoOmega setup ⌝ }
 {
@@ -108,7 +111,8 @@ pub fn is_no_omega(setup: Setup) -> bool
 
 // ---- 3
 
-// An override is finite and not below 0, and there is none with two effects.
+// Whether an additive override is refused: it must be finite and not below 0, and with two effects there must
+// be none.
 fn is_no_override(effects: u32, additive_sd: AdditiveSd) -> bool
     ensures { λ r. ⌜ r ≡ isNoOverride effects «additive_sd» ⌝ }
 {
@@ -135,8 +139,8 @@ fn is_no_tolerance(gradient_tolerance: f64) -> bool
     gradient_tolerance <= 0.0
 }
 
-// Whether check 3 refuses: the bound of eta is from 2^-10 to 16, there are 1 to 64 outputs, and K is from 1
-// to 100,000.
+// Whether check 3 refuses: the bound of eta must be from 2^-10 to 16, the gradient_tolerance finite and above
+// 0, the outputs 1 to 64, K from 1 to 100,000, and an override finite and not below 0, with one effect only.
 pub fn is_no_shape(setup: Setup) -> bool
     ensures { λ r. ⌜ r ≡ isNoShape setup ⌝ }
 {
@@ -162,9 +166,10 @@ pub fn is_no_shape(setup: Setup) -> bool
     is_no_override(setup.effects, additive_sd)
 }
 
-// ---- an objective
+// ---- one objective
 
-// The setup of an objective: with one effect its omega, and its additive deviation.
+// The setup of one objective: that of the session with the objective's additive deviation, and with one
+// effect its omega.
 pub fn with_parameters(setup: Setup, parameters: Parameters) -> Setup
     ensures { λ r. ⌜ r ≡ withParameters setup parameters ⌝ }
 {

@@ -1,4 +1,5 @@
--- What a reader must believe: what load and save compute.
+-- What a reader must believe of this crate, what load and save compute: SearchWords (a search with one effect as twenty words),
+-- SearchWords2 (with two effects as twenty-five) and SessionWords (a session's state as 63).
 pub mod SearchWords
 pub mod SearchWords2
 pub mod SessionWords

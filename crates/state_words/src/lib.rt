@@ -1,3 +1,10 @@
+// A session's state as 63 words, for a host that keeps it, loaded (`load`) and saved (`save`):
+//  0 whether it awaits a reply;
+//  1 theta, 3 omega, 4 whether there is an additive override, 5 the override, or 0;
+//  6 individual values, 8 subject, 9 its first observation, 10 warm start, 12 ofv, 13 eta_squares;
+// 14 the kept evaluations' oldest, next, first_row and next_row;
+// 18 the search's twenty words (`one_effect`); 38 the two-effect search's twenty-five (`two_effects`).
+// A float is its word, and a bool is 1 or 0. Each public function is defined for all words and states.
 ghost use mathlib.Core.Path.{_≡_};
 ghost use Prim.Native.Nat.{_+_, _-_, _≤_, _<_};
 ghost use lib.ListN.{length};
@@ -20,16 +27,7 @@ use setup::Parameters;
 use subject::AdditiveSd;
 use two_effects::Loaded2;
 
-// A session's state as 63 words, for a host that keeps it:
-//  0 whether it awaits a reply;
-//  1 theta, 3 omega, 4 whether there is an additive override, 5 the override, or 0;
-//  6 individual values, 8 subject, 9 its first observation, 10 warm start, 12 ofv, 13 eta_squares;
-// 14 the kept evaluations' oldest, next, first_row and next_row;
-// 18 the search's twenty words; 38 the two-effect search's twenty-five.
-// A float is its word, and what holds or not is 1 or 0. Here are the definitions, and the words loaded;
-// `session_saved` writes them.
-
-// The state of some words, or none.
+// The answer of load: the state that the words stand for, or that they are no state.
 pub enum LoadedState {
     Given(State),
     None,
@@ -165,8 +163,8 @@ fn search_2d_at(words: &[u64]) -> [u64; 25]
     ]
 }
 
-// Whether the words from `from` up to, but without, `to` are all 0, as those of a search that has asked
-// nothing are.
+// Whether the words from `from` up to, but without, `to` are all 0, as those of a search are that has not
+// asked for anything.
 fn is_zero(words: &[u64], from: usize, to: usize) -> bool
     requires { ⌜ to ≤ length (now words) ⌝ }
     ensures { λ r. ⌜ r ≡ isZero (to - from) (now (words .entry)) from ⌝ }
@@ -181,8 +179,8 @@ fn is_zero(words: &[u64], from: usize, to: usize) -> bool
     true
 }
 
-// The search of its words. The search of the other number of effects has asked nothing, and need not be
-// loaded word by word.
+// The one-effect search of a state's words. In a session with two effects it has not asked for anything: then
+// its words are all 0, and need not be loaded one by one.
 fn search_of(words: &[u64]) -> Loaded
     requires { ⌜ 63 ≤ length (now words) ⌝ }
     ensures { λ r. ⌜ one.answer r ≡ one.loaded (wordsFrom 20 (now (words .entry)) 18) ⌝ }
@@ -193,6 +191,8 @@ fn search_of(words: &[u64]) -> Loaded
     one_effect::load(search_at(words))
 }
 
+// The two-effect search of a state's words. In a session with one effect it has not asked for anything: then
+// its words are all 0, and need not be loaded one by one.
 fn search_2d_of(words: &[u64]) -> Loaded2
     requires { ⌜ 63 ≤ length (now words) ⌝ }
     ensures { λ r. ⌜ two.answer r ≡ two.loaded (wordsFrom 25 (now (words .entry)) 38) ⌝ }
@@ -227,8 +227,8 @@ fn with_search(words: &[u64], search: Search) -> LoadedState
     }
 }
 
-// Words are no state where there are fewer than 63, where what holds or not is above 1, or where those of
-// a search are none.
+// The state that lent words stand for. They are no state where there are fewer than 63, where a bool is above
+// 1, or where the words of a search are no search.
 pub fn load(words: &[u64]) -> LoadedState
     ensures { λ r. ⌜ answer r ≡ loadedState (now (words .entry)) ⌝ }
 {
@@ -247,7 +247,7 @@ pub fn load(words: &[u64]) -> LoadedState
     }
 }
 
-// A session's state written as its 63 words (see `session_words`).
+// ---- the words of a state
 
 fn flag(holds: bool) -> u64
     ensures { λ r. ⌜ r ≡ flag holds ⌝ }
@@ -317,7 +317,7 @@ fn put_lent(from: usize, values: &[u64], words: &mut [u64])
     }
 }
 
-// Writes them one by one, and nothing beyond the end.
+// Writes the values from word `from` on one by one, and nothing beyond the end.
 fn put_each(from: usize, values: &[u64], words: &mut [u64])
     requires { ⌜ from < 63 ⌝ }
     ensures { λ _. ⌜ now (words .exit) ≡ putFrom from (now (values .entry)) (now (words .entry)) ⌝ }
@@ -341,7 +341,7 @@ fn put_from(from: usize, values: &[u64], words: &mut [u64])
     put_each(from, values, words);
 }
 
-// Writes the first 63 words, or as many of them as are lent.
+// Writes the 63 words of a state to the first of the lent words, or as many of them as are lent.
 pub fn save(state: State, words: &mut [u64])
     ensures { λ _. ⌜ now (words .exit) ≡ savedState state (now (words .entry)) ⌝ }
 {

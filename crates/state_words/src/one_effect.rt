@@ -1,6 +1,6 @@
-// A search as twenty words, for a host that keeps it: its stage (0 grid, 1 warm, 2 secant, 3 halving),
-// count, first, latest, fall (0 or 1), left, right and best. A float is its word, and a point the words of
-// its eta, nll, score and information.
+// A search with one effect as twenty words, for a host that keeps it: its stage (0 grid, 1 warm, 2 secant, 3
+// halving), count, first, latest, fall (0 or 1), left, right and best. A float is its word, and a point the
+// words of its eta, nll, score and information. Each public function is defined for all words and searches.
 ghost use mathlib.Core.Path.{_≡_};
 ghost use Prim.Native.Nat.{_<_};
 ghost use Rattle.state_words.specs.SearchWords.{conditionalAt, wordsOf, stageOf, stageWord, fallWord, loaded, saved, answer};
@@ -8,7 +8,7 @@ use mode::population_focei::Conditional;
 use mode::population_focei::Search;
 use mode::population_focei::Stage;
 
-// The search of some words, or none.
+// The answer of load: the search that twenty words stand for, or that they are no search.
 pub enum Loaded {
     Given(Search),
     None,
@@ -73,7 +73,8 @@ fn words_of(c: Conditional) -> [u64; 4]
     ]
 }
 
-// Words are no search where the stage is above 3, the count above a u32, or the fall above 1.
+// The search that twenty words stand for. They are no search where the stage is above 3, the count does not
+// fit in a u32, or the fall is above 1.
 pub fn load(words: [u64; 20]) -> Loaded
     ensures { λ r. ⌜ answer r ≡ loaded words ⌝ }
 {
@@ -104,6 +105,7 @@ pub fn load(words: [u64; 20]) -> Loaded
     })
 }
 
+// The twenty words of a search.
 pub fn save(x: Search) -> [u64; 20]
     ensures { λ r. ⌜ r ≡ saved x ⌝ }
 {

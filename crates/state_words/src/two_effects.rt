@@ -1,7 +1,7 @@
-// A search with two effects as twenty-five words, for a host that keeps it: its stage (0 zero, 1 start,
-// 2 trial, 3 found, and of a search that was refused 4 more than the number), seed, round, reduction,
-// current, trial, decrease and best. A float is its word, and a point the words of its eta, nll, score and
-// information.
+// A search with two effects as twenty-five words, for a host that keeps it: its stage (0 zero, 1 start, 2
+// trial, 3 found, and of a search that was refused 4 more than the number), seed, round, reduction, current,
+// trial, decrease and best. A float is its word, and a point the words of its eta, nll, score and
+// information. Each public function is defined for all words and searches.
 ghost use mathlib.Core.Path.{_≡_};
 ghost use Prim.Native.Nat.{_<_};
 ghost use Rattle.state_words.specs.SearchWords2.{pairAt, conditionalAt, wordsOf, stageOf, stageWord, loaded, saved, answer};
@@ -10,7 +10,7 @@ use mode_2d::population_focei_2d::Conditional2;
 use mode_2d::population_focei_2d::Search2;
 use mode_2d::population_focei_2d::Stage2;
 
-// The search of some words, or none.
+// The answer of load: the search that twenty-five words stand for, or that they are no search.
 pub enum Loaded2 {
     Given(Search2),
     None,
@@ -92,7 +92,8 @@ fn words_of(c: Conditional2) -> [u64; 9]
     ]
 }
 
-// Words are no search where the refusal's number, the seed, the round or the reduction is above a u32.
+// The search that twenty-five words stand for. They are no search where the refusal's number, the seed, the
+// round or the reduction does not fit in a u32.
 pub fn load(words: [u64; 25]) -> Loaded2
     ensures { λ r. ⌜ answer r ≡ loaded words ⌝ }
 {
@@ -124,6 +125,7 @@ pub fn load(words: [u64; 25]) -> Loaded2
     })
 }
 
+// The twenty-five words of a search.
 pub fn save(x: Search2) -> [u64; 25]
     ensures { λ r. ⌜ r ≡ saved x ⌝ }
 {

@@ -29,7 +29,7 @@ use Rattle.subject.specs.declared.Evaluation.the-variants.{Running, Refu
 use Rattle.subject.specs.declared.RowAt.{RowAt}
 use Rattle.subject.specs.declared.RowAt.the-variants.{Word, Missing}
 
--- ---- individual values: document 01's question 7
+-- ---- individual values: document 01's check 7
 
 unfoldable pub individual : Float → Float → Float
 individual theta eta = theta *ᶠ exp eta
@@ -51,7 +51,7 @@ unfoldable pub answer : IndividualValues → Answer Pair
 answer (Valid p) = given p
 answer Invalid = refused 7
 
--- ---- the beginning: questions 8 and 9
+-- ---- the beginning: checks 8 and 9
 
 abbrev pub noSums : Sums
 noSums = record {
@@ -96,7 +96,7 @@ withTerms sums terms = record {
   observation = next (sums .observation);
 }
 
--- one effect: questions 11 and 12
+-- one effect: checks 11 and 12
 unfoldable pub addRow : Sums → Observation → Float → Float → Float → Evaluation
 addRow sums observation prediction f-eta additive =
     atObservation (sums .observation) (through (withTerms sums) (rowTerms observation prediction f-eta additive))
@@ -115,7 +115,7 @@ withRow sums row f-eta =
       observation = next (sums .observation);
     }
 
--- two effects: question 11
+-- two effects: check 11
 unfoldable pub addRow2 : Sums → Observation → Float → List Float → Evaluation
 addRow2 sums observation prediction f-eta =
     atObservation (sums .observation)
@@ -143,7 +143,7 @@ pub record Evaluating : Type 0 where
 abbrev pub evaluating : Evaluation → List ℕ → Evaluating
 evaluating e work = record { evaluation = e; work = work }
 
--- question 10, then the row
+-- check 10, then the row
 unfoldable pub addAt : Sums → Observation → Trial → List ℕ → List ℕ → RowAt → Evaluating
 addAt sums observation trial reply work Missing = evaluating (RefusedAt 10 (sums .observation)) work
 addAt sums observation trial reply work (Word at) =
@@ -168,7 +168,7 @@ abbrev pub addObservations : Trial → List ℕ → List Observation → Evaluat
 addObservations trial reply [] x = x
 addObservations trial reply (observation ∷ rest) x = addObservations trial reply rest (addObservation trial reply observation x)
 
--- ---- the end: question 12 for the sums
+-- ---- the end: check 12 for the sums
 
 unfoldable pub hasNonfiniteSum : Sums → Bool
 hasNonfiniteSum sums =

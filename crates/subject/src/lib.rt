@@ -1,3 +1,11 @@
+// A subject's evaluation at one point: `subject` of population_focei.rs and population_focei_2d.rs after its
+// simulator has answered. Here are the types, the individual values that the simulator is run with, and the
+// beginning and the end of an evaluation; between the two, `rows` adds one observation, and the crate
+// observations (or program_calls) goes through all of them. Each function is defined for all values and
+// words.
+//
+// A reply is whole rows of words: time, side (0 pre, any other post), `width` values, then `width`
+// derivatives for each effect.
 ghost use mathlib.Core.Path.{_≡_};
 ghost use Rattle.subject.specs.Reply.{outputValues, rowLength};
 ghost use Rattle.subject.specs.Subject.{answer, individual, isNoIndividual, individualValues, begin, hasNonfiniteSum, finish};
@@ -6,14 +14,8 @@ pub mod rows;
 
 use matrix::Pair;
 
-// A subject's evaluation at one point: `subject` of population_focei.rs and population_focei_2d.rs after its
-// simulator has answered. Here are its types and its definitions, the individual values that the simulator
-// is run with, and the evaluation's beginning and end; `rows` and `observations` have what is between.
-//
-// A reply is whole rows of words: time, side (0 pre, any other post), `width` values, then `width`
-// derivatives for each effect.
-
-// The answer of individual_values.
+// The answer of individual_values: the value for each effect (with one effect, the first), or that one of
+// them is not finite or not above 0 (check 7).
 pub enum IndividualValues {
     Valid(Pair),
     Invalid,
@@ -36,8 +38,8 @@ pub struct Trial {
     pub block: usize,
 }
 
-// The sums over the observations so far: negative log likelihood, score, and information by row and
-// column. With one effect all but nll, score.first and i00 stay as they are. Nothing has the prior.
+// The sums over the observations so far: negative log likelihood, score, and information by row and column.
+// With one effect all but nll, score.first and i00 stay as they are. None of them includes the prior.
 // `observation` is the number of the next observation within its subject.
 pub struct Sums {
     pub nll: f64,
@@ -49,35 +51,36 @@ pub struct Sums {
     pub observation: usize,
 }
 
-// An evaluation on its way, or the first refusal that it met: document 01's number (8, 9, 12), and for
-// an observation (10, 11, 12) its number within the subject.
+// A subject's evaluation under way with its sums, or the first refusal that it met: document 01's number (8,
+// 9, 12), and for an observation (10, 11, 12) its number within the subject too. (The source's Evaluation is
+// another thing: the result of a whole objective.)
 pub enum Evaluation {
     Running(Sums),
     Refused(u32),
     RefusedAt(u32, usize),
 }
 
-// The word at which an observation's row begins, or no such row.
+// The word of a reply at which an observation's row begins, or that there is no such row.
 pub enum RowAt {
     Word(usize),
     Missing,
 }
 
-// The source's PredictionRow, as words; the side is 0 pre, 1 post.
+// The source's PredictionRow, as words: what is kept of a row of a reply. The side is 0 pre, 1 post.
 pub struct PredictionRow {
     pub prediction: u64,
     pub time: u64,
     pub side: u64,
 }
 
-// A subject, and the number of one of its observations.
+// A place among the observations: a subject, and the number of an observation within it.
 pub struct Position {
     pub subject: usize,
     pub observation: usize,
 }
 
-// The check of the observations: all were sound and the next one's place is this, or the first that was
-// not is at this place.
+// How far the check of the observations (check 4) has come: all so far are sound, and this is the place of
+// the next one; or this is the place of the first that is not.
 pub enum Check {
     Sound(Position),
     Unsound(Position),
@@ -100,7 +103,8 @@ fn is_no_individual(value: f64) -> bool
     value <= 0.0
 }
 
-// The parameters that the simulator is run with.
+// The individual values that the simulator is run with, theta · exp(eta) for each effect, or that check 7
+// refuses them. Any number of effects but 2 counts as 1.
 pub fn individual_values(theta: Pair, eta: Pair, effects: u32) -> IndividualValues
     ensures { λ r. ⌜ answer r ≡ individualValues theta eta effects ⌝ }
 {
@@ -127,7 +131,7 @@ fn output_values(width: u32, effects: u32) -> usize
     width as usize * (1 + effects as usize)
 }
 
-// The number of a row's words.
+// The number of words in a row of a reply.
 pub fn row_length(width: u32, effects: u32) -> usize
     ensures { λ r. ⌜ r ≡ rowLength width effects ⌝ }
 {
@@ -136,8 +140,8 @@ pub fn row_length(width: u32, effects: u32) -> usize
 
 // ---- the sums
 
-// An evaluation begins where the reply is whole rows, and their values and derivatives are within the
-// output budget. No word at all is no row, and whole.
+// The beginning of an evaluation: 8 where the reply is not whole rows, 9 where their values and derivatives
+// are beyond the output budget, else sums of 0. A reply of no words is whole: it has no rows.
 pub fn begin(reply: &[u64], width: u32, effects: u32, output_budget: u32) -> Evaluation
     ensures { λ r. ⌜ r ≡ begin (now (reply .entry)) width effects «output_budget» ⌝ }
 {
@@ -177,7 +181,8 @@ fn has_nonfinite_sum(sums: Sums) -> bool
     matrix::has_nonfinite_entry([[sums.i00, sums.i01], [sums.i10, sums.i11]])
 }
 
-// The evaluation after its last observation: only now are the sums tested, as in the source.
+// The end of an evaluation, after its last observation: 12 where a sum is not finite. The sums are tested
+// only here, as in the source.
 pub fn finish(evaluation: Evaluation) -> Evaluation
     ensures { λ r. ⌜ r ≡ finish evaluation ⌝ }
 {

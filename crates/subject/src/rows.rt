@@ -1,5 +1,5 @@
-// What one observation adds to a subject's sums: its row in the reply's words is found, what is kept of it is
-// written, and its terms are added. Here alone are the simulator's words read.
+// What one observation adds to a subject's sums: its row in the reply's words is found (10), what is kept of
+// it is written, and its terms are added (11, 12). No other module reads the simulator's words.
 ghost use mathlib.Core.Path.{_≡_};
 ghost use Prim.Native.Nat.{_<_, _≤_};
 ghost use lib.ListN.{length, getD, set};
@@ -21,7 +21,8 @@ use matrix::Pair;
 
 // ---- a reply's rows
 
-// The row of an observation. An output that no row has is a missing row.
+// The word at which the row of an observation begins. A row is missing too where no row has the observation's
+// output.
 fn row_at(reply: &[u64], width: u32, effects: u32, output: usize, row: usize) -> RowAt
     ensures { λ r. ⌜ r ≡ rowAt (now (reply .entry)) width effects output row ⌝ }
 {
@@ -35,8 +36,8 @@ fn row_at(reply: &[u64], width: u32, effects: u32, output: usize, row: usize) ->
     RowAt::Word(row * words)
 }
 
-// A word of the row at `at`: that of its values (block 0), or of the derivatives by an effect (block 1
-// or 2), which is of this output.
+// A word of the row at `at`, for this output: its value (block 0), or its derivative by an effect (block 1 or
+// 2).
 fn column(reply: &[u64], at: usize, width: u32, block: u32, output: usize) -> u64
     requires { ⌜ at ≤ length (now reply) ⌝ }
     requires { ⌜ block < 3 ⌝ }
@@ -237,8 +238,9 @@ fn add_to(
     }
 }
 
-// One observation more: its row's prediction, time and side are written to the trial block, and its
-// terms are added. After a refusal nothing is done.
+// An evaluation with one observation more, a turn of the loop in the source's `subject`: its row's
+// prediction, time and side are written to the trial block of the work words, and its terms are added. After
+// a refusal nothing is done.
 pub fn add_observation(
     evaluation: Evaluation,
     observation: Observation,

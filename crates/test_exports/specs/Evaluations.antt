@@ -1,4 +1,4 @@
--- What the exported functions answer and write.
+-- What the exported evaluations answer and write.
 use mathlib.Core.Bool.{Bool}
 use mathlib.Core.List.{List}
 use Prim.Native.Nat.{ℕ, _+_, _-_}

@@ -1,4 +1,5 @@
--- What a leaf's answer is to C: a number or a bool, and what is written. Where there is nothing to write, what was there stays.
+-- What a leaf's answer is to the comparison: a number or a bool, and what is written. Where there is nothing to write, what was there
+-- stays.
 use mathlib.Core.Bool.{Bool, true, false}
 use mathlib.Core.List.{List, [], _∷_}
 use lib.Ieee.{Float}

@@ -1,8 +1,5 @@
--- What crosses to C, by the cases of each leaf's answer.
--- What crosses to C, by the cases of what is loaded and asked.
--- What crosses to C, by the cases of what is loaded and asked.
--- What crosses to C, as words.
--- What a reader must believe of this crate: how questions, sums and places cross as numbers and words.
+-- What the exported parts answer and write, as numbers, arrays and words: Leaves (matrices and rows), Mode and Mode2d (the searches as
+-- words), Words (kept evaluations) and Evaluations.
 pub mod Leaves
 pub mod Mode
 pub mod Mode2d

@@ -1,4 +1,4 @@
--- The two-effect search for C: what is answered and what is written, over twenty-five words.
+-- The two-effect search for the comparison: what is answered and what is written, over twenty-five words.
 use mathlib.Core.List.{List}
 use Prim.Native.Nat.{ℕ}
 use lib.Ieee.{Float}

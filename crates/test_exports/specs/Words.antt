@@ -1,4 +1,4 @@
--- Positions, keys and terms of the kept evaluations as words, and what find's answer is to C.
+-- Positions, keys and terms of the kept evaluations as words, and what the answer of `find` is to the comparison.
 use mathlib.Core.Bool.{Bool, true, false}
 use mathlib.Core.List.{List, [], _∷_}
 use Prim.Native.Nat.{ℕ}

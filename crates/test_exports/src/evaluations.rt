@@ -1,6 +1,4 @@
-// Evaluations for C and Rust: individual values, the check of the observations, and a subject's sums from
-// a reply. Each function is defined for every input, and its contract gives all that it answers and
-// writes. What is lent to be written must overlap nothing else that is lent to the same call.
+// Evaluations: individual values, the check of the observations, and a subject's sums from a reply.
 ghost use mathlib.Core.Path.{_≡_};
 ghost use lib.ListN.{set};
 ghost use Rattle.float64.specs.Answer.{numberOf, orOld};
@@ -17,8 +15,8 @@ use subject::Sums;
 use subject::Trial;
 
 // The question that a reply answers: the subject's observations are those from `from` up to, but without,
-// `to`; `additive` overrides their own where `has_additive`; the trial block of the work words begins at
-// word `block`.
+// `to`; `additive` overrides their own where `has_additive`; the trial block of the work words begins at word
+// `block`.
 #[repr(C)]
 pub struct Question {
     pub from: usize,
@@ -33,7 +31,8 @@ pub struct Question {
     pub block: usize,
 }
 
-// An evaluation that begins, with what it is over.
+// An evaluation that begins, with the bounds of the observations that it is over and what their rows are
+// computed with.
 pub struct Begun {
     pub from: usize,
     pub to: usize,
@@ -41,7 +40,8 @@ pub struct Begun {
     pub trial: Trial,
 }
 
-// The individual values are written where they are finite and above 0; else 7, and nothing is written.
+// Writes the individual values and answers 0 where they are finite and above 0; else answers 7, and nothing
+// is written (`subject::individual_values`).
 #[no_mangle]
 pub extern "C" fn curlewstand_individual_values(
     theta: &[f64; 2],
@@ -124,8 +124,8 @@ fn write_sums(sums: Sums, out: &mut [u64])
     words::put(out, 6, float64::to_word(sums.i11));
 }
 
-// The end of an evaluation as a number and words: 0 and the sums' seven words, or document 01's number,
-// and in word 7 one more than the number of the observation, or 0 where it is of none.
+// Writes the end of an evaluation as a number and words: 0 and the seven words of the sums; or document 01's
+// number, and in word 7 one more than the number of the observation, 0 where it is of none.
 fn told(evaluation: Evaluation, out: &mut [u64]) -> u32
     ensures { λ r. ⌜ answered r (now (out .exit)) ≡ told (finish evaluation) (now (out .entry)) ⌝ }
 {
@@ -145,7 +145,9 @@ fn told(evaluation: Evaluation, out: &mut [u64]) -> u32
     }
 }
 
-// A subject's evaluation. The rows are written to the trial block of the work words; `out` is as told.
+// A subject's evaluation, from a reply to its sums. The rows are written to the trial block of the work
+// words. Answers 0 and writes the seven words of the sums to `out`; or answers document 01's number and
+// writes to word 7 of `out` one more than the number of the observation, 0 where it is of none.
 #[no_mangle]
 pub extern "C" fn curlewstand_evaluate(
     observations: &[Observation],
@@ -179,7 +181,7 @@ fn first_check() -> Check
     })
 }
 
-// 0, or 4 and the place's two words.
+// Answers 0; or 4, with the two words of the place written.
 fn told_check(check: Check, place: &mut [u64]) -> u32
     ensures { λ r. ⌜ answered r (now (place .exit)) ≡ toldCheck check (now (place .entry)) ⌝ }
 {
@@ -193,7 +195,8 @@ fn told_check(check: Check, place: &mut [u64]) -> u32
     }
 }
 
-// The check of every observation; `counts` are the subjects' numbers of observations.
+// Document 01's check 4 of every observation; `counts` are the subjects' numbers of observations. Answers 0;
+// or 4, with the subject and the observation's number within it written to `place`.
 #[no_mangle]
 pub extern "C" fn curlewstand_check_observations(
     observations: &[Observation],

@@ -1,7 +1,5 @@
-// The kept evaluations for C and Rust, over lent words: positions, keys and terms cross as arrays of words
-// (the numbers and words of CacheOrder, CacheKey and CachedTerms, in their order). Each function is defined
-// for every input, and its contract gives all that it answers and writes. What is lent to be written must
-// overlap nothing else that is lent to the same call.
+// The kept evaluations, over lent words: positions, keys and terms cross as arrays of words (the numbers and
+// words of CacheOrder, CacheKey and CachedTerms, in their order).
 ghost use mathlib.Core.Path.{_≡_};
 ghost use Rattle.cache.specs.Cache.{find, termsOf, copied, insert};
 ghost use Rattle.test_exports.specs.Words.{keyOf, orderOf, orderWords, termsFrom, termWords, isFound, slotOr};
@@ -49,7 +47,7 @@ fn order_of(words: [u64; 4]) -> CacheOrder
     }
 }
 
-// Whether an evaluation with this key is kept; if so its slot is written.
+// Whether an evaluation with this key is kept; if so its slot is written (`cache::find`).
 #[no_mangle]
 pub extern "C" fn curlewstand_cache_find(
     words: &[u64],
@@ -73,7 +71,8 @@ pub extern "C" fn curlewstand_cache_find(
     }
 }
 
-// Writes the terms in a slot; all 0 where there is no room.
+// Writes the terms of the kept evaluation in a slot; all 0 where K is out of range
+// (`cache::entries::terms_of`).
 #[no_mangle]
 pub extern "C" fn curlewstand_cache_terms(
     words: &[u64],
@@ -87,7 +86,8 @@ pub extern "C" fn curlewstand_cache_terms(
     *terms = [t.nll, t.score0, t.score1, t.i00, t.i01, t.i10, t.i11];
 }
 
-// Copies the first n rows of a slot to `out`, from word `to` on, where they fit.
+// Copies the first n rows of the kept evaluation in a slot to `out`, from word `to` on, where they fit and
+// all rows are lent (`cache::entries::copy_rows`).
 #[no_mangle]
 pub extern "C" fn curlewstand_cache_copy_rows(
     words: &[u64],
@@ -102,8 +102,8 @@ pub extern "C" fn curlewstand_cache_copy_rows(
     cache::entries::copy_rows(words, k, slot, n, out, to);
 }
 
-// Keeps an evaluation with its n rows, which stand in `rows` from word `from` on, and moves the positions;
-// or leaves words and positions as they are.
+// Keeps an evaluation with its n rows, which stand in `rows` from word `from` on, and moves the positions; or
+// leaves words and positions as they are (`cache::keeping::insert`).
 #[no_mangle]
 pub extern "C" fn curlewstand_cache_insert(
     words: &mut [u64],

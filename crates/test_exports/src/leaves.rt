@@ -1,6 +1,4 @@
-// Matrices and rows for C and Rust: the leaves of the calculation over numbers and lent arrays. Each
-// function is defined for every input, and its contract gives all that it answers and writes. What
-// is lent to be written must overlap nothing else that is lent to the same call.
+// Matrices and rows: the leaves of the calculation over numbers and lent arrays.
 ghost use mathlib.Core.Path.{_≡_};
 ghost use Rattle.float64.specs.Answer.{numberOf};
 ghost use Rattle.matrix.specs.Matrix.{determinant, inversePositive, product, dot};
@@ -12,6 +10,7 @@ use likelihood::population_focei::Row;
 use likelihood::population_focei_2d::RowVariance;
 use matrix::InversePositive;
 
+// The determinant of a matrix (`matrix::determinant`).
 #[no_mangle]
 pub extern "C" fn curlewstand_determinant(matrix: &[[f64; 2]; 2]) -> f64
     ensures { λ r. ⌜ r ≡ determinant (now (matrix .entry)) ⌝ }
@@ -20,8 +19,8 @@ pub extern "C" fn curlewstand_determinant(matrix: &[[f64; 2]; 2]) -> f64
     matrix::determinant(m)
 }
 
-// Answers whether there is an inverse, and writes it and the determinant where there is; else
-// nothing is written.
+// Answers whether a matrix has an inverse, and writes it and the determinant where it has; else nothing is
+// written (`matrix::inverse_positive`).
 #[no_mangle]
 pub extern "C" fn curlewstand_inverse_positive(
     matrix: &[[f64; 2]; 2],
@@ -44,6 +43,7 @@ pub extern "C" fn curlewstand_inverse_positive(
     }
 }
 
+// Writes a matrix times a vector (`matrix::product`).
 #[no_mangle]
 pub extern "C" fn curlewstand_product(
     matrix: &[[f64; 2]; 2],
@@ -58,6 +58,7 @@ pub extern "C" fn curlewstand_product(
     *result = p;
 }
 
+// The sum of the products of two vectors' entries (`matrix::dot`).
 #[no_mangle]
 pub extern "C" fn curlewstand_dot(left: &[f64; 2], right: &[f64; 2]) -> f64
     ensures { λ r. ⌜ r ≡ dot (now (left .entry)) (now (right .entry)) ⌝ }
@@ -67,7 +68,8 @@ pub extern "C" fn curlewstand_dot(left: &[f64; 2], right: &[f64; 2]) -> f64
     matrix::dot(l, r)
 }
 
-// Document 01's number for a no, 11 or 12; or 0, with nll, score and information written to terms.
+// Writes nll, score and information of a row of a fit with one effect to `terms` and answers 0; or answers
+// document 01's number, 11 or 12, and nothing is written (`likelihood::population_focei::row_terms`).
 #[no_mangle]
 pub extern "C" fn curlewstand_row_terms(
     value: f64,
@@ -98,8 +100,8 @@ pub extern "C" fn curlewstand_row_terms(
     }
 }
 
-// Adds a row of a fit with two effects to its subject's sums, and answers 0; or answers 11, with the
-// sums as they were.
+// Adds a row of a fit with two effects to its subject's sums and answers 0; or answers 11, and the sums stay
+// as they were.
 #[no_mangle]
 pub extern "C" fn curlewstand_add_row(
     value: f64,

@@ -1,7 +1,5 @@
-// The two-effect search for C and Rust: a host keeps a search as twenty-five words (search_words_2d), asks
-// what it wants next and hands it the evaluated point. Each function is defined for every input, and its
-// contract gives all that it answers and writes. What is lent to be written must overlap nothing else that
-// is lent to the same call.
+// The two-effect search: the caller keeps it as twenty-five words (state_words::two_effects), asks what it
+// wants next and hands it the evaluated point.
 ghost use mathlib.Core.Path.{_≡_};
 ghost use Rattle.float64.specs.Answer.{numberOf, orOld};
 ghost use Rattle.mode_2d.specs.Rules.{start};
@@ -50,7 +48,7 @@ fn point_of(eta: [f64; 2], nll: f64, score: [f64; 2], information: [[f64; 2]; 2]
     }
 }
 
-// Writes the words of a search that has asked nothing.
+// Writes the words of a search with two effects that has not asked for anything.
 #[no_mangle]
 pub extern "C" fn curlewstand_mode_2d_start(search: &mut [u64; 25])
     ensures { λ _. ⌜ now (search .exit) ≡ saved start ⌝ }
@@ -59,8 +57,8 @@ pub extern "C" fn curlewstand_mode_2d_start(search: &mut [u64; 25])
     *search = words;
 }
 
-// What the search asks next: 0, with the point written; 1 for a mode, the search's best point; document
-// 01's number for a no, 13, 14 or 16; or 19 where the words are no search. Else nothing is written.
+// What the search asks for next: 0, with the point written; 1 for a mode, the search's best point; document
+// 01's number for a refusal, 13, 14 or 16; or 19 where the words are no search. Only 0 writes anything.
 #[no_mangle]
 pub extern "C" fn curlewstand_mode_2d_request(
     eta_bound: f64,

@@ -1,4 +1,5 @@
-// The one-effect search for C, as twenty words (search_words).
+// The one-effect search: the caller keeps it as twenty words (state_words::one_effect), asks what it wants
+// next and hands it the evaluated point.
 ghost use mathlib.Core.Path.{_≡_};
 ghost use Rattle.float64.specs.Answer.{numberOf, orOld};
 ghost use Rattle.mode.specs.Rules.{etaTolerance, start};
@@ -10,7 +11,7 @@ use mode::population_focei::Search;
 use mode::population_focei::Settings;
 use state_words::one_effect::Loaded;
 
-// The tolerance of a search's modes, in eta.
+// The tolerance of eta within which a mode is settled (`mode::population_focei::eta_tolerance`).
 #[no_mangle]
 pub extern "C" fn curlewstand_eta_tolerance(gradient_tolerance: f64) -> f64
     ensures { λ r. ⌜ r ≡ etaTolerance «gradient_tolerance» ⌝ }
@@ -18,7 +19,7 @@ pub extern "C" fn curlewstand_eta_tolerance(gradient_tolerance: f64) -> f64
     mode::population_focei::eta_tolerance(gradient_tolerance)
 }
 
-// Writes the words of a search that has asked nothing.
+// Writes the words of a search that has not asked for anything.
 #[no_mangle]
 pub extern "C" fn curlewstand_mode_start(search: &mut [u64; 20])
     ensures { λ _. ⌜ now (search .exit) ≡ saved start ⌝ }
@@ -27,8 +28,8 @@ pub extern "C" fn curlewstand_mode_start(search: &mut [u64; 20])
     *search = words;
 }
 
-// What the search asks next: 0, with the point written; 1 for a mode, the search's best point; document
-// 01's number for a no, 13, 14 or 15; or 19 where the words are no search. Else nothing is written.
+// What the search asks for next: 0, with the point written; 1 for a mode, the search's best point; document
+// 01's number for a refusal, 13, 14 or 15; or 19 where the words are no search. Only 0 writes anything.
 #[no_mangle]
 pub extern "C" fn curlewstand_mode_request(
     eta_bound: f64,

@@ -136,6 +136,8 @@ fn answer_of_several(operation: u64, x: [f64; 6]) -> [u64; 8] {
     }
 }
 
+// The answer of an operation by its number: 0 to 4 are of floats, 5 log, 6 exp, 7 to 10 of matrices, 11 and
+// 12 of a row with one effect and with two. Any other number is answered with the largest word.
 pub fn answer(operation: u64, words: [u64; 8]) -> [u64; 8] {
     let x = floats_of(words);
     match operation {

@@ -1,6 +1,6 @@
-// Replays recorded inputs of the leaves. Standard input holds a line for each: an operation's two
-// digits and eight words in hexadecimal. For each line the answer is written in the same layout, so
-// that what this program writes is held to the answers that the Rust original gave, crates/replay/stdout.
+// Replays recorded inputs of the leaves. Standard input holds a line for each: an operation's two digits and
+// eight words in hexadecimal. For each line the answer is written in the same layout, so that what this
+// program writes can be compared with the answers that the Rust original gave, crates/test_leaves/stdout.
 mod answers;
 
 ghost use Prim.Native.Nat.{_+_, _≤_, _<_};
@@ -105,7 +105,7 @@ fn replay_line() -> bool {
     write_line(&line)
 }
 
-// The loop has to end, and nothing says that an input does: so it counts down, from a number that no
+// The loop must be seen to end, and nothing says that an input does: so it counts down, from a number that no
 // run uses up.
 fn main() {
     let mut turns = u64::MAX;

@@ -42,7 +42,7 @@ unfoldable pub recordOf : ℕ → ℕ → ℕ → ℕ → ℕ → ℕ → List �
 recordOf subject value additive proportional base slope =
     little 4 subject ++ little 4 0 ++ little 8 value ++ little 8 additive ++ little 8 proportional ++ little 8 base ++ little 8 slope
 
--- ---- the program with another setup: `output` of the crate fitting, whose setup is `settings`
+-- ---- the program with another setup: `output` of the crate focei_fit, whose setup is `settings`
 
 module _ (setup : Setup) (input : List ℕ) where
   module _ (counts observations : List ℕ) where

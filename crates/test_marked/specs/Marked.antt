@@ -1,6 +1,6 @@
 -- Document 01's marked facts, its program's printed examples, and worked sessions with two effects, as one table. The proof is
 -- proofs/Table.antt. src/main.rt holds the code of the leaves to it; the code of the program is `output`, by the contract of
--- `fitting::focei`, and the exported calls of a session are `setupOver` and `callOver`, by the contracts of `host`.
+-- `focei_fit::focei`, and the exported calls of a session are `setupOver` and `callOver`, by the contracts of `curlewstand_calls`.
 use mathlib.Core.Path.{_≡_}
 use mathlib.Core.Bool.{Bool}
 use mathlib.Core.List.{List, [], _∷_}

@@ -1,5 +1,6 @@
-// Holds the library that C and Rust call to document 01's marked facts. Each check is proved before
-// it is run: from the contract of the function that it calls, and from the table in specs/Marked.antt.
+// Holds the leaves of the calculation, as `test_exports` exports them, to document 01's marked facts. Each
+// check is proved before it is run: from the contract of the function that it calls, and from the table in
+// specs/Marked.antt.
 ghost use mathlib.Core.Path.{_≡_};
 ghost use Prim.Native.Nat.{_<_};
 ghost use Rattle.mode.specs.Rules.{gridPoint};
@@ -52,7 +53,7 @@ fn infinite_prediction(value: f64, additive: f64, f_eta: f64) {
     check::expect(number == 11);
 }
 
-// The same with two effects.
+// p 1, a 0, f 0 with two effects: 11.
 fn no_variance_2d(value: f64, first: f64, second: f64) {
     let mut nll = 0.0;
     let mut score = [0.0, 0.0];
@@ -70,6 +71,7 @@ fn no_variance_2d(value: f64, first: f64, second: f64) {
     check::expect(number == 11);
 }
 
+// p 0, f infinite with two effects: 11.
 fn infinite_prediction_2d(value: f64, additive: f64, first: f64, second: f64) {
     let mut nll = 0.0;
     let mut score = [0.0, 0.0];
@@ -125,7 +127,7 @@ fn exp_and_log() {
     check::expect(float64::to_word(test_exports::floats::curlewstand_log(1.0)) == 0);
 }
 
-// What a search for eta_bound 4 asks for, with so many points of the grid evaluated.
+// What a search with eta_bound 4 asks for, with so many points of the grid evaluated.
 fn asked_at(count: u64) -> f64
     requires { ⌜ count < 17 ⌝ }
     ensures { λ r. ⌜ r ≡ gridPoint four count ⌝ }

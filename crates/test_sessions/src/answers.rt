@@ -6,7 +6,8 @@ use search::Place;
 use search::Step;
 use search::Tally;
 
-// The kind of an answer (0 asked, 1 finished or opened, 2 refused), and what it carries.
+// The answer of a call: its kind (0 asked, 1 finished or opened, 2 refused), and the four words that it
+// carries.
 pub struct Answer {
     pub kind: u64,
     pub a: u64,
@@ -19,6 +20,7 @@ fn word(number: usize) -> u64 {
     number as u64
 }
 
+// The answer of a setup that opened a session.
 pub fn opened() -> Answer {
     Answer {
         kind: 1,
@@ -39,7 +41,8 @@ fn asked(eta: Pair, individual: Pair) -> Answer {
     }
 }
 
-// The place is none (0), a subject (1), or a subject and one of its observations (2).
+// The answer of a refusal: its number, and its place: none (0), a subject (1), or a subject and one of its
+// observations (2).
 pub fn refused(number: u32, place: Place) -> Answer {
     let a = number as u64;
     match place {
@@ -67,7 +70,7 @@ pub fn refused(number: u32, place: Place) -> Answer {
     }
 }
 
-// `shrinkage` is what a finished objective carries besides.
+// The answer of a step. `shrinkage` is what a finished objective carries besides.
 pub fn told(step: Step, shrinkage: u64) -> Answer {
     match step {
         Step::Asked(eta, individual) => asked(eta, individual),
@@ -94,8 +97,8 @@ fn put_word(bytes: &mut [u8; 80], at: usize, word: u64)
     }
 }
 
-// An answer, the tally, the digests of the warm starts and of the results, and what is seen of the other
-// words.
+// Writes the ten words of a call: its answer, the tally, the digests of the warm starts and of the results,
+// and what is seen of the other words.
 pub fn write(answer: Answer, tally: Tally, warm: u64, results: u64, seen: u64) {
     let mut bytes = [0u8; 80];
     put_word(&mut bytes, 0, answer.kind);

@@ -23,6 +23,7 @@ fn counted(word: u64) -> u64 {
     word
 }
 
+// The digest of lent words. Any NaN counts as any other.
 pub fn digest(words: &[u64]) -> u64 {
     let mut h = FIRST;
     let mut i = 0;
@@ -44,6 +45,7 @@ pub fn mark(words: &[u64], before: u64) -> u64 {
     h
 }
 
+// Whether every word is 0.
 pub fn is_zero(words: &[u64]) -> bool {
     let mut i = 0;
     while i < words.len() {

@@ -1,6 +1,6 @@
-// Runs scripts of sessions from standard input and writes what each call answers, so that it is held to
-// what the Rust original answered, crates/sessions_replay/stdout. A script is 64-bit words, sessions one
-// after the other. A session is:
+// Runs scripts of sessions from standard input and writes what each call answers, to be compared with what
+// the Rust original answered, crates/test_sessions/stdout. A script is 64-bit words, sessions one after the
+// other. A session is:
 //
 //   1 word      the number of its words that follow
 //   13 words    setup: effects, omega00, omega01, omega10, omega11, eta_bound, gradient_tolerance, width,
@@ -511,7 +511,7 @@ fn begin(left: &mut u64, observations: &mut [u64], counts: &mut [u64]) -> Host {
     }
 }
 
-// False at the end of the input.
+// Runs the next session of the script. False at the end of the input.
 fn replay_session() -> bool {
     let mut left = 1;
     let n = reading::next(&mut left);
@@ -545,8 +545,8 @@ fn replay_session() -> bool {
     true
 }
 
-// The loops have to end, and nothing says that an input does: so they count down, from a number that no
-// run uses up.
+// The loops must be seen to end, and nothing says that an input does: so they count down, from a number that
+// no run uses up.
 fn main() {
     let mut turns = u64::MAX;
     while turns > 0 && replay_session() {

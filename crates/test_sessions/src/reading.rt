@@ -13,15 +13,17 @@ fn wide(byte: u8) -> u64
     byte as u64
 }
 
+// A word as a usize.
 pub fn number(word: u64) -> usize {
     word as usize
 }
 
-// A word as a u32 holds it.
+// The lower half of a word, as a u32.
 pub fn small(word: u64) -> u32 {
     (word % 0x1_0000_0000) as u32
 }
 
+// A number, or `most` where it is above.
 pub fn at_most(n: usize, most: usize) -> usize
     ensures { λ r. ⌜ r ≤ most ⌝ }
 {
@@ -41,7 +43,7 @@ fn word_of(bytes: &[u8; 8]) -> u64 {
     word
 }
 
-// The next word; 0 beyond the last. Where the input ends, none is left.
+// The next word of the script; 0 beyond the last. Where the input ends, none is left.
 pub fn next(left: &mut u64) -> u64 {
     if *left == 0 {
         return 0;
@@ -59,7 +61,7 @@ fn float(left: &mut u64) -> f64 {
     float64::from_word(next(left))
 }
 
-// The next n words go to the first n of these. Words that have no room here are passed over.
+// Reads the next n words of the script to the first n of these. Words that have no room here are passed over.
 pub fn fill(words: &mut [u64], n: usize, left: &mut u64) {
     let end = at_most(n, number(*left));
     let mut i = 0;
@@ -79,6 +81,7 @@ fn additive_sd(left: &mut u64) -> AdditiveSd {
     AdditiveSd::Override(additive)
 }
 
+// Reads a setup, thirteen words of the script.
 pub fn setup(left: &mut u64) -> Setup {
     let effects = small(next(left));
     let omega00 = float(left);
@@ -108,6 +111,7 @@ pub fn setup(left: &mut u64) -> Setup {
     }
 }
 
+// Reads the parameters of an objective, five words of the script.
 pub fn parameters(left: &mut u64) -> Parameters {
     let first = float(left);
     let second = float(left);

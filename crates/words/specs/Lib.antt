@@ -1,3 +1,4 @@
--- What a reader must believe of this crate: Words (two names), Written (what is written one after the other).
+-- What a reader must believe of this crate: Words (the smaller of two numbers, and words that are all 0) and Written (what is written one
+-- after the other).
 pub mod Words
 pub mod Written

@@ -1,5 +1,5 @@
-// Lent words and bytes, read and written one by one. Each function is defined for all words and numbers: beyond
-// the end a word reads as 0, and nothing is written there.
+// Words and bytes that a caller lends, read and written one by one. Each function is defined for all words
+// and numbers: beyond the end a word reads as 0, and nothing is written there.
 ghost use mathlib.Core.Path.{_≡_};
 ghost use mathlib.Core.List.{[], _∷_};
 ghost use lib.ListN.{length, getD, set};
@@ -16,7 +16,7 @@ pub fn smaller(a: usize, b: usize) -> usize
     b
 }
 
-// Word i, or 0 beyond the end.
+// Word i of the lent words, or 0 beyond their end.
 pub fn read(words: &[u64], i: usize) -> u64
     ensures { λ r. ⌜ r ≡ getD (now (words .entry)) i 0 ⌝ }
 {
@@ -26,7 +26,7 @@ pub fn read(words: &[u64], i: usize) -> u64
     0
 }
 
-// Writes word i, and nothing beyond the end.
+// Writes word i of the lent words; beyond their end nothing is written.
 pub fn put(words: &mut [u64], i: usize, value: u64)
     ensures { λ _. ⌜ now (words .exit) ≡ set (now (words .entry)) i value ⌝ }
 {
@@ -35,7 +35,7 @@ pub fn put(words: &mut [u64], i: usize, value: u64)
     }
 }
 
-// Every word becomes 0.
+// Makes every lent word 0.
 pub fn clear(words: &mut [u64])
     ensures { λ _. ⌜ now (words .exit) ≡ zeros (length (now (words .entry))) ⌝ }
 {
@@ -47,10 +47,10 @@ pub fn clear(words: &mut [u64])
     }
 }
 
-// ---- one after the other, as far as there is room
+// ---- bytes and words written one after the other, as far as there is room
 
-// Writes a byte at a place, and gives back the place after it; at the end of what is lent nothing is written,
-// and the place stays.
+// Writes a byte at a place and gives the place after it. At the end of what is lent nothing is written, and
+// the place stays.
 pub fn byte(out: &mut [u8], at: usize, value: u8) -> usize
     ensures { λ r. ⌜ written r (now (out .exit)) ≡ write (value ∷ []) (written at (now (out .entry))) ⌝ }
 {
@@ -61,7 +61,8 @@ pub fn byte(out: &mut [u8], at: usize, value: u8) -> usize
     at
 }
 
-// The same for a word.
+// Writes a word at a place and gives the place after it. At the end of what is lent nothing is written, and
+// the place stays.
 pub fn word(out: &mut [u64], at: usize, word: u64) -> usize
     ensures { λ r. ⌜ written r (now (out .exit)) ≡ write (word ∷ []) (written at (now (out .entry))) ⌝ }
 {

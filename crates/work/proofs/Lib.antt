@@ -1,4 +1,3 @@
--- Paths: the ways through the code, for its proofs.
--- Paths: the ways through the code, for its proofs.
+-- Paths, ResultsPaths: the ways through the code of lib and results, for its proofs.
 pub mod Paths
 pub mod ResultsPaths

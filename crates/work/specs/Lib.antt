@@ -1,2 +1,2 @@
--- What a reader must believe of this crate: where rows and results stand in their words.
+-- What a reader must believe of this crate: Work (where rows and results stand in their words, and check 17).
 pub mod Work

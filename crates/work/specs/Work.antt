@@ -52,7 +52,7 @@ unfoldable pub moveRows : ℕ → Sources → List ℕ → List ℕ
 moveRows rows sources work =
     copyBlock rows (sources .latest) 2 (copyBlock rows (sources .best) 1 (copyBlock rows (sources .population) 0 work))
 
--- ---- question 17
+-- ---- check 17
 
 -- the rows at words a and b have the same time, as floats, and the same side
 unfoldable pub isSameRow : List ℕ → ℕ → ℕ → Bool

@@ -1,3 +1,10 @@
+// The work words of a search: four blocks of a subject's rows, three words a row (prediction, time, side).
+// They are the rows at eta zero (`population_rows` of the source), those of the best point, those of the
+// latest grid point (one effect) or of the rounds' current point (two), and those of the trial that was just
+// evaluated. The words of the results are in `results`.
+//
+// Each public function is defined for all words and numbers: beyond the end a word reads as 0, and nothing is
+// written there.
 ghost use mathlib.Core.Path.{_≡_};
 ghost use Prim.Native.Nat.{_+_, _*_, _≤_, _<_};
 ghost use lib.ListN.{length};
@@ -9,36 +16,35 @@ pub mod results;
 use cache::ROW_WORDS;
 use words::smaller;
 
-// The work words of a search. Each function is defined for all words and numbers: beyond the end a word
-// reads as 0, and nothing is written there.
-//
-// The work words are four blocks of a subject's rows, three words a row (prediction, time, side): the rows
-// at eta zero (`population_rows` of the source), those of the best point, those of the latest grid point
-// (one effect) or of the rounds' current point (two), and those of the trial that was just evaluated.
-
-// Document 01's largest numbers of subjects, and of observations.
+// Document 01's largest number of subjects.
 pub const MOST_SUBJECTS: usize = 4096;
 
+// Document 01's largest number of observations, and of rows that are kept.
 pub const MOST_ROWS: usize = 100000;
 
-// The work words of an observation, a row in each of four blocks.
+// The work words of an observation: a row in each of four blocks.
 pub const WORK_WORDS: usize = 4 * ROW_WORDS;
 
-// The results' words of a subject and of an observation.
+// The results' words of a subject: eta, second eta and negative log likelihood.
 pub const RESULT_WORDS: usize = 3;
 
+// The results' words of an observation: its predictions at eta zero and at the mode.
 pub const FITTED_WORDS: usize = 2;
 
-// The blocks.
+// The block of the rows at eta zero.
 pub const POPULATION: usize = 0;
 
+// The block of the best point's rows.
 pub const BEST: usize = 1;
 
+// The block of the rows of the latest grid point, or with two effects of the rounds' current point.
 pub const LATEST: usize = 2;
 
+// The block of the rows of the trial that was just evaluated.
 pub const TRIAL: usize = 3;
 
-// From which block each of the first three gets its rows; its own, where they stay.
+// From which block each of the first three blocks gets its rows after an evaluation; its own number, where
+// its rows stay.
 pub struct Sources {
     pub population: usize,
     pub best: usize,
@@ -54,7 +60,7 @@ fn rows_length(rows: usize) -> usize
     ROW_WORDS * smaller(rows, MOST_ROWS)
 }
 
-// The word at which a block begins.
+// The work word at which a block begins, for a subject of so many rows.
 pub fn block(rows: usize, number: usize) -> usize
     ensures { λ r. ⌜ r ≡ block rows number ⌝ }
 {
@@ -113,7 +119,8 @@ fn copy_block(work: &mut [u64], rows: usize, from: usize, to: usize)
     copy_words(work, n, first, last);
 }
 
-// The rows go where an evaluation puts them: the best before the latest, since it may come from there.
+// Moves the rows of a trial to the blocks where an evaluation puts them: the best before the latest, since
+// the best may come from the latest.
 pub fn move_rows(work: &mut [u64], rows: usize, sources: Sources)
     ensures { λ _. ⌜ now (work .exit) ≡ moveRows rows sources (now (work .entry)) ⌝ }
 {
@@ -124,7 +131,8 @@ pub fn move_rows(work: &mut [u64], rows: usize, sources: Sources)
 
 // ---- times and sides
 
-// Times are compared as floats: -0 is 0, and a NaN is no time at all.
+// Whether two rows have the same time and side. Times are compared as floats: -0 is 0, and a NaN equals
+// nothing.
 fn is_same_row(work: &[u64], a: usize, b: usize) -> bool
     requires { ⌜ (a ≤ 900000) × (b ≤ 900000) ⌝ }
     ensures { λ r. ⌜ r ≡ isSameRow (now (work .entry)) a b ⌝ }
@@ -137,7 +145,7 @@ fn is_same_row(work: &[u64], a: usize, b: usize) -> bool
     false
 }
 
-// Document 01's question 17: times and sides are the same at eta zero and at the best point.
+// Document 01's check 17: whether times and sides are the same at eta zero and at the best point.
 pub fn is_same_grid(work: &[u64], rows: usize) -> bool
     ensures { λ r. ⌜ r ≡ isSameGrid (now (work .entry)) rows ⌝ }
 {

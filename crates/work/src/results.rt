@@ -14,7 +14,7 @@ use cache::ROW_WORDS;
 use matrix::Pair;
 use words::smaller;
 
-// Eta, second eta and negative log likelihood of a subject.
+// Writes the results of a subject: eta, second eta and negative log likelihood at its mode.
 pub fn write_result(results: &mut [u64], subject: usize, eta: Pair, nll: f64)
     ensures { λ _. ⌜ now (results .exit) ≡ resultWritten subject eta nll (now (results .entry)) ⌝ }
 {
@@ -27,14 +27,15 @@ pub fn write_result(results: &mut [u64], subject: usize, eta: Pair, nll: f64)
     words::put(results, at + 2, float64::to_word(nll));
 }
 
-// Where the fitted rows begin, of the subject whose first observation has this number among all.
+// The word at which the fitted rows begin of the subject whose first observation has this number among all.
 fn fitted_at(subjects: usize, first: usize) -> usize
     ensures { λ r. ⌜ r ≡ fittedAt subjects first ⌝ }
 {
     RESULT_WORDS * smaller(subjects, MOST_SUBJECTS) + FITTED_WORDS * smaller(first, MOST_ROWS)
 }
 
-// The predictions at eta zero and at the mode.
+// Writes the fitted rows of a subject, from the work words' blocks: for each observation its predictions at
+// eta zero and at the mode. `first` is the number of the subject's first observation among all.
 pub fn write_fitted(results: &mut [u64], subjects: usize, first: usize, work: &[u64], rows: usize)
     ensures { λ _. ⌜ now (results .exit) ≡ fittedWritten subjects first (now (work .entry)) rows (now (results .entry)) ⌝ }
 {
