@@ -11,7 +11,7 @@ use Rattle.subject.specs.Observations.{checkObservation, checkObservations}
 use Rattle.subject.specs.Subject.{Evaluating, addObservation, addObservations}
 use Rattle.subject.specs.declared.Check.{Check}
 use Rattle.subject.specs.declared.Trial.{Trial}
-use Rattle.observations.proofs.Runs.{len-part}
+use Rattle.words.proofs.Runs.{len-part}
 use Rattle.session.specs.Session.{firstCheck}
 use Rattle.words.specs.Words.{smaller}
 use Rattle.program_calls.specs.Recorded.{observationIn, observationsFrom, observationsOf}

@@ -83,7 +83,7 @@ pub fn check_words(words: &[u64], width: u32, counts: &[u64]) -> Check
     let mut i = 0;
     while i < n {
         let observation = observation_at(words, i);
-        check = observations::check_observation(check, observation, width, counts);
+        check = subject::checks::check_observation(check, observation, width, counts);
         i += 1;
     }
     check

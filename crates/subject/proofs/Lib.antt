@@ -4,3 +4,5 @@ pub mod Ends
 pub mod Paths
 pub mod Turns
 pub mod RowsPaths
+pub mod ChecksPaths
+pub mod Deviation

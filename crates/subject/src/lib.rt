@@ -10,6 +10,7 @@ ghost use mathlib.Core.Path.{_≡_};
 ghost use Rattle.subject.specs.Reply.{outputValues, rowLength};
 ghost use Rattle.subject.specs.Subject.{answer, individual, isNoIndividual, individualValues, begin, hasNonfiniteSum, finish};
 
+pub mod checks;
 pub mod rows;
 
 use matrix::Pair;

@@ -65,7 +65,7 @@ use Rattle.subject.specs.Observations.{noObservation}
 use Rattle.subject.specs.Subject.{Evaluating, evaluating, addObservation, addObservations}
 use Rattle.subject.proofs.Turns.{one-added}
 use Rattle.observations.proofs.Loop.{tests}
-use Rattle.observations.proofs.Runs.{one-more, len-part, at-part, take-all, fewer, starts, within, inside, at-end, below, fits-at, fits-next, shifts, from-first}
+use Rattle.words.proofs.Runs.{one-more, len-part, at-part, take-all, fewer, starts, within, inside, at-end, below, fits-at, fits-next, shifts, from-first}
 use Rattle.observations.proofs.add_observations.Code.Mir as body
 use Rattle.observations.proofs.Again.{LentAgain as LentSlice, lends-again-at, comes-back-at}
 use Rattle.words.proofs.smaller as j

@@ -60,7 +60,7 @@ use Rattle.subject.proofs.Check.Laws as E′
 use Rattle.subject.specs.Observations.{noObservation, checkObservation, checkObservations}
 use Rattle.subject.proofs.Turns.{one-checked}
 use Rattle.observations.proofs.Loop.{tests}
-use Rattle.observations.proofs.Runs.{one-more, len-part, at-part, take-all, fewer, starts, within, inside, at-end, below, fits-at, fits-next, shifts, from-first}
+use Rattle.words.proofs.Runs.{one-more, len-part, at-part, take-all, fewer, starts, within, inside, at-end, below, fits-at, fits-next, shifts, from-first}
 use Rattle.observations.proofs.check_observations.Code.Mir as body
 use Rattle.words.proofs.smaller as j
 use Rattle.words.proofs.smaller.Symbol as j-def
@@ -70,10 +70,10 @@ use Rattle.observations.proofs.observation_at as g
 use Rattle.observations.proofs.observation_at.Symbol as g-def
 use Rattle.observations.proofs.observation_at.Symbol.{name as #g}
 use Rattle.observations.proofs.observation_at.Met as g-thm
-use Rattle.observations.proofs.check_observation as add
-use Rattle.observations.proofs.check_observation.Symbol as add-def
-use Rattle.observations.proofs.check_observation.Symbol.{name as #add}
-use Rattle.observations.proofs.check_observation.Met as add-thm
+use Rattle.subject.proofs.checks.check_observation as add
+use Rattle.subject.proofs.checks.check_observation.Symbol as add-def
+use Rattle.subject.proofs.checks.check_observation.Symbol.{name as #add}
+use Rattle.subject.proofs.checks.check_observation.Met as add-thm
 use Rattle.observations.proofs.check_observations.Key.{name as #f}
 use Rattle.observations.proofs.check_observations as f
 use Rattle.observations.proofs.check_observations.Statement as stated
@@ -310,4 +310,4 @@ check-observations-spec 𝓤 H 𝓜 𝓖 𝓡 =
     (meets 𝓤 H (𝓖 .A) (givenOf 𝓤 H 𝓜 𝓖) (𝓜 .mem) (𝓡 .run) (tablesOf 𝓤 H 𝓜 (tables 𝓤 H 𝓜 𝓡 code.env))
     (cited 𝓤 H (j-con 𝓤 H (𝓖 .A) (𝓜 .mem) (𝓡 .run)) 𝓜 𝓡 code.env #j j-def.routine code.calls-words·smaller (j-thm.met 𝓤 H 𝓜 𝓖 𝓡))
     (cited 𝓤 H (g-con 𝓤 H (𝓖 .A) (𝓜 .mem) (𝓡 .run)) 𝓜 𝓡 code.env #g g-def.routine code.calls-observations·observation-at (g-thm.met 𝓤 H 𝓜 𝓖 𝓡))
-    (cited 𝓤 H (add-con 𝓤 H (𝓖 .A) (𝓜 .mem) (𝓡 .run)) 𝓜 𝓡 code.env #add add-def.routine code.calls-observations·check-observation (add-thm.met 𝓤 H 𝓜 𝓖 𝓡)))
+    (cited 𝓤 H (add-con 𝓤 H (𝓖 .A) (𝓜 .mem) (𝓡 .run)) 𝓜 𝓡 code.env #add add-def.routine code.calls-subject·checks·check-observation (add-thm.met 𝓤 H 𝓜 𝓖 𝓡)))

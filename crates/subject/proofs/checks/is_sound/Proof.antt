@@ -3,9 +3,9 @@ use borrow.Author.Tests.{lt-ltb, le-ltb}
 use mathlib.Core.Path.{refl}
 use Rattle.float64.specs.Pick.{pass, yes, no, yesOf, noOf}
 use Rattle.float64.proofs.Laws.{free}
 use Rattle.subject.specs.Observations.{isSound}
-use Rattle.observations.proofs.is_sound.Statement.{statement}
-use Rattle.observations.proofs.is_sound.Tie as tie
+use Rattle.subject.proofs.checks.is_sound.Statement.{statement}
+use Rattle.subject.proofs.checks.is_sound.Tie as tie
 
 returns : tie.Need-returns
 unfolding isSound

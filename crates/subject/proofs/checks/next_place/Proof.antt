@@ -1,8 +1,8 @@
 -- `next_place` meets its contract: each exit by its law. Assumes nothing.
 use Rattle.float64.proofs.Laws.{free}
-use Rattle.observations.proofs.Paths.{same-subject, next-subject}
-use Rattle.observations.proofs.next_place.Statement.{statement}
-use Rattle.observations.proofs.next_place.Tie as tie
+use Rattle.subject.proofs.ChecksPaths.{same-subject, next-subject}
+use Rattle.subject.proofs.checks.next_place.Statement.{statement}
+use Rattle.subject.proofs.checks.next_place.Tie as tie
 
 returns : tie.Need-returns
 returns c = same-subject _ _ (c .before .wrapping-add-usize .ensures) (c .if1 .taken)

@@ -1,8 +1,8 @@
 -- `check_at` meets its contract: each exit by its law. Assumes nothing.
 use Rattle.float64.proofs.Laws.{free}
-use Rattle.observations.proofs.Paths.{sound-at, unsound-at}
-use Rattle.observations.proofs.check_at.Statement.{statement}
-use Rattle.observations.proofs.check_at.Tie as tie
+use Rattle.subject.proofs.ChecksPaths.{sound-at, unsound-at}
+use Rattle.subject.proofs.checks.check_at.Statement.{statement}
+use Rattle.subject.proofs.checks.check_at.Tie as tie
 
 returns : tie.Need-returns
 returns c = sound-at _ _ _ _ (c .before .before .before .is-sound .ensures) (c .before .before .if1 .taken) (c .before .read .ensures) (c .next-place .ensures)

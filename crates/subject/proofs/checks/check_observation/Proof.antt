@@ -1,9 +1,9 @@
 -- `check_observation` meets its contract: each exit by its law. Assumes nothing.
 use borrow.Author.Needs.{needs}
 use Rattle.float64.proofs.Laws.{free}
-use Rattle.observations.proofs.Paths.{after-sound, after-unsound}
-use Rattle.observations.proofs.check_observation.Statement.{statement}
-use Rattle.observations.proofs.check_observation.Tie as tie
+use Rattle.subject.proofs.ChecksPaths.{after-sound, after-unsound}
+use Rattle.subject.proofs.checks.check_observation.Statement.{statement}
+use Rattle.subject.proofs.checks.check_observation.Tie as tie
 
 enum-known-check : tie.Need-enum-known-check
 enum-known-check c = search needs

@@ -2,9 +2,9 @@
 use mathlib.Core.Path.{sym, subst}
 use lib.Dec.{T}
 use lib.Ieee.{ofBits}
-use Rattle.observations.proofs.Deviation.{not-below, below}
-use Rattle.observations.proofs.is_no_deviation.Statement.{statement}
-use Rattle.observations.proofs.is_no_deviation.Tie as tie
+use Rattle.subject.proofs.Deviation.{not-below, below}
+use Rattle.subject.proofs.checks.is_no_deviation.Statement.{statement}
+use Rattle.subject.proofs.checks.is_no_deviation.Tie as tie
 
 -- a parameter fits
 returns : tie.Need-returns
