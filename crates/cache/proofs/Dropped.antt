@@ -36,13 +36,36 @@ module _ (w : List ℕ) (k g : ℕ) where
     unfolding evict dropTo keptFrom
     stay m o b L h =
         let r : b + cachedRows (keptFrom (suc m) w k o) ≡ g = laid-rows (suc m) o b L in
-        record { count = suc m; oldest = o; bottom = b; is = sym (no _ (le-ltb _ _ h) refl); later = omega arith; ends = refl; laid = L; fits = omega arith; list = no _ (le-ltb _ _ (let z : cachedRows (keptFrom (suc m) w k o) ≤ room = omega arith in z)) refl }
+        record {
+          count = suc m;
+          oldest = o;
+          bottom = b;
+          is = sym (no _ (le-ltb _ _ h) refl);
+          later = omega arith;
+          ends = refl;
+          laid = L;
+          fits = omega arith;
+          list = no _
+              (le-ltb _ _ (let z : cachedRows (keptFrom (suc m) w k o) ≤ room = omega arith in z)) refl;
+        }
 
     more : (m o b : ℕ) → Laid (suc m) w k o b g → room < g - b → Left m (o + 1) (raised b g (countOf w k o)) → Left (suc m) o b
     unfolding evict dropTo keptFrom
     more m o b L h I =
         let r : b + cachedRows (keptFrom (suc m) w k o) ≡ g = laid-rows (suc m) o b L in
-        record { count = I .count; oldest = I .oldest; bottom = I .bottom; is = sym (yes _ (lt-ltb _ _ h) (sym (I .is))); later = (let z : o + 1 ≤ I .oldest = I .later in omega arith); ends = (let z : I .oldest + I .count ≡ o + 1 + m = I .ends in omega arith); laid = I .laid; fits = I .fits; list = yes _ (lt-ltb _ _ (let z : room < cachedRows (keptFrom (suc m) w k o) = omega arith in z)) (I .list) }
+        record {
+          count = I .count;
+          oldest = I .oldest;
+          bottom = I .bottom;
+          is = sym (yes _ (lt-ltb _ _ h) (sym (I .is)));
+          later = (let z : o + 1 ≤ I .oldest = I .later in omega arith);
+          ends =
+              (let z : I .oldest + I .count ≡ o + 1 + m = I .ends in omega arith);
+          laid = I .laid;
+          fits = I .fits;
+          list = yes _
+              (lt-ltb _ _ (let z : room < cachedRows (keptFrom (suc m) w k o) = omega arith in z)) (I .list);
+        }
 
     rest : (m o b : ℕ) → Laid (suc m) w k o b g → Laid m w k (o + 1) (raised b g (countOf w k o)) g
     unfolding Laid

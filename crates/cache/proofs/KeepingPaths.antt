@@ -14,7 +14,8 @@ use Rattle.float64.specs.Pick.{pick, yes, no, yesOf, noOf}
 use Rattle.cache.specs.declared.CacheKey.{CacheKey}
 use Rattle.cache.specs.declared.CachedTerms.{CachedTerms}
 use Rattle.cache.specs.declared.CacheOrder.{CacheOrder}
-use Rattle.cache.specs.Cache.{rowWords, rowsFrom, half, hash, headOf, chain, bits, withBit, latestOf, filterOf, entryPlace, linkPlace, countOf, isRoom, order, raised, evict, copyRun, putRing, entryWords, written, isKept, after, placed, insert}
+use Rattle.cache.specs.Cache.{rowWords, rowsFrom, half, hash, headOf, chain, bits, withBit, latestOf, filterOf, entryPlace, linkPlace, countOf, isRoom, order, raised, evict, copyRun, putRing}
+use Rattle.cache.specs.Cache.{entryWords, written, isKept, after, placed, insert}
 use Rattle.cache.proofs.Paths.{picked, passed, room-says}
 use Rattle.cache.proofs.Runs.{ring-moves, one-run, two-runs, near, far}
 
@@ -26,11 +27,13 @@ power-lt bit h = pow-lt h
 shifted : (bit : ℕ) → bit < 32 → 1 * 2 ^ bit % 18446744073709551616 ≡ 2 ^ bit
 shifted bit h = let l = power-lt bit h in mod-eq-of-lt (omega (arith, l)) ∙ one-mul (2 ^ bit)
 
-pub begins-anew : (latest oldest filter bit : ℕ) → bit < 32 → latest < oldest → (1 * 2 ^ bit % 18446744073709551616 ≡ withBit latest oldest filter bit) × (1 * 2 ^ bit % 18446744073709551616 < 4294967296)
+pub begins-anew : (latest oldest filter bit : ℕ) → bit < 32 → latest < oldest → (1 * 2 ^ bit % 18446744073709551616 ≡ withBit latest oldest filter bit) ×
+    (1 * 2 ^ bit % 18446744073709551616 < 4294967296)
 unfolding withBit
 begins-anew latest oldest filter bit h l = (yes _ (lt-ltb _ _ l) (shifted bit h), subst (λ (x : ℕ). x < 4294967296) (sym (shifted bit h)) (power-lt bit h))
 
-pub one-bit-more : (latest oldest filter bit : ℕ) → bit < 32 → filter < 4294967296 → oldest ≤ latest → (bitOr filter (1 * 2 ^ bit % 18446744073709551616) ≡ withBit latest oldest filter bit) × (bitOr filter (1 * 2 ^ bit % 18446744073709551616) < 4294967296)
+pub one-bit-more : (latest oldest filter bit : ℕ) → bit < 32 → filter < 4294967296 → oldest ≤ latest → (bitOr filter (1 * 2 ^ bit % 18446744073709551616) ≡ withBit latest oldest filter bit) ×
+    (bitOr filter (1 * 2 ^ bit % 18446744073709551616) < 4294967296)
 unfolding withBit
 one-bit-more latest oldest filter bit h f l =
     (no _ (le-ltb _ _ l) (ap (bitOr filter) (shifted bit h)), subst (λ (x : ℕ). bitOr filter x < 4294967296) (sym (shifted bit h)) (or-lt 32 filter (2 ^ bit) f (power-lt bit h)))
@@ -66,7 +69,8 @@ module _ (w : List ℕ) (k room next next-row oldest first-row : ℕ) where
         no _ (le-ltb _ _ (let z : next-row - first-row ≤ room = omega arith in z)) refl in
         x ∙ ap (λ (m : ℕ). evict m w k room next next-row oldest first-row) (one-more h)
 
-    pub evict-more : {a y n first : ℕ} → room < d → a ≡ entryPlace k oldest → y ≡ getD w (a + 14) 0 → n ≡ y → first ≡ raised first-row next-row n → evict (next - (oldest + 1)) w k room next next-row (oldest + 1) first ≡ evict (next - oldest) w k room next next-row oldest first-row
+    pub evict-more : {a y n first : ℕ} → room < d → a ≡ entryPlace k oldest → y ≡ getD w (a + 14) 0 → n ≡ y → first ≡ raised first-row next-row n → evict (next - (oldest + 1)) w k room next next-row
+        (oldest + 1) first ≡ evict (next - oldest) w k room next next-row oldest first-row
     unfolding evict
     evict-more {a} {y} {n} {first} l p r s t =
         let c : n ≡ countOf w k oldest = s ∙ r ∙ ap (λ (j : ℕ). getD w (j + 14) 0) p in
@@ -80,7 +84,8 @@ module _ (base c x : ℕ) (v : List ℕ) (from n i : ℕ) (w : List ℕ) where
   unfolding putRing
   put-end h = let z : n - i ≡ 0 = omega arith in ap (λ (m : ℕ). putRing m w base c x v from i) (sym z)
 
-  pub put-step : {at y : ℕ} {w' : List ℕ} → i < n → at ≡ (x + i) % c → y ≡ getD v (from + i) 0 → w' ≡ set w (base + at) y → putRing (n - (i + 1)) w' base c x v from (i + 1) ≡ putRing (n - i) w base c x v from i
+  pub put-step : {at y : ℕ} {w' : List ℕ} → i < n → at ≡ (x + i) % c → y ≡ getD v (from + i) 0 → w' ≡ set w (base + at) y → putRing (n - (i + 1)) w' base c x v from (i + 1) ≡ putRing (n - i) w base c
+      x v from i
   unfolding putRing
   put-step {at} {y} {w'} h p q r =
       let z : n - i ≡ suc (n - (i + 1)) = omega arith in
@@ -98,7 +103,8 @@ module _ (w : List ℕ) (base c x : ℕ) (v : List ℕ) (from n : ℕ) (some : 0
   pub in-one-run : {w₁ : List ℕ} → n ≤ c - x % c → w₁ ≡ copyRun n v from w (base + x % c) 0 → w₁ ≡ putRing n w base c x v from 0
   in-one-run h e = one-run v _ _ w from (base + x % c) n (λ t l. (refl, before-end t (omega (arith, h, l)))) e ∙ ring-moves n w base c x v from 0
 
-  pub in-two-runs : {w₁ w₂ : List ℕ} → n ≤ c → c - x % c < n → w₁ ≡ copyRun (c - x % c) v from w (base + x % c) 0 → w₂ ≡ copyRun (n - (c - x % c)) v (from + (c - x % c)) w₁ base 0 → w₂ ≡ putRing n w base c x v from 0
+  pub in-two-runs : {w₁ w₂ : List ℕ} → n ≤ c → c - x % c < n → w₁ ≡ copyRun (c - x % c) v from w (base + x % c) 0 → w₂ ≡ copyRun (n - (c - x % c)) v (from + (c - x % c)) w₁ base 0 → w₂ ≡ putRing n w
+      base c x v from 0
   in-two-runs most h e r =
       let left = c - x % c in
       two-runs v _ _ w from (base + x % c) (from + left) base left n (omega (arith, h)) (λ t l. (refl, before-end t l)) (λ t l.
@@ -107,7 +113,9 @@ module _ (w : List ℕ) (base c x : ℕ) (v : List ℕ) (from n : ℕ) (some : 0
 
 -- ---- the stores of one entry, from what each call ensures: r is the head that was read, f its new filter, w1 to w4 the words after each store
 module _ (w : List ℕ) (k oldest entry row : ℕ) (key : CacheKey) (terms : CachedTerms) (n : ℕ) (rows : List ℕ) (from : ℕ) where
-  pub written-is : {h head r latest f a number : ℕ} {es w1 w2 w3 w4 : List ℕ} → h ≡ hash key → head ≡ headOf h k → r ≡ getD w head 0 → latest ≡ r % half → f ≡ withBit latest oldest (r / half) (h / half % 32) → es ≡ entryWords key terms n row → a ≡ entryPlace k entry → w1 ≡ putRing 16 w a 16 0 es 0 0 → w2 ≡ putRing (rowWords * n) w1 (rowsFrom * k) (rowWords * k) (rowWords * row) rows from 0 → w3 ≡ set w2 (k + entry % k) (r % half + h / half * half) → number ≡ entry → w4 ≡ set w3 head (number + f * half) → w4 ≡ written w k oldest entry row key terms n rows from
+  pub written-is : {h head r latest f a number : ℕ} {es w1 w2 w3 w4 : List ℕ} → h ≡ hash key → head ≡ headOf h k → r ≡ getD w head 0 → latest ≡ r % half → f ≡ withBit latest oldest (r / half)
+      (h / half % 32) → es ≡ entryWords key terms n row → a ≡ entryPlace k entry → w1 ≡ putRing 16 w a 16 0 es 0 0 → w2 ≡ putRing (rowWords * n) w1 (rowsFrom * k) (rowWords * k) (rowWords * row) rows
+      from 0 → w3 ≡ set w2 (k + entry % k) (r % half + h / half * half) → number ≡ entry → w4 ≡ set w3 head (number + f * half) → w4 ≡ written w k oldest entry row key terms n rows from
   unfolding written linkPlace chain bits latestOf filterOf
   written-is {h} {head} {r} {w1 = w1} {w2 = w2} eh ed er el eg es ea e1 e2 e3 en e4 =
       let d : head ≡ headOf (hash key) k = ed ∙ ap (λ (x : ℕ). headOf x k) eh in
@@ -189,7 +197,8 @@ module _ (w : List ℕ) (k : ℕ) (o : CacheOrder) (key : CacheKey) (terms : Cac
   unfolding insert
   not-kept t = noOf _ e t refl
 
-  pub keeps : {left : CacheOrder} {w' : List ℕ} → b ≡ true → left ≡ evict (o .next - o .oldest) w k (k - n) (o .next) (o .«next_row») (o .oldest) (o .«first_row») → w' ≡ written w k (left .oldest) (o .next) (o .«next_row») key terms n rows from → after (order (left .oldest) (o .next + 1) (left .«first_row») (o .«next_row» + n)) w' ≡ insert w k o key terms n rows from
+  pub keeps : {left : CacheOrder} {w' : List ℕ} → b ≡ true → left ≡ evict (o .next - o .oldest) w k (k - n) (o .next) (o .«next_row») (o .oldest) (o .«first_row») → w' ≡ written w k (left .oldest)
+      (o .next) (o .«next_row») key terms n rows from → after (order (left .oldest) (o .next + 1) (left .«first_row») (o .«next_row» + n)) w' ≡ insert w k o key terms n rows from
   unfolding insert placed
   keeps t p q =
       let r = q ∙ ap (λ (z : CacheOrder). written w k (z .oldest) (o .next) (o .«next_row») key terms n rows from) p in

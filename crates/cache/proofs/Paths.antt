@@ -84,7 +84,8 @@ module _ (w : List ℕ) (k oldest b : ℕ) (key : CacheKey) (entry : ℕ) where
   walk-hit zero z h e t = absurd (z refl)
   walk-hit (suc n) z h e t = no _ (le-ltb entry oldest h) (yesOf _ e t refl)
 
-  pub walk-on : {s : Bool} {r q : ℕ} (n : ℕ) → (n ≡ 0 → ⊥) → oldest ≤ entry → s ≡ isAt w k entry b key → s ≡ false → r ≡ getD w (k + entry % k) 0 → q ≡ r % half → walk (n - 1) w k oldest b key q ≡ walk n w k oldest b key entry
+  pub walk-on : {s : Bool} {r q : ℕ} (n : ℕ) → (n ≡ 0 → ⊥) → oldest ≤ entry → s ≡ isAt w k entry b key → s ≡ false → r ≡ getD w (k + entry % k) 0 → q ≡ r % half → walk (n - 1) w k oldest b key q ≡
+      walk n w k oldest b key entry
   unfolding walk linkOf linkPlace
   walk-on zero z h e t l m = absurd (z refl)
   walk-on (suc n) z h e t l m =

@@ -12,7 +12,8 @@ use lib.Dec.{eqb, lit<}
 use borrow.Author.Tests.{eqb-true, eqb-false}
 use Rattle.cache.specs.declared.CacheKey.{CacheKey}
 use Rattle.cache.specs.declared.CachedTerms.{CachedTerms}
-use Rattle.cache.specs.Cache.{half, rowWords, entriesFrom, rowsFrom, keyAt, termsAt, entryPlace, linkPlace, rowPlace, rowAt, countOf, firstOf, linkOf, bitsOf, latestOf, filterOf, hasBit, withBit, bits, bitOf, chain, putRing, entryWords, written}
+use Rattle.cache.specs.Cache.{half, rowWords, entriesFrom, rowsFrom, keyAt, termsAt, entryPlace, linkPlace, rowPlace, rowAt, countOf, firstOf, linkOf, bitsOf, latestOf, filterOf, hasBit}
+use Rattle.cache.specs.Cache.{withBit, bits, bitOf, chain, putRing, entryWords, written}
 use Rattle.cache.specs.Kept.{Entry, wordsFrom, rowWordsFrom, keyOf, entryOf, keptFrom, Latest, Laid, Good}
 use Rattle.cache.proofs.Filter.{own-bit, kept-bit}
 use Rattle.cache.proofs.Walked.{which, split, window, chain-lt, laid-count}
@@ -32,19 +33,37 @@ pub record Wrote (w w' : List ℕ) (k o e g n : ℕ) (key : CacheKey) (v : Cache
   pub head-others : (h : ℕ) → h < k → (h ≡ chain k key → ⊥) → getD w' h 0 ≡ getD w h 0
 
 -- ---- readers of words that agree
-key-of : (w : List ℕ) (a : ℕ) (key : CacheKey) (f : ℕ → ℕ) → ((u : ℕ) → u < 16 → getD w (a + u) 0 ≡ f u) → key ≡ record { subject = f 0; theta0 = f 1; theta1 = f 2; eta0 = f 3; eta1 = f 4; «has_additive» = f 5; additive = f 6 } → keyAt w a ≡ key
+key-of : (w : List ℕ) (a : ℕ) (key : CacheKey) (f : ℕ → ℕ) → ((u : ℕ) → u < 16 → getD w (a + u) 0 ≡ f u) → key ≡ record
+    { subject = f 0; theta0 = f 1; theta1 = f 2; eta0 = f 3; eta1 = f 4; «has_additive» = f 5; additive = f 6 } → keyAt w a ≡ key
 unfolding keyAt
 key-of w a key f h e =
-    (λ i. record { subject = (ap (λ (x : ℕ). getD w x 0) (sym (add-zero a)) ∙ h 0 (lit< tt)) i; theta0 = h 1 (lit< tt) i; theta1 = h 2 (lit< tt) i; eta0 = h 3 (lit< tt) i; eta1 = h 4 (lit< tt) i; «has_additive» = h 5 (lit< tt) i; additive = h 6 (lit< tt) i }) ∙ sym e
+    (λ i. record {
+      subject = (ap (λ (x : ℕ). getD w x 0) (sym (add-zero a)) ∙ h 0 (lit< tt)) i;
+      theta0 = h 1 (lit< tt) i;
+      theta1 = h 2 (lit< tt) i;
+      eta0 = h 3 (lit< tt) i;
+      eta1 = h 4 (lit< tt) i;
+      «has_additive» = h 5 (lit< tt) i;
+      additive = h 6 (lit< tt) i;
+    }) ∙ sym e
 
-value-of : (w : List ℕ) (a : ℕ) (v : CachedTerms) (f : ℕ → ℕ) → ((u : ℕ) → u < 16 → getD w (a + u) 0 ≡ f u) → v ≡ record { nll = f 7; score0 = f 8; score1 = f 9; i00 = f 10; i01 = f 11; i10 = f 12; i11 = f 13 } → termsAt w a ≡ v
+value-of : (w : List ℕ) (a : ℕ) (v : CachedTerms) (f : ℕ → ℕ) → ((u : ℕ) → u < 16 → getD w (a + u) 0 ≡ f u) → v ≡ record
+    { nll = f 7; score0 = f 8; score1 = f 9; i00 = f 10; i01 = f 11; i10 = f 12; i11 = f 13 } → termsAt w a ≡ v
 unfolding termsAt
 value-of w a v f h e =
     (λ i. record { nll = h 7 (lit< tt) i; score0 = h 8 (lit< tt) i; score1 = h 9 (lit< tt) i; i00 = h 10 (lit< tt) i; i01 = h 11 (lit< tt) i; i10 = h 12 (lit< tt) i; i11 = h 13 (lit< tt) i }) ∙ sym e
 
 key-same : (w w' : List ℕ) (a : ℕ) → ((u : ℕ) → u < 16 → getD w' (a + u) 0 ≡ getD w (a + u) 0) → keyAt w' a ≡ keyAt w a
 unfolding keyAt
-key-same w w' a h = key-of w' a (keyAt w a) (λ u. getD w (a + u) 0) h (ap (λ (x : ℕ). record { subject = getD w x 0; theta0 = getD w (a + 1) 0; theta1 = getD w (a + 2) 0; eta0 = getD w (a + 3) 0; eta1 = getD w (a + 4) 0; «has_additive» = getD w (a + 5) 0; additive = getD w (a + 6) 0 }) (sym (add-zero a)))
+key-same w w' a h = key-of w' a (keyAt w a) (λ u. getD w (a + u) 0) h (ap (λ (x : ℕ). record {
+  subject = getD w x 0;
+  theta0 = getD w (a + 1) 0;
+  theta1 = getD w (a + 2) 0;
+  eta0 = getD w (a + 3) 0;
+  eta1 = getD w (a + 4) 0;
+  «has_additive» = getD w (a + 5) 0;
+  additive = getD w (a + 6) 0;
+}) (sym (add-zero a)))
 
 value-same : (w w' : List ℕ) (a : ℕ) → ((u : ℕ) → u < 16 → getD w' (a + u) 0 ≡ getD w (a + u) 0) → termsAt w' a ≡ termsAt w a
 unfolding termsAt
@@ -66,9 +85,11 @@ rows-are w v k y from (suc m) i h =
 kept-snoc : (w : List ℕ) (k c s : ℕ) → keptFrom (suc c) w k s ≡ keptFrom c w k s ++ (entryOf w k (s + c) ∷ [])
 unfolding keptFrom
 kept-snoc w k zero s = ap (λ (x : ℕ). entryOf w k x ∷ []) (sym (add-zero s))
-kept-snoc w k (suc c) s = let e : s + 1 + c ≡ s + suc c = omega arith in ap {B = List Entry} (λ r. entryOf w k s ∷ r) (kept-snoc w k c (s + 1) ∙ ap (λ (x : ℕ). keptFrom c w k (s + 1) ++ (entryOf w k x ∷ [])) e)
+kept-snoc w k (suc c) s = let e : s + 1 + c ≡ s + suc c = omega arith in ap {B = List Entry} (λ r. entryOf w k s ∷ r)
+    (kept-snoc w k c (s + 1) ∙ ap (λ (x : ℕ). keptFrom c w k (s + 1) ++ (entryOf w k x ∷ [])) e)
 
-module _ (w w' : List ℕ) (k c o b g n : ℕ) (key : CacheKey) (v : CachedTerms) (rows : List ℕ) (from : ℕ) (G : Good w k c o b g) (W : Wrote w w' k o (o + c) g n key v rows from) (n-one : 1 ≤ n) (n-most : n ≤ k) (fits : g + n ≤ b + k) (new : (s : ℕ) → o ≤ s → s < o + c → keyOf w k s ≡ key → ⊥) where
+module _ (w w' : List ℕ) (k c o b g n : ℕ) (key : CacheKey) (v : CachedTerms) (rows : List ℕ) (from : ℕ) (G : Good w k c o b g) (W : Wrote w w' k o (o + c) g n key v rows from) (n-one : 1 ≤ n)
+    (n-most : n ≤ k) (fits : g + n ≤ b + k) (new : (s : ℕ) → o ≤ s → s < o + c → keyOf w k s ≡ key → ⊥) where
   fewer : c < k
   fewer = let h : b + c ≤ g = laid-count w k g c o b (G .laid) in omega arith
 
@@ -94,7 +115,14 @@ module _ (w w' : List ℕ) (k c o b g n : ℕ) (key : CacheKey) (v : CachedTerms
   entry-old s x y h j =
       let p : firstOf w' k s ≡ firstOf w k s = field-old s 15 x y (lit< tt) in
       let q : countOf w' k s ≡ countOf w k s = field-old s 14 x y (lit< tt) in
-      λ i. record { key = key-old s x y i; terms = value-same w w' (entryPlace k s) (λ u z. field-old s u x y z) i; n = q i; rows = (ap (λ (m : ℕ). rowWordsFrom (rowWords * m) w' k (rowWords * firstOf w' k s)) q ∙ ap (λ (m : ℕ). rowWordsFrom (rowWords * countOf w k s) w' k (rowWords * m)) p ∙ rows-same w w' k (rowWords * countOf w k s) (rowWords * firstOf w k s) (λ z a d. row-old z (omega arith) (omega arith))) i }
+      λ i. record {
+        key = key-old s x y i;
+        terms = value-same w w' (entryPlace k s) (λ u z. field-old s u x y z) i;
+        n = q i;
+        rows =
+            (ap (λ (m : ℕ). rowWordsFrom (rowWords * m) w' k (rowWords * firstOf w' k s)) q ∙ ap (λ (m : ℕ). rowWordsFrom (rowWords * countOf w k s) w' k (rowWords * m)) p ∙ rows-same w w' k
+            (rowWords * countOf w k s) (rowWords * firstOf w k s) (λ z a d. row-old z (omega arith) (omega arith))) i;
+      }
 
   entry-new : entryOf w' k (o + c) ≡ record { key = key; terms = v; n = n; rows = wordsFrom (rowWords * n) rows from }
   unfolding entryOf entryWords
@@ -102,7 +130,15 @@ module _ (w w' : List ℕ) (k c o b g n : ℕ) (key : CacheKey) (v : CachedTerms
       let p : firstOf w' k (o + c) ≡ g = W .mine 15 (lit< tt) in
       let q : countOf w' k (o + c) ≡ n = W .mine 14 (lit< tt) in
       let z : rowWords * g ≡ rowWords * g + 0 = omega arith in
-      λ i. record { key = key-new i; terms = value-of w' (entryPlace k (o + c)) v (λ u. getD (entryWords key v n g) u 0) (W .mine) refl i; n = q i; rows = (ap (λ (m : ℕ). rowWordsFrom (rowWords * m) w' k (rowWords * firstOf w' k (o + c))) q ∙ ap (λ (m : ℕ). rowWordsFrom (rowWords * n) w' k (rowWords * m)) p ∙ ap (rowWordsFrom (rowWords * n) w' k) z ∙ rows-are w' rows k (rowWords * g) from (rowWords * n) 0 (λ j l. W .rows-mine j (omega arith)) ∙ ap (wordsFrom (rowWords * n) rows) (add-zero from)) i }
+      λ i. record {
+        key = key-new i;
+        terms = value-of w' (entryPlace k (o + c)) v (λ u. getD (entryWords key v n g) u 0) (W .mine) refl i;
+        n = q i;
+        rows =
+            (ap (λ (m : ℕ). rowWordsFrom (rowWords * m) w' k (rowWords * firstOf w' k (o + c))) q ∙ ap (λ (m : ℕ). rowWordsFrom (rowWords * n) w' k (rowWords * m)) p ∙ ap
+            (rowWordsFrom (rowWords * n) w' k) z ∙ rows-are w' rows k (rowWords * g) from (rowWords * n) 0 (λ j l. W .rows-mine j (omega arith)) ∙ ap (wordsFrom (rowWords * n) rows)
+            (add-zero from)) i;
+      }
 
   laid-new : (m s f : ℕ) → o ≤ s → s + m ≡ o + c → Laid m w k s f g → Laid (suc m) w' k s f (g + n)
   unfolding Laid entryWords
@@ -143,7 +179,12 @@ module _ (w w' : List ℕ) (k c o b g n : ℕ) (key : CacheKey) (v : CachedTerms
       let L : Latest w' k o h (latestOf w h) (o + c) = latest-old h _ (o + c) (omega arith) (G .heads h l) in
       let y : latestOf w h < o + c = L .below in
       subst (λ (q : ℕ). Latest w' k o h q (o + suc c)) (sym (ap (λ (x : ℕ). x % half) (W .head-others h l d)))
-      (record { below = omega arith; all = λ s a z t. ⊎-elim (λ (x : s < o + c). L .all s a x t) (λ (x : o + c ≤ s). let e : o + c ≡ s = omega arith in absurd (d (sym t ∙ ap (λ (x : ℕ). chain k (keyOf w' k x)) (sym e) ∙ ap (chain k) key-new))) (split s (o + c)); own = L .own })
+      (record {
+        below = omega arith;
+        all = λ s a z t. ⊎-elim (λ (x : s < o + c). L .all s a x t) (λ (x : o + c ≤ s). let e : o + c ≡ s = omega arith in absurd
+            (d (sym t ∙ ap (λ (x : ℕ). chain k (keyOf w' k x)) (sym e) ∙ ap (chain k) key-new))) (split s (o + c));
+        own = L .own;
+      })
 
   link-same : (s : ℕ) → o ≤ s → s < o + c → linkOf w' k s ≡ linkOf w k s
   unfolding linkOf
@@ -163,7 +204,8 @@ module _ (w w' : List ℕ) (k c o b g n : ℕ) (key : CacheKey) (v : CachedTerms
   filter-old : (s : ℕ) → o ≤ s → s < o + c → hasBit (filterOf w' (chain k (keyOf w k s))) (bitOf (keyOf w k s)) ≡ true
   unfolding filterOf
   filter-old s x y =
-      ⊎-elim (λ (e : eqb (chain k (keyOf w k s)) (chain k key) ≡ true). same (eqb-true _ _ e)) (λ (e : eqb (chain k (keyOf w k s)) (chain k key) ≡ false). other (eqb-false _ _ e)) (which (eqb (chain k (keyOf w k s)) (chain k key)))
+      ⊎-elim (λ (e : eqb (chain k (keyOf w k s)) (chain k key) ≡ true). same (eqb-true _ _ e)) (λ (e : eqb (chain k (keyOf w k s)) (chain k key) ≡ false). other (eqb-false _ _ e))
+      (which (eqb (chain k (keyOf w k s)) (chain k key)))
     where
       old : hasBit (filterOf w (chain k (keyOf w k s))) (bitOf (keyOf w k s)) ≡ true
       old = G .filters s x y
@@ -172,7 +214,8 @@ module _ (w w' : List ℕ) (k c o b g n : ℕ) (key : CacheKey) (v : CachedTerms
       same e =
           let L : s ≤ latestOf w (chain k key) = G .heads (chain k key) (chain-lt k key (G .some-room)) .all s x y e in
           ap (λ (h : ℕ). hasBit (filterOf w' h) (bitOf (keyOf w k s))) e ∙ ap (λ (f : ℕ). hasBit f (bitOf (keyOf w k s))) (W .filter-mine)
-          ∙ kept-bit (latestOf w (chain k key)) o (filterOf w (chain k key)) (bitOf key) (bitOf (keyOf w k s)) (omega (arith, L, x)) (ap (λ (h : ℕ). hasBit (filterOf w h) (bitOf (keyOf w k s))) (sym e) ∙ old)
+          ∙ kept-bit (latestOf w (chain k key)) o (filterOf w (chain k key)) (bitOf key) (bitOf (keyOf w k s)) (omega (arith, L, x))
+          (ap (λ (h : ℕ). hasBit (filterOf w h) (bitOf (keyOf w k s))) (sym e) ∙ old)
 
       other : (chain k (keyOf w k s) ≡ chain k key → ⊥) → hasBit (filterOf w' (chain k (keyOf w k s))) (bitOf (keyOf w k s)) ≡ true
       other d = ap (λ (f : ℕ). hasBit (f / half) (bitOf (keyOf w k s))) (W .head-others (chain k (keyOf w k s)) (chain-lt k (keyOf w k s) (G .some-room)) d) ∙ old
@@ -194,11 +237,15 @@ module _ (w w' : List ℕ) (k c o b g n : ℕ) (key : CacheKey) (v : CachedTerms
         few = (let x : g ≤ 100000 * (o + c) = G .few in let y : k ≤ 100000 = G .most in omega arith);
         room = (omega arith);
         laid = laid-new c o b (omega arith) refl (G .laid);
-        marks = λ s x y. ⊎-elim (λ (z : s < o + c). mark-old s x z) (λ (z : o + c ≤ s). let e : o + c ≡ s = omega arith in subst (λ (t : ℕ). bitsOf w' k t ≡ bits (keyOf w' k t)) e mark-new) (split s (o + c));
-        filters = λ s x y. ⊎-elim (λ (z : s < o + c). ap (λ (t : CacheKey). hasBit (filterOf w' (chain k t)) (bitOf t)) (key-old s x z) ∙ filter-old s x z) (λ (z : o + c ≤ s). let e : o + c ≡ s = omega arith in subst (λ (t : ℕ). hasBit (filterOf w' (chain k (keyOf w' k t))) (bitOf (keyOf w' k t)) ≡ true) e filter-new) (split s (o + c));
+        marks = λ s x y. ⊎-elim (λ (z : s < o + c). mark-old s x z) (λ (z : o + c ≤ s). let e : o + c ≡ s = omega arith in subst (λ (t : ℕ). bitsOf w' k t ≡ bits (keyOf w' k t)) e mark-new)
+            (split s (o + c));
+        filters = λ s x y. ⊎-elim (λ (z : s < o + c). ap (λ (t : CacheKey). hasBit (filterOf w' (chain k t)) (bitOf t)) (key-old s x z) ∙ filter-old s x z)
+            (λ (z : o + c ≤ s). let e : o + c ≡ s = omega arith in subst (λ (t : ℕ). hasBit (filterOf w' (chain k (keyOf w' k t))) (bitOf (keyOf w' k t)) ≡ true) e filter-new) (split s (o + c));
         heads = λ h l. ⊎-elim (λ (e : eqb h (chain k key) ≡ true). head-hit h (eqb-true _ _ e)) (λ (e : eqb h (chain k key) ≡ false). head-miss h l (eqb-false _ _ e)) (which (eqb h (chain k key)));
-        links = λ s x y. ⊎-elim (λ (z : s < o + c). link-old s x z) (λ (z : o + c ≤ s). let e : o + c ≡ s = omega arith in subst (λ (t : ℕ). Latest w' k o (chain k (keyOf w' k t)) (linkOf w' k t) t) e link-new) (split s (o + c));
-        apart = λ s t x y z q. ⊎-elim (λ (j : t < o + c). G .apart s t x y j (sym (key-old s x (omega arith)) ∙ q ∙ key-old t (omega arith) j)) (λ (j : o + c ≤ t). let e : t ≡ o + c = omega arith in new s x (omega arith) (sym (key-old s x (omega arith)) ∙ q ∙ ap (keyOf w' k) e ∙ key-new)) (split t (o + c));
+        links = λ s x y. ⊎-elim (λ (z : s < o + c). link-old s x z) (λ (z : o + c ≤ s). let e : o + c ≡ s = omega arith in subst (λ (t : ℕ). Latest w' k o (chain k (keyOf w' k t)) (linkOf w' k t) t) e
+            link-new) (split s (o + c));
+        apart = λ s t x y z q. ⊎-elim (λ (j : t < o + c). G .apart s t x y j (sym (key-old s x (omega arith)) ∙ q ∙ key-old t (omega arith) j))
+            (λ (j : o + c ≤ t). let e : t ≡ o + c = omega arith in new s x (omega arith) (sym (key-old s x (omega arith)) ∙ q ∙ ap (keyOf w' k) e ∙ key-new)) (split t (o + c));
       }
 
   pub placed-list : keptFrom (suc c) w' k o ≡ keptFrom c w k o ++ (record { key = key; terms = v; n = n; rows = wordsFrom (rowWords * n) rows from } ∷ [])
@@ -255,7 +302,8 @@ module _ (w : List ℕ) (k o e g n : ℕ) (key : CacheKey) (v : CachedTerms) (ro
 
   place-apart : (s u u' : ℕ) → u < 16 → u' < 16 → (s % k ≡ e % k → ⊥) → entryPlace k s + u ≡ entryPlace k e + u' → ⊥
   unfolding entryPlace
-  place-apart s u u' h h' d q = ⊎-elim (λ (y : s % k < e % k). omega arith) (λ (y : e % k ≤ s % k). ⊎-elim (λ (z : e % k < s % k). omega arith) (λ (z : s % k ≤ e % k). d (omega arith)) (split (e % k) (s % k))) (split (s % k) (e % k))
+  place-apart s u u' h h' d q = ⊎-elim (λ (y : s % k < e % k). omega arith) (λ (y : e % k ≤ s % k). ⊎-elim (λ (z : e % k < s % k). omega arith) (λ (z : s % k ≤ e % k). d (omega arith))
+      (split (e % k) (s % k))) (split (s % k) (e % k))
 
   link-apart : (s : ℕ) → (s % k ≡ e % k → ⊥) → linkPlace k s ≡ linkPlace k e → ⊥
   unfolding linkPlace
@@ -321,7 +369,8 @@ module _ (w : List ℕ) (k o e g n : ℕ) (key : CacheKey) (v : CachedTerms) (ro
   unfolding w1
   mine1 u h =
       let z : entryPlace k e + u ≡ entryPlace k e + (0 + u) % 16 = omega arith in
-      ap (λ (j : ℕ). getD w1 j 0) z ∙ put-same (entryPlace k e) 16 0 es 0 16 w 0 u (omega arith) (omega arith) (omega arith) (let y : entryPlace k e + 15 < rowsFrom * k = place-lt e 15 (lit< tt) in omega arith) ∙ ap (λ (j : ℕ). getD es j 0) (zero-add u)
+      ap (λ (j : ℕ). getD w1 j 0) z ∙ put-same (entryPlace k e) 16 0 es 0 16 w 0 u (omega arith) (omega arith) (omega arith)
+      (let y : entryPlace k e + 15 < rowsFrom * k = place-lt e 15 (lit< tt) in omega arith) ∙ ap (λ (j : ℕ). getD es j 0) (zero-add u)
 
   -- past the head and the link
   far34 : (j : ℕ) → entriesFrom * k ≤ j → getD w4 j 0 ≡ getD w2 j 0
@@ -333,7 +382,8 @@ module _ (w : List ℕ) (k o e g n : ℕ) (key : CacheKey) (v : CachedTerms) (ro
 
   linked : getD w4 (linkPlace k e) 0 ≡ link
   unfolding w3
-  linked = far4 _ (λ q. let y : chain k key < k = h-lt in let z : k ≤ linkPlace k e = link-ge e in omega arith) ∙ getD-set-same w2 (linkPlace k e) link 0 (let y : length w2 ≡ length w = long2 in let z : linkPlace k e < entriesFrom * k = link-lt e in omega arith)
+  linked = far4 _ (λ q. let y : chain k key < k = h-lt in let z : k ≤ linkPlace k e = link-ge e in omega arith) ∙ getD-set-same w2 (linkPlace k e) link 0
+      (let y : length w2 ≡ length w = long2 in let z : linkPlace k e < entriesFrom * k = link-lt e in omega arith)
 
   headed : getD w4 (chain k key) 0 ≡ head
   unfolding w4
@@ -366,8 +416,10 @@ module _ (w : List ℕ) (k o e g n : ℕ) (key : CacheKey) (v : CachedTerms) (ro
         same-long = length-set w3 _ _ ∙ long3;
         mine = λ u h. far34 _ (place-ge e u) ∙ far2 _ (place-lt e u h) ∙ mine1 u h;
         others = λ s u h d. far34 _ (place-ge s u) ∙ far2 _ (place-lt s u h) ∙ far1 _ (λ u' h' q. place-apart s u u' h h' d q);
-        rows-mine = λ i h. far34 _ (omega arith) ∙ put-same (rowsFrom * k) (rowWords * k) (rowWords * g) rows from (rowWords * n) w1 0 i (omega arith) (omega arith) (omega arith) (let y : length w1 ≡ length w = long1 in omega arith);
-        rows-others = λ x d. far34 _ (omega arith) ∙ put-other (rowsFrom * k) (rowWords * k) (rowWords * g) rows from (rowWords * n) w1 0 _ (λ t a b q. d t (omega arith) (omega arith)) ∙ far1 _ (λ u h q. let y : entryPlace k e + u < rowsFrom * k = place-lt e u h in omega arith);
+        rows-mine = λ i h. far34 _ (omega arith) ∙ put-same (rowsFrom * k) (rowWords * k) (rowWords * g) rows from (rowWords * n) w1 0 i (omega arith) (omega arith) (omega arith)
+            (let y : length w1 ≡ length w = long1 in omega arith);
+        rows-others = λ x d. far34 _ (omega arith) ∙ put-other (rowsFrom * k) (rowWords * k) (rowWords * g) rows from (rowWords * n) w1 0 _ (λ t a b q. d t (omega arith) (omega arith)) ∙ far1 _
+            (λ u h q. let y : entryPlace k e + u < rowsFrom * k = place-lt e u h in omega arith);
         link-mine = link-number;
         marks-mine = link-bits;
         link-others = λ s d. far4 _ (λ q. let y : chain k key < k = h-lt in let z : k ≤ linkPlace k s = link-ge s in omega arith) ∙ far3 _ (link-apart s d) ∙ far12 _ (link-lt s);

@@ -63,7 +63,8 @@ absent w k key (suc c) o e s a b q =
     (which _)
 
 -- ---- insert. Its bound on next: it rises by one for each insertion, and a session makes fewer than 2^32.
-module _ (w : List ℕ) (k : ℕ) (r : CacheOrder) (l : List Entry) (S : Stands w k r l) (key : CacheKey) (v : CachedTerms) (n : ℕ) (rows : List ℕ) (from : ℕ) (n-one : 1 ≤ n) (n-most : n ≤ k) (lent : from + rowWords * n ≤ length rows) (soon : r .next < half) (new : lookup key l ≡ none) where
+module _ (w : List ℕ) (k : ℕ) (r : CacheOrder) (l : List Entry) (S : Stands w k r l) (key : CacheKey) (v : CachedTerms) (n : ℕ) (rows : List ℕ) (from : ℕ) (n-one : 1 ≤ n) (n-most : n ≤ k)
+    (lent : from + rowWords * n ≤ length rows) (soon : r .next < half) (new : lookup key l ≡ none) where
   left : Left w k (r .«next_row») (k - n) (r .next) (S .count) (r .oldest) (r .«first_row»)
   left = evict-ok w k (r .«next_row») (k - n) (r .next) (S .count) (r .oldest) (r .«first_row») (S .good .laid)
 
@@ -91,11 +92,14 @@ module _ (w : List ℕ) (k : ℕ) (r : CacheOrder) (l : List Entry) (S : Stands 
   unfolding insert then
   is-then =
       sym (yes _ kept-is
-      (ap (λ (x : CacheOrder). placed w k x (r .next) (r .«next_row») key v n rows from) (sym (ap (λ (m : ℕ). evict m w k (k - n) (r .next) (r .«next_row») (r .oldest) (r .«first_row»)) counted ∙ left .is))))
+      (ap (λ (x : CacheOrder). placed w k x (r .next) (r .«next_row») key v n rows from) (sym (ap (λ (m : ℕ). evict m w k (k - n) (r .next) (r .«next_row») (r .oldest) (r .«first_row»)) counted ∙ left
+      .is))))
 
   -- over the number of the new entry
-  stands-at : (e : ℕ) → left .oldest + left .count ≡ e → Stands (written w k (left .oldest) e (r .«next_row») key v n rows from) k (order (left .oldest) (e + 1) (left .bottom) (r .«next_row» + n)) (dropTo (k - n) l ++ (record { key = key; terms = v; n = n; rows = wordsFrom (rowWords * n) rows from } ∷ []))
-  stands-at e q = subst (λ (e : ℕ). Stands (written w k (left .oldest) e (r .«next_row») key v n rows from) k (order (left .oldest) (e + 1) (left .bottom) (r .«next_row» + n)) (dropTo (k - n) l ++ (record { key = key; terms = v; n = n; rows = wordsFrom (rowWords * n) rows from } ∷ []))) q here
+  stands-at : (e : ℕ) → left .oldest + left .count ≡ e → Stands (written w k (left .oldest) e (r .«next_row») key v n rows from) k (order (left .oldest) (e + 1) (left .bottom) (r .«next_row» + n))
+      (dropTo (k - n) l ++ (record { key = key; terms = v; n = n; rows = wordsFrom (rowWords * n) rows from } ∷ []))
+  stands-at e q = subst (λ (e : ℕ). Stands (written w k (left .oldest) e (r .«next_row») key v n rows from) k (order (left .oldest) (e + 1) (left .bottom) (r .«next_row» + n))
+      (dropTo (k - n) l ++ (record { key = key; terms = v; n = n; rows = wordsFrom (rowWords * n) rows from } ∷ []))) q here
     where
       G : Good w k (left .count) (left .oldest) (left .bottom) (r .«next_row»)
       G = dropped-good w k (S .count) (r .oldest) (r .«first_row») (r .«next_row») (k - n) (r .next) (omega arith) (S .good) left
@@ -112,16 +116,20 @@ module _ (w : List ℕ) (k : ℕ) (r : CacheOrder) (l : List Entry) (S : Stands 
           let y : left .oldest + left .count ≡ r .oldest + S .count = left .ends in
           absent w k key (S .count) (r .oldest) (ap (lookup key) (S .list) ∙ new) s (omega arith) (omega arith) t
 
-      here : Stands (written w k (left .oldest) (left .oldest + left .count) (r .«next_row») key v n rows from) k (order (left .oldest) (left .oldest + left .count + 1) (left .bottom) (r .«next_row» + n)) (dropTo (k - n) l ++ (record { key = key; terms = v; n = n; rows = wordsFrom (rowWords * n) rows from } ∷ []))
+      here : Stands (written w k (left .oldest) (left .oldest + left .count) (r .«next_row») key v n rows from) k
+          (order (left .oldest) (left .oldest + left .count + 1) (left .bottom) (r .«next_row» + n)) (dropTo (k - n) l ++
+          (record { key = key; terms = v; n = n; rows = wordsFrom (rowWords * n) rows from } ∷ []))
       here =
           record {
             count = suc (left .count);
             ends = omega arith;
             good = placed-good w _ k (left .count) (left .oldest) (left .bottom) (r .«next_row») n key v rows from G W n-one n-most fits fresh;
-            list = placed-list w _ k (left .count) (left .oldest) (left .bottom) (r .«next_row») n key v rows from G W n-one n-most fits fresh ∙ ap {B = List Entry} (λ t. t ++ (record { key = key; terms = v; n = n; rows = wordsFrom (rowWords * n) rows from } ∷ [])) (left .list ∙ ap (dropTo (k - n)) (S .list));
+            list = placed-list w _ k (left .count) (left .oldest) (left .bottom) (r .«next_row») n key v rows from G W n-one n-most fits fresh ∙ ap {B = List Entry}
+                (λ t. t ++ (record { key = key; terms = v; n = n; rows = wordsFrom (rowWords * n) rows from } ∷ [])) (left .list ∙ ap (dropTo (k - n)) (S .list));
           }
 
-  pub insert-stands : Stands (insert w k r key v n rows from .words) k (insert w k r key v n rows from .order) (dropTo (k - n) l ++ (record { key = key; terms = v; n = n; rows = wordsFrom (rowWords * n) rows from } ∷ []))
+  pub insert-stands : Stands (insert w k r key v n rows from .words) k (insert w k r key v n rows from .order) (dropTo (k - n) l ++
+      (record { key = key; terms = v; n = n; rows = wordsFrom (rowWords * n) rows from } ∷ []))
   unfolding then placed
   insert-stands = rw is-then (stands-at (r .next) (left .ends ∙ S .ends))
 

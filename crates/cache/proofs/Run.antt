@@ -16,7 +16,8 @@ use Rattle.float64.specs.Pick.{cases, pick-yes, pick-no}
 use Rattle.cache.specs.declared.Found.{Found}
 use Rattle.cache.specs.declared.Found.the-variants.{At, Nothing}
 use Rattle.cache.specs.Cache.{half, rowWords, rowsFrom, rowAt, firstOf, insert, Cache, termsOf, copyFrom, rowsTo, copied}
-use Rattle.cache.specs.Kept.{Entry, Stands, lookup, dropTo, foundEntry, entryOf, rowWordsFrom, Evaluated, Lent, AllLent, entryFor, unlessAt, unlessFound, cacheWith, cacheAfter, appended, keptWith, keptAfter}
+use Rattle.cache.specs.Kept.{Entry, Stands, lookup, dropTo, foundEntry, entryOf, rowWordsFrom, Evaluated, Lent, AllLent, entryFor, unlessAt, unlessFound, cacheWith, cacheAfter, appended}
+use Rattle.cache.specs.Kept.{keptWith, keptAfter}
 use Rattle.cache.specs.Claim.{Refinement}
 use Rattle.cache.proofs.Walked.{split, room-is, find-is-lookup}
 use Rattle.cache.proofs.Refine.{empty-stands, insert-stands, insert-counts, insert-none, keys-once, rows-kept, rows-most}
@@ -48,7 +49,8 @@ module _ (k : ℕ) (t : Cache) (l : List Entry) (S : Stands (t .words) k (t .ord
   unfolding cacheWith keptWith new
   with-one = told _ (find-is-lookup (t .words) k (t .order) l S (x .key))
 
-pub kept-after : (k : ℕ) (xs : List Evaluated) (t : Cache) (l : List Entry) → AllLent xs → Stands (t .words) k (t .order) l → t .order .next + length xs < half → Stands (cacheAfter k t xs .words) k (cacheAfter k t xs .order) (keptAfter k l xs)
+pub kept-after : (k : ℕ) (xs : List Evaluated) (t : Cache) (l : List Entry) → AllLent xs → Stands (t .words) k (t .order) l → t .order .next + length xs < half → Stands (cacheAfter k t xs .words) k
+    (cacheAfter k t xs .order) (keptAfter k l xs)
 unfolding cacheAfter keptAfter AllLent
 kept-after k [] t l a S h = S
 kept-after k (x ∷ xs) t l a S h =
@@ -85,13 +87,15 @@ unfolding copyFrom
 copy-same zero w k x out to i t a b l = absurd (let z : ⊥ = omega arith in z)
 copy-same (suc m) w k x out to i t a b l =
     ⊎-elim (λ (h : i < t). copy-same m w k x _ to (i + 1) t (omega arith) (omega arith) (rw (length-set out (to + i) (rowAt w k (x + i))) (omega arith)))
-    (λ (h : t ≤ i). let e : i ≡ t = omega arith in copy-other m w k x _ to (i + 1) (to + t) (inl (omega arith)) ∙ ap (λ (u : ℕ). getD (set out (to + u) (rowAt w k (x + u))) (to + t) 0) e ∙ getD-set-same out (to + t) (rowAt w k (x + t)) 0 (omega arith))
+    (λ (h : t ≤ i). let e : i ≡ t = omega arith in copy-other m w k x _ to (i + 1) (to + t) (inl (omega arith)) ∙ ap (λ (u : ℕ). getD (set out (to + u) (rowAt w k (x + u))) (to + t) 0) e ∙
+    getD-set-same out (to + t) (rowAt w k (x + t)) 0 (omega arith))
     (split i t)
 
 module _ (w : List ℕ) (k slot n : ℕ) (out : List ℕ) (to : ℕ) (a : 1 ≤ k) (b : k ≤ 100000) (long : 24 * k ≤ length w) (most : n ≤ k) (fits : to + rowWords * n ≤ length out) where
   copied-is : copied w k slot n out to ≡ rowsTo w k slot (rowWords * n) out to
   unfolding copied
-  copied-is = pick-yes _ _ _ (room-is k a b) ∙ pick-no _ _ _ (le-ltb k n most) ∙ pick-no _ _ _ (le-ltb (length w) ((rowsFrom + rowWords) * k) (omega (arith, long))) ∙ pick-no _ _ _ (le-ltb (length out) (to + rowWords * n) fits)
+  copied-is = pick-yes _ _ _ (room-is k a b) ∙ pick-no _ _ _ (le-ltb k n most) ∙ pick-no _ _ _ (le-ltb (length w) ((rowsFrom + rowWords) * k) (omega (arith, long))) ∙ pick-no _ _ _
+      (le-ltb (length out) (to + rowWords * n) fits)
 
   -- the rows copied are the entry's
   pub copied-at : n ≤ entryOf w k slot .n → (j : ℕ) → j < rowWords * n → getD (copied w k slot n out to) (to + j) 0 ≡ getD (entryOf w k slot .rows) j 0
@@ -101,7 +105,8 @@ module _ (w : List ℕ) (k slot n : ℕ) (out : List ℕ) (to : ℕ) (a : 1 ≤ 
   -- and nothing else is touched
   pub copied-else : (j : ℕ) → (j < to) ⊎ (to + rowWords * n ≤ j) → getD (copied w k slot n out to) j 0 ≡ getD out j 0
   unfolding rowsTo
-  copied-else j h = ap (λ (l : List ℕ). getD l j 0) copied-is ∙ copy-other (rowWords * n) w k _ out to 0 j (⊎-elim (λ (a : j < to). inl (omega arith)) (λ (a : to + rowWords * n ≤ j). inr (omega arith)) h)
+  copied-else j h = ap (λ (l : List ℕ). getD l j 0) copied-is ∙ copy-other (rowWords * n) w k _ out to 0 j (⊎-elim (λ (a : j < to). inl (omega arith))
+      (λ (a : to + rowWords * n ≤ j). inr (omega arith)) h)
 
 pub refinement : Refinement
 refinement = record {

@@ -61,7 +61,8 @@ module _ (v : List ℕ) (f g : ℕ → ℕ) where
       e ∙ is-run from to n 0 0 w (λ t l. (ap f (zero-add t) ∙ h t l .0 ∙ ap (λ (z : ℕ). from + z) (sym (zero-add t)), ap g (zero-add t) ∙ h t l .1 ∙ ap (λ (z : ℕ). to + z) (sym (zero-add t))))
 
   -- m words, then the others from other places on
-  pub two-runs : {w₁ w₂ : List ℕ} (w : List ℕ) (from to from' to' m n : ℕ) → m ≤ n → ((t : ℕ) → t < m → (f t ≡ from + t) × (g t ≡ to + t)) → ((t : ℕ) → t < n - m → (f (m + t) ≡ from' + t) × (g (m + t) ≡ to' + t))
+  pub two-runs : {w₁ w₂ : List ℕ} (w : List ℕ) (from to from' to' m n : ℕ) → m ≤ n → ((t : ℕ) → t < m → (f t ≡ from + t) × (g t ≡ to + t)) →
+      ((t : ℕ) → t < n - m → (f (m + t) ≡ from' + t) × (g (m + t) ≡ to' + t))
       → w₁ ≡ copyRun m v from w to 0 → w₂ ≡ copyRun (n - m) v from' w₁ to' 0 → w₂ ≡ moved n v f w g 0
   two-runs {w₁} w from to from' to' m n l h k e r =
       let z : m + (n - m) ≡ n = omega (arith, l) in

@@ -30,7 +30,8 @@ pub window : (c i j : ℕ) → i < j → j < i + c → i % c ≡ j % c → ⊥
 window c i j h g e =
     let a : c * (i / c) + i % c ≡ i = div-add-mod i c in
     let b : c * (j / c) + j % c ≡ j = div-add-mod j c in
-    ⊎-elim (λ (n : i / c < j / c). let m : c * (i / c + 1) ≤ c * (j / c) = mul-le-mul-left c (omega arith) in omega arith) (λ (p : j / c ≤ i / c). let m : c * (j / c) ≤ c * (i / c) = mul-le-mul-left c p in omega arith) (split (i / c) (j / c))
+    ⊎-elim (λ (n : i / c < j / c). let m : c * (i / c + 1) ≤ c * (j / c) = mul-le-mul-left c (omega arith) in omega arith)
+    (λ (p : j / c ≤ i / c). let m : c * (j / c) ≤ c * (i / c) = mul-le-mul-left c p in omega arith) (split (i / c) (j / c))
 
 -- a chain is below k
 pub chain-lt : (k : ℕ) (key : CacheKey) → 1 ≤ k → chain k key < k
@@ -50,12 +51,24 @@ same-true a b e =
     let h3 = picked _ _ (h2 .1) in
     let h4 = picked _ _ (h3 .1) in
     let h5 = picked _ _ (h4 .1) in
-    λ i. record { subject = eqb-true (a .subject) (b .subject) (h1 .0) i; theta0 = eqb-true (a .theta0) (b .theta0) (h2 .0) i; theta1 = eqb-true (a .theta1) (b .theta1) (h4 .0) i; eta0 = eqb-true (a .eta0) (b .eta0) (h0 .0) i; eta1 = eqb-true (a .eta1) (b .eta1) (h3 .0) i; «has_additive» = eqb-true (a .«has_additive») (b .«has_additive») (h5 .0) i; additive = eqb-true (a .additive) (b .additive) (h5 .1) i }
+    λ i. record {
+      subject = eqb-true (a .subject) (b .subject) (h1 .0) i;
+      theta0 = eqb-true (a .theta0) (b .theta0) (h2 .0) i;
+      theta1 = eqb-true (a .theta1) (b .theta1) (h4 .0) i;
+      eta0 = eqb-true
+          (a .eta0) (b .eta0) (h0 .0) i;
+      eta1 = eqb-true (a .eta1) (b .eta1) (h3 .0) i;
+      «has_additive» = eqb-true (a .«has_additive») (b .«has_additive») (h5 .0) i;
+      additive = eqb-true (a .additive)
+          (b .additive) (h5 .1) i;
+    }
 
 pub true-same : (a b : CacheKey) → a ≡ b → sameKey a b ≡ true
 unfolding sameKey
 true-same a b e =
-    sym (yes _ (eq-eqb _ _ (ap (λ (x : CacheKey). x .eta0) e)) (yes _ (eq-eqb _ _ (ap (λ (x : CacheKey). x .subject) e)) (yes _ (eq-eqb _ _ (ap (λ (x : CacheKey). x .theta0) e)) (yes _ (eq-eqb _ _ (ap (λ (x : CacheKey). x .eta1) e)) (yes _ (eq-eqb _ _ (ap (λ (x : CacheKey). x .theta1) e)) (yes _ (eq-eqb _ _ (ap (λ (x : CacheKey). x .«has_additive») e)) (sym (eq-eqb _ _ (ap (λ (x : CacheKey). x .additive) e)))))))))
+    sym (yes _ (eq-eqb _ _ (ap (λ (x : CacheKey). x .eta0) e)) (yes _ (eq-eqb _ _ (ap (λ (x : CacheKey). x .subject) e))
+    (yes _ (eq-eqb _ _ (ap (λ (x : CacheKey). x .theta0) e)) (yes _ (eq-eqb _ _ (ap (λ (x : CacheKey). x .eta1) e))
+    (yes _ (eq-eqb _ _ (ap (λ (x : CacheKey). x .theta1) e)) (yes _ (eq-eqb _ _ (ap (λ (x : CacheKey). x .«has_additive») e)) (sym (eq-eqb _ _ (ap (λ (x : CacheKey). x .additive) e)))))))))
 
 -- ---- the walk along a chain
 abbrev pub Hit : List ℕ → ℕ → ℕ → CacheKey → ℕ → Found → Type 0
@@ -97,7 +110,8 @@ module _ (w : List ℕ) (k c o b g : ℕ) (G : Good w k c o b g) (key : CacheKey
       at (inr x) =
           let s : isAt w k p (bits key) key ≡ sameKey (keyOf w k p) key = looks p x (let y : p < e = L .below in omega arith) in
           ⊎-elim (λ (t : sameKey (keyOf w k p) key ≡ true). inl (p, x, L .below, same-true _ _ t, sym (no _ (le-ltb p o x) (yes _ (s ∙ t) refl))))
-          (λ (t : sameKey (keyOf w k p) key ≡ false). subst (λ (r : Found). Told w k o key e r) (no _ (le-ltb p o x) (no _ (s ∙ t) refl)) (on p e _ L (λ q. subst T (sym (true-same _ _ q) ∙ t) tt) (ih x)))
+          (λ (t : sameKey (keyOf w k p) key ≡ false). subst (λ (r : Found). Told w k o key e r) (no _ (le-ltb p o x) (no _ (s ∙ t) refl))
+          (on p e _ L (λ q. subst T (sym (true-same _ _ q) ∙ t) tt) (ih x)))
           (which (sameKey (keyOf w k p) key))
 
   pub walk-ok : (m p e : ℕ) → e ≤ o + m → e ≤ o + c → Latest w k o (chain k key) p e → Told w k o key e (walk m w k o (bits key) key p)

@@ -9,7 +9,8 @@ use lib.ListN.{getD, length}
 use Rattle.cache.specs.declared.CacheKey.{CacheKey}
 use Rattle.cache.specs.declared.CacheOrder.{CacheOrder}
 use Rattle.cache.specs.Cache.{half, rowWords, keptWords, order, Cache, find, termsOf, copied, insert, after}
-use Rattle.cache.specs.Kept.{Entry, lookup, cachedRows, dropTo, Evaluated, Lent, AllLent, entryFor, keptAfter, cacheAfter, foundEntry, entryOf, Stands, Once}
+use Rattle.cache.specs.Kept.{Entry, lookup, cachedRows, dropTo, Evaluated, Lent, AllLent, entryFor, keptAfter, cacheAfter, foundEntry}
+use Rattle.cache.specs.Kept.{entryOf, Stands, Once}
 
 -- x kept by insert
 abbrev pub insertOf : List ℕ → ℕ → CacheOrder → Evaluated → Cache
@@ -22,7 +23,8 @@ pub record Room (k : ℕ) : Type 0 where
 
 pub record Refinement : Type 0 where
   -- cleared words stand for the empty list
-  pub cleared : (w : List ℕ) (k : ℕ) → Room k → keptWords * k ≤ length w → ((i : ℕ) → i < k → getD w i 0 ≡ 0) → Stands w k (order 1 1 0 0) []
+  pub cleared : (w : List ℕ) (k : ℕ) → Room k → keptWords * k ≤ length w → ((i : ℕ) → i < k → getD w i 0 ≡ 0)
+      → Stands w k (order 1 1 0 0) []
   -- find is the lookup in the list, with the entry's own terms and rows
   pub finds : (w : List ℕ) (k : ℕ) (r : CacheOrder) (l : List Entry) → Stands w k r l → (key : CacheKey)
       → foundEntry w k (find w k r key) ≡ lookup key l

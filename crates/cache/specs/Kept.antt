@@ -13,7 +13,8 @@ use Rattle.cache.specs.declared.CachedTerms.{CachedTerms}
 use Rattle.cache.specs.declared.CacheOrder.{CacheOrder}
 use Rattle.cache.specs.declared.Found.{Found}
 use Rattle.cache.specs.declared.Found.the-variants.{At, Nothing}
-use Rattle.cache.specs.Cache.{rowWords, keptWords, keyAt, termsAt, entryPlace, rowAt, countOf, firstOf, linkOf, bitsOf, latestOf, filterOf, hasBit, bits, bitOf, chain, sameKey, Cache, find, insert}
+use Rattle.cache.specs.Cache.{rowWords, keptWords, keyAt, termsAt, entryPlace, rowAt, countOf, firstOf, linkOf, bitsOf, latestOf}
+use Rattle.cache.specs.Cache.{filterOf, hasBit, bits, bitOf, chain, sameKey, Cache, find, insert}
 
 -- a kept evaluation: n rows, and their words
 pub record Entry : Type 0 where

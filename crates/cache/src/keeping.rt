@@ -4,7 +4,8 @@
 ghost use mathlib.Core.Path.{_≡_};
 ghost use Prim.Native.Nat.{_+_, _-_, _*_, _%_, _≤_, _<_};
 ghost use lib.ListN.{length};
-ghost use Rattle.cache.specs.Cache.{half, rowWords, headOf, withBit, raised, evict, putRing, entryWords, written, isKept, after, insert};
+ghost use Rattle.cache.specs.Cache.{half, rowWords, headOf, withBit, raised, evict, putRing, entryWords, written, isKept, after};
+ghost use Rattle.cache.specs.Cache.{insert};
 use super::CacheKey;
 use super::CacheOrder;
 use super::CachedTerms;

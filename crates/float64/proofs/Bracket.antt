@@ -66,7 +66,8 @@ mid-ge f l r i j h small k =
     let v = M (j .sign) (j .count) in
     let o : p + v ≤ q + u = units-of-le f l r p u q v (i .units) (j .units) k in
     let a : T (le t (add f l r)) =
-    units-le-rounded f t (add f l r) (P s (n * 2)) (M s (n * 2)) (p + q) (u + v) 1 (lit< tt) (twice-fits f s n (i .rep) small) (twice-units f s n (i .rep) small) (once f (add f l r) (p + q) (u + v) (add-units f l r p u q v (i .units) (j .units)))
+    units-le-rounded f t (add f l r) (P s (n * 2)) (M s (n * 2)) (p + q) (u + v) 1 (lit< tt) (twice-fits f s n (i .rep) small) (twice-units f s n (i .rep) small)
+    (once f (add f l r) (p + q) (u + v) (add-units f l r p u q v (i .units) (j .units)))
     (omega (arith, P-mul s n 2, M-mul s n 2, o)) in
     let b : T (le (mul f half t) (mul f half (add f l r))) = mul-mono f half t (add f l r) tt a in
     let c : T (le l (mul f half t)) =
@@ -84,7 +85,8 @@ mid-le f l r i j h small k =
     let v = M s n in
     let o : p + v ≤ q + u = units-of-le f l r p u q v (i .units) (j .units) k in
     let a : T (le (add f l r) t) =
-    rounded-le-units f (add f l r) t (p + q) (u + v) 1 (P s (n * 2)) (M s (n * 2)) (lit< tt) (twice-fits f s n (j .rep) small) (twice-units f s n (j .rep) small) (once f (add f l r) (p + q) (u + v) (add-units f l r p u q v (i .units) (j .units)))
+    rounded-le-units f (add f l r) t (p + q) (u + v) 1 (P s (n * 2)) (M s (n * 2)) (lit< tt) (twice-fits f s n (j .rep) small) (twice-units f s n (j .rep) small)
+    (once f (add f l r) (p + q) (u + v) (add-units f l r p u q v (i .units) (j .units)))
     (omega (arith, P-mul s n 2, M-mul s n 2, o)) in
     let b : T (le (mul f half (add f l r)) (mul f half t)) = mul-mono f half (add f l r) t tt a in
     let c : T (le (mul f half t) r) =
@@ -152,11 +154,13 @@ module _ (f : Format) (l r : Float) (pl ul pr ur D : ℕ) (il : Units f l pl ul)
   width-units = rounded-plus f (sub f r l) D (L f) some width-rounded fw
 
   pub width-le : grid f D (L f) ≤ D * 2
-  width-le = le-of-mul-le-mul-right {k = L f} (N.le-trans (grid-twice f D (L f) (L-pos f) (N.le-trans (le-of-eq (sym (N.one-mul (L f)))) (mul-le-mul-right (L f) some))) (le-of-eq (mul-right-comm D (L f) 2))) (L-pos f)
+  width-le = le-of-mul-le-mul-right {k = L f} (N.le-trans (grid-twice f D (L f) (L-pos f) (N.le-trans (le-of-eq (sym (N.one-mul (L f)))) (mul-le-mul-right (L f) some)))
+      (le-of-eq (mul-right-comm D (L f) 2))) (L-pos f)
 
   module _ (g : ℕ) (e : ℤ) (G : 0 < g * up e) (eighth : g * up e * 8 ≤ down e) (wide : down e ≤ g * up e * grid f D (L f)) (ft : T (finite (mul f (fin false g e) (sub f r l)))) where
     part-rounded : Rounded f (mul f (fin false g e) (sub f r l)) (g * up e * grid f D (L f)) 0 (down e * L f)
-    part-rounded = subst (λ (z : ℕ). Rounded f (mul f (fin false g e) (sub f r l)) (g * up e * grid f D (L f)) z (down e * L f)) (N.mul-zero (g * up e)) (mul-units f g e (sub f r l) (grid f D (L f)) 0 width-units)
+    part-rounded = subst (λ (z : ℕ). Rounded f (mul f (fin false g e) (sub f r l)) (g * up e * grid f D (L f)) z (down e * L f)) (N.mul-zero (g * up e))
+        (mul-units f g e (sub f r l) (grid f D (L f)) 0 width-units)
 
     pub part-units : Units f (mul f (fin false g e) (sub f r l)) (grid f (g * up e * grid f D (L f)) (down e * L f)) 0
     part-units = rounded-plus f (mul f (fin false g e) (sub f r l)) (g * up e * grid f D (L f)) (down e * L f) (N.lt-of-lt-of-le (down-pos e) wide) part-rounded ft
@@ -166,7 +170,8 @@ module _ (f : Format) (l r : Float) (pl ul pr ur D : ℕ) (il : Units f l pl ul)
         let t = grid f (g * up e * grid f D (L f)) (down e * L f) in
         let w = grid f D (L f) in
         let a : t * (down e * L f) ≤ g * up e * w * L f * 2 = grid-twice f (g * up e * w) (down e * L f) (mul-pos (down-pos e) (L-pos f)) (lift-le (L f) (down e) (g * up e * w) wide) in
-        let b : t * down e ≤ g * up e * w * 2 = le-of-mul-le-mul-right {k = L f} (N.le-trans (le-of-eq (mul-assoc t (down e) (L f))) (N.le-trans a (le-of-eq (mul-right-comm (g * up e * w) (L f) 2)))) (L-pos f) in
+        let b : t * down e ≤ g * up e * w * 2 = le-of-mul-le-mul-right {k = L f} (N.le-trans (le-of-eq (mul-assoc t (down e) (L f))) (N.le-trans a (le-of-eq (mul-right-comm (g * up e * w) (L f) 2))))
+        (L-pos f) in
         room t D w (g * up e) (down e) (down-pos e) b width-le eighth
 
     pub ends-le : T (le (add f l (mul f (fin false g e) (sub f r l))) (sub f r (mul f (fin false g e) (sub f r l))))

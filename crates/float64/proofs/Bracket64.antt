@@ -154,13 +154,15 @@ module _ (l r : Float) (b : Bracket l r) where
   w-le = subst (λ (z : Float). T (le (width l r) z)) top-width (sub-mono binary64 r edge l minusEdge (b .high) (b .low) w-num (subst (λ (z : Float). T (num? z)) (sym top-width) (finite-num span tt)))
 
   w-ge : T (le minusSpan (width l r))
-  w-ge = subst (λ (z : Float). T (le z (width l r))) bottom-width (sub-mono binary64 minusEdge r edge l r-low l-high (subst (λ (z : Float). T (num? z)) (sym bottom-width) (finite-num minusSpan tt)) w-num)
+  w-ge = subst (λ (z : Float). T (le z (width l r))) bottom-width (sub-mono binary64 minusEdge r edge l r-low l-high (subst (λ (z : Float). T (num? z)) (sym bottom-width) (finite-num minusSpan tt))
+      w-num)
 
   pub w-finite : T (finite (width l r))
   w-finite = between-finite minusSpan (width l r) span tt tt w-ge w-le
 
   pub t-finite : T (finite (part l r))
-  t-finite = between-finite (mul binary64 tenth minusSpan) (part l r) (mul binary64 tenth span) bottom-part top-part (mul-mono binary64 tenth minusSpan (width l r) tt w-ge) (mul-mono binary64 tenth (width l r) span tt w-le)
+  t-finite = between-finite (mul binary64 tenth minusSpan) (part l r) (mul binary64 tenth span) bottom-part top-part (mul-mono binary64 tenth minusSpan (width l r) tt w-ge)
+      (mul-mono binary64 tenth (width l r) span tt w-le)
 
   -- the exact difference, in units
   pub gap : ℕ
@@ -171,21 +173,25 @@ module _ (l r : Float) (b : Bracket l r) where
 
   gap-facts : (P (valR .sign) (valR .count) + M (valL .sign) (valL .count) ≡ gap + (P (valL .sign) (valL .count) + M (valR .sign) (valR .count))) × (0 < gap)
   unfolding gap
-  gap-facts = gap-lemma (P (valR .sign) (valR .count) + M (valL .sign) (valL .count)) (P (valL .sign) (valL .count) + M (valR .sign) (valR .count)) (lt-units binary64 l r (P (valL .sign) (valL .count)) (M (valL .sign) (valL .count)) (P (valR .sign) (valR .count)) (M (valR .sign) (valR .count)) (valL .units) (valR .units) (b .order))
+  gap-facts = gap-lemma (P (valR .sign) (valR .count) + M (valL .sign) (valL .count)) (P (valL .sign) (valL .count) + M (valR .sign) (valR .count))
+      (lt-units binary64 l r (P (valL .sign) (valL .count)) (M (valL .sign) (valL .count)) (P (valR .sign) (valR .count)) (M (valR .sign) (valR .count)) (valL .units) (valR .units) (b .order))
 
   pub w-units : Units binary64 (width l r) (grid binary64 gap (L binary64)) 0
-  w-units = width-units binary64 l r (P (valL .sign) (valL .count)) (M (valL .sign) (valL .count)) (P (valR .sign) (valR .count)) (M (valR .sign) (valR .count)) gap (valL .units) (valR .units) (gap-facts .0) (gap-facts .1) w-finite
+  w-units = width-units binary64 l r (P (valL .sign) (valL .count)) (M (valL .sign) (valL .count)) (P (valR .sign) (valR .count)) (M (valR .sign) (valR .count)) gap (valL .units) (valR .units)
+      (gap-facts .0) (gap-facts .1) w-finite
 
   plus-zero : (a c : ℕ) → a + 0 ≤ c + 0 → a ≤ c
   plus-zero a c h = omega arith
 
   module _ (wide : T (lt eps (width l r))) where
     w-big : 4951760157141521 * 2 ^ 982 ≤ grid binary64 gap (L binary64)
-    w-big = plus-zero (4951760157141521 * 2 ^ 982) (grid binary64 gap (L binary64)) (units-of-le binary64 eps (width l r) (4951760157141521 * 2 ^ 982) 0 (grid binary64 gap (L binary64)) 0 units-eps w-units (lt→le eps (width l r) wide))
+    w-big = plus-zero (4951760157141521 * 2 ^ 982) (grid binary64 gap (L binary64)) (units-of-le binary64 eps (width l r) (4951760157141521 * 2 ^ 982) 0 (grid binary64 gap (L binary64)) 0 units-eps
+        w-units (lt→le eps (width l r) wide))
 
     pub lo-le-hi : T (le (lo l r) (hi l r))
     lo-le-hi =
-        ends-le binary64 l r (P (valL .sign) (valL .count)) (M (valL .sign) (valL .count)) (P (valR .sign) (valR .count)) (M (valR .sign) (valR .count)) gap (valL .units) (valR .units) (gap-facts .0) (gap-facts .1) w-finite
+        ends-le binary64 l r (P (valL .sign) (valL .count)) (M (valL .sign) (valL .count)) (P (valR .sign) (valR .count)) (M (valR .sign) (valR .count)) gap (valL .units) (valR .units) (gap-facts .0)
+        (gap-facts .1) w-finite
         3602879701896397 (negsuc 54) (lit< tt) (lit≤ tt) (wide-enough (grid binary64 gap (L binary64)) w-big) t-finite
 
     part-ge : T (le zero⁺ (part l r))

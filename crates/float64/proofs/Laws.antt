@@ -101,7 +101,8 @@ abs-zero nan f e = cc
 abs-zero (inf s) f e = cc
 abs-zero (fin s zero k) f e = ap (λ (i : ℤ). fin false 0 i) (zero-exponent k f)
 abs-zero (fin s (suc m) k) f e =
-    none (let h : suc m * up k * 1 ≡ 0 * 1 * down k = eqb→eq _ _ (and-l (eqb (suc m * up k * 1) (0 * 1 * down k)) (Bool·beq s false || eqb (suc m * up k * 1) 0) (subst T (sym e) tt)) in omega (arith, simp zero-mul at h, size-pos m k))
+    none (let h : suc m * up k * 1 ≡ 0 * 1 * down k = eqb→eq _ _ (and-l (eqb (suc m * up k * 1) (0 * 1 * down k)) (Bool·beq s false || eqb (suc m * up k * 1) 0) (subst T (sym e) tt)) in omega
+    (arith, simp zero-mul at h, size-pos m k))
 
 pub abs-rest : (x : Float) → lt x (fin false 0 (pos 0)) ≡ false → eq x (fin false 0 (pos 0)) ≡ false → x ≡ abs x
 unfolding lt eq abs

@@ -34,7 +34,8 @@ sum-cross p u a q v b r w c g k d h j =
 
 pub add-keeps : (f : Format) (x x' y y' : Float) → T (finite x) → T (finite x') → T (finite y) → T (finite y') → Cross x x' → Cross y y' → T (le (add f x y) (add f x' y'))
 add-keeps f x x' y y' p p' q q' h k =
-    rounded-le f (add f x y) (add f x' y') (plus x * den y + plus y * den x) (less x * den y + less y * den x) (den x * den y) (plus x' * den y' + plus y' * den x') (less x' * den y' + less y' * den x') (den x' * den y')
+    rounded-le f (add f x y) (add f x' y') (plus x * den y + plus y * den x) (less x * den y + less y * den x) (den x * den y) (plus x' * den y' + plus y' * den x')
+    (less x' * den y' + less y' * den x') (den x' * den y')
     (mul-pos (den-pos x) (den-pos y)) (mul-pos (den-pos x') (den-pos y')) (add-rounded f x y p q) (add-rounded f x' y' p' q')
     (sum-cross (plus x) (less x) (den x) (plus x') (less x') (den x') (plus y) (less y) (den y) (plus y') (less y') (den y') h k)
 
@@ -136,8 +137,10 @@ mul-by f n d x y p (both s m e t o c h) =
     let k = fin false n d in
     let v = fin s m e in
     let w = fin t o c in
-    rounded-le f (mul f k v) (mul f k w) (plus k * plus v + less k * less v) (plus k * less v + less k * plus v) (den k * den v) (plus k * plus w + less k * less w) (plus k * less w + less k * plus w) (den k * den w)
-    (mul-pos (den-pos k) (den-pos v)) (mul-pos (den-pos k) (den-pos w)) (mul-rounded f k v tt tt) (mul-rounded f k w tt tt) (mul-cross (n * up d) (down d) (plus v) (less v) (den v) (plus w) (less w) (den w) h)
+    rounded-le f (mul f k v) (mul f k w) (plus k * plus v + less k * less v) (plus k * less v + less k * plus v) (den k * den v) (plus k * plus w + less k * less w) (plus k * less w + less k * plus w)
+    (den k * den w)
+    (mul-pos (den-pos k) (den-pos v)) (mul-pos (den-pos k) (den-pos w)) (mul-rounded f k v tt tt) (mul-rounded f k w tt tt)
+    (mul-cross (n * up d) (down d) (plus v) (less v) (den v) (plus w) (less w) (den w) h)
 
 pub mul-mono : (f : Format) (k x y : Float) → T (positive k) → T (le x y) → T (le (mul f k x) (mul f k y))
 mul-mono f nan x y p h = absurd p
@@ -152,7 +155,8 @@ mul-nonneg f (fin true n d) x p h = absurd p
 mul-nonneg f (fin false n d) x p h =
     let k = fin false n d in
     le-trans zero⁺ (mul f k zero⁺) (mul f k x)
-    (value-le-rounded f zero⁺ (mul f k zero⁺) (plus k * plus zero⁺ + less k * less zero⁺) (plus k * less zero⁺ + less k * plus zero⁺) (den k * den zero⁺) (mul-pos (den-pos k) (den-pos zero⁺)) (mul-rounded f k zero⁺ tt tt) (unfold fits in tt) tt (omega arith))
+    (value-le-rounded f zero⁺ (mul f k zero⁺) (plus k * plus zero⁺ + less k * less zero⁺) (plus k * less zero⁺ + less k * plus zero⁺) (den k * den zero⁺) (mul-pos (den-pos k) (den-pos zero⁺))
+    (mul-rounded f k zero⁺ tt tt) (unfold fits in tt) tt (omega arith))
     (mul-mono f k zero⁺ x p h)
 
 -- ---- what is at most c - k * d is at most c, where d is above 0 or a NaN

@@ -215,7 +215,8 @@ trans-by x y z (both s m e t n d h) k = go z k
   where
     go : (z : Float) → LeBy (fin t n d) z → LeBy (fin s m e) z
     go z (top w j) = top (fin s m e) (finite-num (fin s m e) tt)
-    go z (both _ _ _ u o c j) = both s m e u o c (chain (P s (m * up e)) (M s (m * up e)) (down e) (P t (n * up d)) (M t (n * up d)) (down d) (P u (o * up c)) (M u (o * up c)) (down c) (down-pos d) h j)
+    go z (both _ _ _ u o c j) = both s m e u o c (chain (P s (m * up e)) (M s (m * up e)) (down e) (P t (n * up d)) (M t (n * up d)) (down d) (P u (o * up c)) (M u (o * up c)) (down c) (down-pos d) h
+        j)
 
 pub le-trans : (x y z : Float) → T (le x y) → T (le y z) → T (le x z)
 le-trans x y z h k = by→le x z (trans-by x y z (le→by x y h) (le→by y z k))
@@ -325,7 +326,8 @@ unfolding neg
 neg-by x y (bottom v h) = le-top (neg v) (neg-num v h)
 neg-by x y (top v h) = bottom-le (neg v) (neg-num v h)
 neg-by x y (both s m e t n d h) =
-    cross→le (fin (not t) n d) (fin (not s) m e) tt tt (swap (P s (m * up e)) (M s (m * up e)) (P (not s) (m * up e)) (M (not s) (m * up e)) (P t (n * up d)) (M t (n * up d)) (P (not t) (n * up d)) (M (not t) (n * up d)) (flip-P s (m * up e)) (flip-M s (m * up e)) (flip-P t (n * up d)) (flip-M t (n * up d)) h)
+    cross→le (fin (not t) n d) (fin (not s) m e) tt tt (swap (P s (m * up e)) (M s (m * up e)) (P (not s) (m * up e)) (M (not s) (m * up e)) (P t (n * up d)) (M t (n * up d)) (P (not t) (n * up d))
+    (M (not t) (n * up d)) (flip-P s (m * up e)) (flip-M s (m * up e)) (flip-P t (n * up d)) (flip-M t (n * up d)) h)
   where
     swap : (p u p' u' q v q' v' : ℕ) → p' ≡ u → u' ≡ p → q' ≡ v → v' ≡ q → p * down d + v * down e ≤ q * down e + u * down d → q' * down e + u' * down d ≤ p' * down d + v' * down e
     swap p u p' u' q v q' v' a b c g h = rw (a, b, c, g) (omega arith)

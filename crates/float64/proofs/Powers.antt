@@ -69,14 +69,16 @@ pub add-within : (k : ℕ) (x y : Float) → Caps (k + 1) → InPower k x → In
 add-within k x y f v w =
     let h = sums (plus x) (less x) (den x) (plus y) (less y) (den y) (2 ^ k) (size-of k x v) (size-of k y w) in
     let e : 2 ^ k * 2 ≡ 2 ^ (k + 1) = sym (pow-add 2 k 1) in
-    rounded-within (k + 1) (add binary64 x y) (plus x * den y + plus y * den x) (less x * den y + less y * den x) (den x * den y) f (mul-pos (den-pos x) (den-pos y)) (add-rounded binary64 x y (within-finite k x v) (within-finite k y w))
+    rounded-within (k + 1) (add binary64 x y) (plus x * den y + plus y * den x) (less x * den y + less y * den x) (den x * den y) f (mul-pos (den-pos x) (den-pos y))
+    (add-rounded binary64 x y (within-finite k x v) (within-finite k y w))
     (subst (λ (z : ℕ). plus x * den y + plus y * den x ≤ z * (den x * den y)) e (h .0)) (subst (λ (z : ℕ). less x * den y + less y * den x ≤ z * (den x * den y)) e (h .1))
 
 pub mul-within : (j k : ℕ) (x y : Float) → Caps (j + k) → InPower j x → InPower k y → InPower (j + k) (mul binary64 x y)
 mul-within j k x y f v w =
     let h = products (plus x) (less x) (den x) (plus y) (less y) (den y) (2 ^ j) (2 ^ k) (size-of j x v) (size-of k y w) in
     let e : 2 ^ j * 2 ^ k ≡ 2 ^ (j + k) = sym (pow-add 2 j k) in
-    rounded-within (j + k) (mul binary64 x y) (plus x * plus y + less x * less y) (plus x * less y + less x * plus y) (den x * den y) f (mul-pos (den-pos x) (den-pos y)) (mul-rounded binary64 x y (within-finite j x v) (within-finite k y w))
+    rounded-within (j + k) (mul binary64 x y) (plus x * plus y + less x * less y) (plus x * less y + less x * plus y) (den x * den y) f (mul-pos (den-pos x) (den-pos y))
+    (mul-rounded binary64 x y (within-finite j x v) (within-finite k y w))
     (subst (λ (z : ℕ). plus x * plus y + less x * less y ≤ z * (den x * den y)) e (h .0)) (subst (λ (z : ℕ). plus x * less y + less x * plus y ≤ z * (den x * den y)) e (h .1))
 
 pub finite-add-num : (x y : Float) → T (finite x) → T (finite y) → T (num? (add binary64 x y))
@@ -111,7 +113,8 @@ mul-low j k x y f v w =
     let a = least-of j x v in
     let b = least-of k y w in
     let e : 2 ^ suc j * 2 ^ suc k ≡ 2 ^ suc (j + suc k) = sym (pow-add 2 (suc j) (suc k)) ∙ ap (λ (z : ℕ). 2 ^ z) (same j (suc k)) in
-    value-le-rounded binary64 (fin false 1 (negsuc (j + suc k))) (mul binary64 x y) (plus x * plus y + less x * less y) (plus x * less y + less x * plus y) (den x * den y) (mul-pos (den-pos x) (den-pos y)) (mul-rounded binary64 x y (v .isFinite) (w .isFinite)) f tt
+    value-le-rounded binary64 (fin false 1 (negsuc (j + suc k))) (mul binary64 x y) (plus x * plus y + less x * less y) (plus x * less y + less x * plus y) (den x * den y)
+    (mul-pos (den-pos x) (den-pos y)) (mul-rounded binary64 x y (v .isFinite) (w .isFinite)) f tt
     (subst (λ (z : ℕ). 1 * 1 * (den x * den y) + (plus x * less y + less x * plus y) * z ≤ (plus x * plus y + less x * less y) * z + 0 * (den x * den y)) e
     (least-lemma (plus x) (less x) (den x) (plus y) (less y) (den y) (2 ^ suc j) (2 ^ suc k) (a .0) (a .1) (b .0) (b .1)))
 
@@ -146,7 +149,8 @@ swap p u q v X c h = omega (arith, h)
 square-low : (k : ℕ) (x y : Float) → T (fits binary64 (power (k + k))) → T (finite x) → T (finite y)
     → 1 * (2 ^ k * 2 ^ k) * (den x * den y) + (plus x * less y + less x * plus y) * 1 ≤ (plus x * plus y + less x * less y) * 1 + 0 * (den x * den y) → T (le (power (k + k)) (mul binary64 x y))
 square-low k x y f p q h =
-    value-le-rounded binary64 (power (k + k)) (mul binary64 x y) (plus x * plus y + less x * less y) (plus x * less y + less x * plus y) (den x * den y) (mul-pos (den-pos x) (den-pos y)) (mul-rounded binary64 x y p q) f tt
+    value-le-rounded binary64 (power (k + k)) (mul binary64 x y) (plus x * plus y + less x * less y) (plus x * less y + less x * plus y) (den x * den y) (mul-pos (den-pos x) (den-pos y))
+    (mul-rounded binary64 x y p q) f tt
     (subst (λ (z : ℕ). 1 * z * (den x * den y) + (plus x * less y + less x * plus y) * 1 ≤ (plus x * plus y + less x * less y) * 1 + 0 * (den x * den y)) (sym (pow-add 2 k k)) h)
 
 pub big-mul : (k : ℕ) (x y : Float) → T (fits binary64 (power (k + k))) → T (finite x) → T (finite y) → T (le (power k) x) → T (le (power k) y) → T (le (power (k + k)) (mul binary64 x y))
@@ -155,7 +159,8 @@ big-mul k x y f p q h g =
     let b = big-of k y q g in
     square-low k x y f p q (big-lemma (plus x) (less x) (den x) (plus y) (less y) (den y) (2 ^ k) (a .0) (a .1) (b .0) (b .1))
 
-pub deep-mul : (k : ℕ) (x y : Float) → T (fits binary64 (power (k + k))) → T (finite x) → T (finite y) → T (le x (fin true 1 (pos k))) → T (le y (fin true 1 (pos k))) → T (le (power (k + k)) (mul binary64 x y))
+pub deep-mul : (k : ℕ) (x y : Float) → T (fits binary64 (power (k + k))) → T (finite x) → T (finite y) → T (le x (fin true 1 (pos k))) → T (le y (fin true 1 (pos k))) → T
+    (le (power (k + k)) (mul binary64 x y))
 deep-mul k x y f p q h g =
     let a = deep-of k x p h in
     let b = deep-of k y q g in
@@ -167,7 +172,8 @@ unfolding sub
 sub-rounded x y p q =
     subst (λ (z : ℕ). Rounded binary64 (add binary64 x (neg y)) (plus x * z + less y * den x) (less x * z + plus y * den x) (den x * z)) (neg-den y)
     (subst (λ (z : ℕ). Rounded binary64 (add binary64 x (neg y)) (plus x * den (neg y) + z * den x) (less x * den (neg y) + plus y * den x) (den x * den (neg y))) (neg-plus y)
-    (subst (λ (z : ℕ). Rounded binary64 (add binary64 x (neg y)) (plus x * den (neg y) + plus (neg y) * den x) (less x * den (neg y) + z * den x) (den x * den (neg y))) (neg-less y) (add-rounded binary64 x (neg y) p q)))
+    (subst (λ (z : ℕ). Rounded binary64 (add binary64 x (neg y)) (plus x * den (neg y) + plus (neg y) * den x) (less x * den (neg y) + z * den x) (den x * den (neg y))) (neg-less y)
+    (add-rounded binary64 x (neg y) p q)))
 
 neg-finite : (y : Float) → T (finite y) → T (finite (neg y))
 unfolding neg
@@ -177,7 +183,8 @@ neg-finite (fin s m e) p = tt
 
 pub nonpos : (x y : Float) → T (finite x) → T (finite y) → T (le x y) → T (le (sub binary64 x y) zero⁺)
 nonpos x y p q h =
-    rounded-le-value binary64 (sub binary64 x y) zero⁺ (plus x * den y + less y * den x) (less x * den y + plus y * den x) (den x * den y) (mul-pos (den-pos x) (den-pos y)) (sub-rounded x y p (neg-finite y q)) (unfold fits in tt) tt
+    rounded-le-value binary64 (sub binary64 x y) zero⁺ (plus x * den y + less y * den x) (less x * den y + plus y * den x) (den x * den y) (mul-pos (den-pos x) (den-pos y))
+    (sub-rounded x y p (neg-finite y q)) (unfold fits in tt) tt
     (go (plus x * den y + less y * den x) (less x * den y + plus y * den x) (den x * den y) (flip (le→cross x y p q h)))
   where
     flip : Cross x y → plus x * den y + less y * den x ≤ less x * den y + plus y * den x
@@ -230,10 +237,12 @@ div-within j k (fin s m e) (fin false zero d) f v w = absurd (none (up d) (2 ^ s
 div-within j k (fin s m e) (fin false (suc n) d) f v w =
     let a = m * up e * down d in
     let c = suc n * up d * down e in
-    let h : a ≤ 2 ^ j * 2 ^ suc k * c = quot (m * up e) (2 ^ j) (down e) (down d) (suc n * up d) (2 ^ suc k) (signs s (m * up e) (2 ^ j) (down e) (size-of j (fin s m e) v)) (least-of k (fin false (suc n) d) w .0) in
+    let h : a ≤ 2 ^ j * 2 ^ suc k * c = quot (m * up e) (2 ^ j) (down e) (down d) (suc n * up d) (2 ^ suc k) (signs s (m * up e) (2 ^ j) (down e) (size-of j (fin s m e) v))
+    (least-of k (fin false (suc n) d) w .0) in
     let g : a ≤ 2 ^ (j + suc k) * c = subst (λ (z : ℕ). a ≤ z * c) (sym (pow-add 2 j (suc k))) h in
     subst (λ (b : Bool). InPower (j + suc k) (cond b (cond (eqb m 0) nan (inf (unlike s false))) (round binary64 (unlike s false) a c))) (sym (lib.Dec.eqb·suc-zero n))
-    (rounded-within (j + suc k) (round binary64 (unlike s false) a c) (P (unlike s false) a) (M (unlike s false) a) c f (mul-pos (mul-pos (zero-lt-suc n) (up-pos d)) (down-pos e)) (record { sign = unlike s false; size = a; made = refl; value = refl })
+    (rounded-within (j + suc k) (round binary64 (unlike s false) a c) (P (unlike s false) a) (M (unlike s false) a) c f (mul-pos (mul-pos (zero-lt-suc n) (up-pos d)) (down-pos e))
+    (record { sign = unlike s false; size = a; made = refl; value = refl })
     (to (P (unlike s false) a) a (2 ^ (j + suc k) * c) (P-le (unlike s false) a) g) (to (M (unlike s false) a) a (2 ^ (j + suc k) * c) (M-le (unlike s false) a) g))
   where
     to : (x y z : ℕ) → x ≤ y → y ≤ z → x ≤ z

@@ -102,11 +102,14 @@ round-keeps f false a c true b d C D h =
     (le-of-signed (round f false 0 c) (round f true 0 d) false 0 c true 0 d C D (round-zero f false c C) (round-zero f true d D) (omega arith)))
 round-keeps f true a c false b d C D h =
     let lo : T (le (round f true a c) (round f true 0 1)) =
-    subst (λ (z : Float). T (le z (round f true 0 1))) (sym (round-neg f a c)) (subst (λ (z : Float). T (le (neg (round f false a c)) z)) (sym (round-neg f 0 1)) (neg-anti (round f false 0 1) (round f false a c) (up-zero f a c C))) in
-    let mid : T (le (round f true 0 1) (round f false 0 1)) = le-of-signed (round f true 0 1) (round f false 0 1) true 0 1 false 0 1 (pow-pos 0) (pow-pos 0) (round-zero f true 1 (pow-pos 0)) (round-zero f false 1 (pow-pos 0)) zero-le in
+    subst (λ (z : Float). T (le z (round f true 0 1))) (sym (round-neg f a c)) (subst (λ (z : Float). T (le (neg (round f false a c)) z)) (sym (round-neg f 0 1))
+    (neg-anti (round f false 0 1) (round f false a c) (up-zero f a c C))) in
+    let mid : T (le (round f true 0 1) (round f false 0 1)) = le-of-signed (round f true 0 1) (round f false 0 1) true 0 1 false 0 1 (pow-pos 0) (pow-pos 0) (round-zero f true 1 (pow-pos 0))
+    (round-zero f false 1 (pow-pos 0)) zero-le in
     le-trans (round f true a c) (round f true 0 1) (round f false b d) lo (le-trans (round f true 0 1) (round f false 0 1) (round f false b d) mid (up-zero f b d D))
 round-keeps f true a c true b d C D h =
-    subst (λ (z : Float). T (le z (round f true b d))) (sym (round-neg f a c)) (subst (λ (z : Float). T (le (neg (round f false a c)) z)) (sym (round-neg f b d)) (neg-anti (round f false b d) (round f false a c) (round-mono f b d a c D C (omega arith))))
+    subst (λ (z : Float). T (le z (round f true b d))) (sym (round-neg f a c)) (subst (λ (z : Float). T (le (neg (round f false a c)) z)) (sym (round-neg f b d))
+    (neg-anti (round f false b d) (round f false a c) (round-mono f b d a c D C (omega arith))))
 
 -- ---- `Rounded f x p u c`: x is (p - u) / c, rounded
 pub record Rounded (f : Format) (x : Float) (p u c : ℕ) : Type 0 where
@@ -138,7 +141,8 @@ own-pos f s m k a b =
     let l = low f in
     let e : m * 2 ^ (k + l) ≡ m * 2 ^ k * 2 ^ l = ap (λ (z : ℕ). m * z) (pow-add 2 k l) ∙ sym (mul-assoc m (2 ^ k) (2 ^ l)) in
     round-exact f s (m * 2 ^ k) 1 m (k + l) (pow-pos 0) a
-    (subst (λ (z : ℕ). z < 2 ^ (l + suc (emax f))) (sym e) (lt-of-lt-of-le (mul-lt-mul-of-pos-right b (pow-pos l)) (le-of-eq (ap (λ (z : ℕ). z * 2 ^ l) (mul-one (2 ^ suc (emax f))) ∙ mul-comm (2 ^ suc (emax f)) (2 ^ l) ∙ sym (pow-add 2 l (suc (emax f)))))))
+    (subst (λ (z : ℕ). z < 2 ^ (l + suc (emax f))) (sym e) (lt-of-lt-of-le (mul-lt-mul-of-pos-right b (pow-pos l))
+    (le-of-eq (ap (λ (z : ℕ). z * 2 ^ l) (mul-one (2 ^ suc (emax f))) ∙ mul-comm (2 ^ suc (emax f)) (2 ^ l) ∙ sym (pow-add 2 l (suc (emax f)))))))
     (sym (mul-one (m * 2 ^ (k + l)) ∙ e))
 
 own-neg : (f : Format) (s : Bool) (m k : ℕ) → m < 2 ^ prec f → 2 ^ suc k ≤ 2 ^ low f → m * 1 < 2 ^ suc (emax f) * 2 ^ suc k → HasValue (round f s (m * 1) (2 ^ suc k)) s (m * 1) (2 ^ suc k)
@@ -165,7 +169,8 @@ round-own f s (suc m) (negsuc k) h =
     let b : Bool = ltb (suc m) (2 ^ prec f) in
     let c : Bool = leb (2 ^ suc k) (2 ^ low f) in
     let d : Bool = ltb (suc m * 1) (2 ^ suc (emax f) * 2 ^ suc k) in
-    own-neg f s (suc m) k (ltb→lt (suc m) (2 ^ prec f) (and-r a b (and-l (a && b) c (and-l (a && b && c) d h)))) (leb→le (2 ^ suc k) (2 ^ low f) (and-r (a && b) c (and-l (a && b && c) d h))) (ltb→lt (suc m * 1) (2 ^ suc (emax f) * 2 ^ suc k) (and-r (a && b && c) d h))
+    own-neg f s (suc m) k (ltb→lt (suc m) (2 ^ prec f) (and-r a b (and-l (a && b) c (and-l (a && b && c) d h)))) (leb→le (2 ^ suc k) (2 ^ low f) (and-r (a && b) c (and-l (a && b && c) d h)))
+    (ltb→lt (suc m * 1) (2 ^ suc (emax f) * 2 ^ suc k) (and-r (a && b && c) d h))
 
 pub rounded-le-value : (f : Format) (x y : Float) (p u c : ℕ) → 0 < c → Rounded f x p u c → T (fits f y) → T (finite y) → p * den y + less y * c ≤ plus y * c + u * den y → T (le x y)
 rounded-le-value f x nan p u c C i h fy k = absurd fy
@@ -210,7 +215,20 @@ add-rounded f (fin s m e) nan p q = absurd q
 add-rounded f (fin s m e) (inf t) p q = absurd q
 add-rounded f (fin s m e) (fin t n d) p q =
     let i = sum-rounded f s (m * up e * down d) t (n * up d * down e) (down e * down d) in
-    record { sign = i .sign; size = i .size; made = i .made; value = omega (arith, i .value, P-mul s (m * up e) (down d), P-mul t (n * up d) (down e), M-mul s (m * up e) (down d), M-mul t (n * up d) (down e)) }
+    record {
+      sign = i .sign;
+      size = i .size;
+      made = i .made;
+      value = omega (
+        arith,
+        i .value,
+        P-mul s (m * up e) (down d),
+        P-mul t (n * up d) (down e),
+        M-mul s (m * up e) (down d),
+        M-mul t (n * up d)
+            (down e),
+      );
+    }
 
 pub mul-rounded : (f : Format) (x y : Float) → T (finite x) → T (finite y) → Rounded f (mul f x y) (plus x * plus y + less x * less y) (plus x * less y + less x * plus y) (den x * den y)
 unfolding mul

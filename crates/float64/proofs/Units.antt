@@ -43,7 +43,8 @@ le-lemma' A B dx C D dy p u q v K Q a b h =
     le-of-mul-le-mul-right {k = dx * dy} (omega (arith, mul-le-mul-right K h, ap (λ (z : ℕ). z * dy) a, ap (λ (z : ℕ). z * dx) b)) Q
 
 pub units-of-le : (f : Format) (x y : Float) (p u q v : ℕ) → Units f x p u → Units f y q v → T (le x y) → p + v ≤ q + u
-units-of-le f x y p u q v i j h = le-lemma' (plus x) (less x) (den x) (plus y) (less y) (den y) p u q v (L f) (mul-pos (den-pos x) (den-pos y)) (i .value) (j .value) (le→cross x y (i .isFinite) (j .isFinite) h)
+units-of-le f x y p u q v i j h = le-lemma' (plus x) (less x) (den x) (plus y) (less y) (den y) p u q v (L f) (mul-pos (den-pos x) (den-pos y)) (i .value) (j .value)
+    (le→cross x y (i .isFinite) (j .isFinite) h)
 
 -- ---- the same rounded value from an equal fraction: (A - B) / c ≡ (q - v) / d
 re-pos : (A B c q v d m : ℕ) → 0 < c → m + B ≡ A + 0 → A * d + v * c ≡ q * c + B * d → v ≤ q
@@ -143,7 +144,15 @@ has-pos f m k a b =
     let e : m * 2 ^ (k + l) ≡ m * 2 ^ k * 2 ^ l = ap (λ (z : ℕ). m * z) (pow-add 2 k l) ∙ sym (mul-assoc m (2 ^ k) (2 ^ l)) in
     record {
       count = m * 2 ^ (k + l);
-      rep = record { q = m; j = k + l; small = a; eqn = refl; under = subst (λ (z : ℕ). z < 2 ^ (l + suc (emax f))) (sym e) (lt-of-lt-of-le (N.mul-lt-mul-of-pos-right b (pow-pos l)) (le-of-eq (ap (λ (z : ℕ). z * 2 ^ l) (mul-one (2 ^ suc (emax f))) ∙ mul-comm (2 ^ suc (emax f)) (2 ^ l) ∙ sym (pow-add 2 l (suc (emax f)))))) };
+      rep = record {
+        q = m;
+        j = k + l;
+        small = a;
+        eqn = refl;
+        under = subst (λ (z : ℕ). z < 2 ^ (l + suc (emax f))) (sym e)
+            (lt-of-lt-of-le (N.mul-lt-mul-of-pos-right b (pow-pos l)) (le-of-eq (ap (λ (z : ℕ). z * 2 ^ l) (mul-one (2 ^ suc (emax f))) ∙ mul-comm (2 ^ suc (emax f)) (2 ^ l) ∙ sym
+            (pow-add 2 l (suc (emax f))))));
+      };
       same = sym (mul-one (m * 2 ^ (k + l)) ∙ e);
     }
 
@@ -179,7 +188,8 @@ has f s (suc m) (negsuc k) h =
     let b : Bool = ltb (suc m) (2 ^ prec f) in
     let c : Bool = leb (2 ^ suc k) (2 ^ low f) in
     let d : Bool = ltb (suc m * 1) (2 ^ suc (emax f) * 2 ^ suc k) in
-    has-neg f (suc m) k (ltb→lt (suc m) (2 ^ prec f) (and-r a b (and-l (a && b) c (and-l (a && b && c) d h)))) (leb→le (2 ^ suc k) (2 ^ low f) (and-r (a && b) c (and-l (a && b && c) d h))) (ltb→lt (suc m * 1) (2 ^ suc (emax f) * 2 ^ suc k) (and-r (a && b && c) d h))
+    has-neg f (suc m) k (ltb→lt (suc m) (2 ^ prec f) (and-r a b (and-l (a && b) c (and-l (a && b && c) d h)))) (leb→le (2 ^ suc k) (2 ^ low f) (and-r (a && b) c (and-l (a && b && c) d h)))
+    (ltb→lt (suc m * 1) (2 ^ suc (emax f) * 2 ^ suc k) (and-r (a && b && c) d h))
 
 -- the value of x: its sign and its number of units
 pub record Value (f : Format) (x : Float) : Type 0 where
@@ -205,7 +215,8 @@ rounded-grid f x p u c i h = go (i .sign) (i .size) (i .made)
 
     go : (s : Bool) (m : ℕ) → x ≡ round f s m c → Units f x (P s (grid f m c)) (M s (grid f m c))
     go false m e = subst (λ (z : Float). Units f z (grid f m c) 0) (sym e) (plain m (subst (λ (z : Float). T (finite z)) e h))
-    go true m e = subst (λ (z : Float). Units f z 0 (grid f m c)) (sym (e ∙ round-neg f m c)) (neg-units f (round f false m c) (grid f m c) 0 (plain m (un-neg (round f false m c) (subst (λ (z : Float). T (finite z)) (e ∙ round-neg f m c) h))))
+    go true m e = subst (λ (z : Float). Units f z 0 (grid f m c)) (sym (e ∙ round-neg f m c)) (neg-units f (round f false m c) (grid f m c) 0
+        (plain m (un-neg (round f false m c) (subst (λ (z : Float). T (finite z)) (e ∙ round-neg f m c) h))))
 
 -- ---- how far rounding moves: half a step either way
 abbrev Cmp : Ordering → ℕ → ℕ → Type 0

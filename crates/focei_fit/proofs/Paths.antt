@@ -35,7 +35,8 @@ use Rattle.focei_fit.specs.Output.{settings, firstParameters, begun, rep
 
 -- ---- the calls; `taken` are the words of the reply
 module _ (counts observations : List ℕ) (h : Held words) where
-  pub begins : {setup : Setup} {p : Parameters} {r : Ran (Held words) Step} → setup ≡ settings → p ≡ firstParameters → r ≡ callOf setup counts observations (objective p) h → r ≡ begun counts observations h
+  pub begins : {setup : Setup} {p : Parameters} {r : Ran (Held words) Step} → setup ≡ settings → p ≡ firstParameters → r ≡ callOf setup counts observations (objective p) h → r ≡ begun counts
+      observations h
   unfolding begun
   begins e f q = q ∙ (λ i. callOf (e i) counts observations (objective (f i)) h)
 
@@ -48,7 +49,8 @@ module _ (counts observations : List ℕ) (h : Held words) where
       ∙ ap (λ (n : ℕ). callOf settings counts observations (rows (reply input (h .whole .progress .first) n (individual .first))) h) f
 
 -- the words of a reply are all of it
-pub whole-reply : {r : ℕ} {w' : List ℕ} (input w : List ℕ) (first n : ℕ) (individual : Float) → length input ≤ 12288 → 1024 ≤ length w → written r w' ≡ write (reply input first n individual) (written 0 w) → take r w' ≡ reply input first n individual
+pub whole-reply : {r : ℕ} {w' : List ℕ} (input w : List ℕ) (first n : ℕ) (individual : Float) → length input ≤ 12288 → 1024 ≤ length w → written r w' ≡ write (reply input first n individual)
+    (written 0 w) → take r w' ≡ reply input first n individual
 whole-reply input w first n individual h j e = let most = reply-length input first n individual in front (reply input first n individual) w (omega arith) e
 
 -- ---- question and answer
@@ -81,7 +83,8 @@ module _ (input counts observations : List ℕ) (left : ℕ) (r : Ran (Held word
   play-refused h e = over h (λ go. ap (whenAsked go r) (sym e))
 
 -- the objective to its end, from where it begins
-pub plays : {setup : Setup} {p : Parameters} {first r : Ran (Held words) Step} (input counts observations : List ℕ) (h : Held words) → setup ≡ settings → p ≡ firstParameters → first ≡ callOf setup counts observations (objective p) h
+pub plays : {setup : Setup} {p : Parameters} {first r : Ran (Held words) Step} (input counts observations : List ℕ) (h : Held words) → setup ≡ settings → p ≡ firstParameters → first ≡ callOf setup
+    counts observations (objective p) h
     → r ≡ play input counts observations 10001 first → r ≡ play input counts observations 10001 (begun counts observations h)
 plays input counts observations h e f g q = q ∙ ap (play input counts observations 10001) (begins counts observations h e f g)
 
@@ -95,7 +98,8 @@ module _ (counts : List ℕ) (state : State) (tally : Tally) (results : List ℕ
   unfolding ended
   told-refused e q = q ∙ ap (λ (s : Step). write (ended counts state tally results s) t) (sym e)
 
-  pub told-finished : {x shrunk : Float} {t' : Written} → step ≡ Finished x → shrunk ≡ shrinkage state (length counts) → t' ≡ write (finished x (tally .calls .0) shrunk counts results) t → t' ≡ write (ended counts state tally results step) t
+  pub told-finished : {x shrunk : Float} {t' : Written} → step ≡ Finished x → shrunk ≡ shrinkage state (length counts) → t' ≡ write (finished x (tally .calls .0) shrunk counts results) t → t' ≡ write
+      (ended counts state tally results step) t
   unfolding ended
   told-finished {x} e f q =
       q
@@ -114,7 +118,8 @@ module _ (input counts observations cache work warm results : List ℕ) (t : Wri
       ap (whenOpened input counts observations results (begunWith b cache₁ work₁ warm₁)) (sym f)
       ∙ ap (λ (s : Setting). whenOpened input counts observations results s (s .begun .opening)) setting
 
-  pub not-opened : {number : ℕ} {place : Place} {t' : Written} → b .opening ≡ Opens.Refused number place → t' ≡ write (refusalLine number place) t → t' ≡ write (fitted input counts observations cache work warm results) t
+  pub not-opened : {number : ℕ} {place : Place} {t' : Written} → b .opening ≡ Opens.Refused number place → t' ≡ write (refusalLine number place) t → t' ≡ write
+      (fitted input counts observations cache work warm results) t
   unfolding whenOpened
   not-opened f g = g ∙ ap (λ (l : List ℕ). write l t) (opened-as _ f)
 
@@ -131,7 +136,8 @@ whole-counts input w n h j e = let as-many = counts-length input n in front (cou
 pub few-counts : {l : List ℕ} (input : List ℕ) (n : ℕ) → l ≡ countsIn input n → n ≤ 256 → length l ≤ 256
 few-counts input n e h = let as-many = ap length e ∙ counts-length input n in omega arith
 
-pub whole-observations : {r : ℕ} {w' : List ℕ} (input w : List ℕ) → length input ≤ 12288 → length w ≡ 1280 → written r w' ≡ write (observationsIn input) (written 0 w) → take r w' ≡ observationsIn input
+pub whole-observations : {r : ℕ} {w' : List ℕ} (input w : List ℕ) → length input ≤ 12288 → length w ≡ 1280 → written r w' ≡ write (observationsIn input) (written 0 w) → take r w' ≡ observationsIn
+    input
 whole-observations input w h j e = let as-many = observations-length input in front (observationsIn input) w (omega arith) e
 
 pub lends : {cs os : List ℕ} {t' : Written} (input : List ℕ) (n : ℕ) (t : Written) → cs ≡ countsIn input n → os ≡ observationsIn input

@@ -11,7 +11,8 @@ use lib.ListN.{length, length-append}
 use Rattle.float64.specs.Pick.{pick, cases, pick-no}
 use Rattle.focei_records.specs.declared.Cohort.{Cohort}
 use Rattle.focei_records.specs.declared.Cohort.the-variants.{Subjects, Refused}
-use Rattle.focei_records.specs.Records.{records, subjectAt, reservedAt, cohortFrom, cohort, countFrom, countsFrom, counts, observationAt, observationsFrom, observations, rowAt, repliedFrom, reply}
+use Rattle.focei_records.specs.Records.{records, subjectAt, reservedAt, cohortFrom, cohort, countFrom, countsFrom, counts, observationAt, observationsFrom, observations, rowAt, repliedFrom}
+use Rattle.focei_records.specs.Records.{reply}
 
 -- ---- the counts: one for each subject
 counts-from : (left : ℕ) (input : List ℕ) (s : ℕ) → length (countsFrom left input s) ≡ left
@@ -74,7 +75,8 @@ few-records input {n} e =
     (λ w.
     cases (λ (r : Cohort). r ≡ Subjects n → (length input ≤ 12288) × (n ≤ 256)) (ltb 256 (records input))
     (λ _ q. refuses q)
-    (λ f q. let few : records input ≤ 256 = ltb-false _ _ f in let most = subjects-from (records input) input 0 0 q in let whole : length input % 48 ≡ 0 = eqb-true _ _ w in (omega arith, omega arith)))
+    (λ f q. let few : records input ≤ 256 = ltb-false _ _ f in let most = subjects-from (records input) input 0 0 q in let whole : length input % 48 ≡ 0 = eqb-true _ _ w in
+    (omega arith, omega arith)))
     (λ _ q. refuses q)
     e
   where

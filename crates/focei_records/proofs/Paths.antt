@@ -15,7 +15,8 @@ use Rattle.words.specs.Written.{Written, written, write}
 use Rattle.words.proofs.Front.{write-append}
 use Rattle.focei_records.specs.declared.Cohort.{Cohort}
 use Rattle.focei_records.specs.declared.Cohort.the-variants.{Subjects, Refused}
-use Rattle.focei_records.specs.Records.{records, subjectAt, reservedAt, floatAt, cohortFrom, cohort, countFrom, countsFrom, counts, observationAt, observationsFrom, observations, rowAt, repliedFrom, reply}
+use Rattle.focei_records.specs.Records.{records, subjectAt, reservedAt, floatAt, cohortFrom, cohort, countFrom, countsFrom, counts, observationAt, observationsFrom, observations, rowAt}
+use Rattle.focei_records.specs.Records.{repliedFrom, reply}
 
 -- ---- what is left of n turns after i
 none-left : (n i : ℕ) → n ≤ i → 0 ≡ n - i
@@ -96,7 +97,8 @@ module _ (n s : ℕ) (input : List ℕ) (t : Written) where
   unfolding countsFrom write
   counts-end h = ap (λ (m : ℕ). write (countsFrom m input s) t) (none-left n s h)
 
-  pub counts-step : {w : ℕ} {t' : Written} → s < n → w ≡ countFrom (records input) input 0 s → t' ≡ write (w ∷ []) t → write (countsFrom (n - (s + 1)) input (s + 1)) t' ≡ write (countsFrom (n - s) input s) t
+  pub counts-step : {w : ℕ} {t' : Written} → s < n → w ≡ countFrom (records input) input 0 s → t' ≡ write (w ∷ []) t → write (countsFrom (n - (s + 1)) input (s + 1)) t' ≡ write
+      (countsFrom (n - s) input s) t
   unfolding countsFrom write
   counts-step h e q =
       ap (write (countsFrom (n - (s + 1)) input (s + 1))) (q ∙ ap (λ (w : ℕ). write (w ∷ []) t) e) ∙ ap (λ (m : ℕ). write (countsFrom m input s) t) (one-more n s h)
@@ -106,7 +108,8 @@ unfolding counts
 counts-all n input t e = e
 
 -- ---- an observation's words, and those of all
-pub observed : {x row v a p : ℕ} {t₁ t₂ t₃ t₄ t₅ : Written} (input : List ℕ) (i : ℕ) (t : Written) → x ≡ subjectAt input i → row ≡ countFrom i input 0 x → t₁ ≡ write (0 ∷ []) t → t₂ ≡ write (row ∷ []) t₁
+pub observed : {x row v a p : ℕ} {t₁ t₂ t₃ t₄ t₅ : Written} (input : List ℕ) (i : ℕ) (t : Written) → x ≡ subjectAt input i → row ≡ countFrom i input 0 x → t₁ ≡ write (0 ∷ []) t → t₂ ≡ write (row ∷ [])
+    t₁
     → v ≡ floatAt input i 0 → t₃ ≡ write (v ∷ []) t₂ → a ≡ floatAt input i 1 → t₄ ≡ write (a ∷ []) t₃ → p ≡ floatAt input i 2 → t₅ ≡ write (p ∷ []) t₄ → t₅ ≡ write (observationAt input i) t
 unfolding observationAt write
 observed input i t ex er e₁ e₂ ev e₃ ea e₄ ep e₅ =
@@ -133,8 +136,10 @@ unfolding observations
 observations-all input t e = e
 
 -- ---- a row of a reply, and all of them; b and s are the words of base and slope, x and y these
-pub simulated : {b s v d : ℕ} {x y : Float} {t₁ t₂ t₃ t₄ : Written} (input : List ℕ) (individual : Float) (i : ℕ) (t : Written) → b ≡ floatAt input i 3 → x ≡ word b → s ≡ floatAt input i 4 → y ≡ word s
-    → t₁ ≡ write (0 ∷ []) t → t₂ ≡ write (0 ∷ []) t₁ → v ≡ toBits binary64 (x +ᶠ y *ᶠ individual) → t₃ ≡ write (v ∷ []) t₂ → d ≡ toBits binary64 y → t₄ ≡ write (d ∷ []) t₃ → t₄ ≡ write (rowAt input individual i) t
+pub simulated : {b s v d : ℕ} {x y : Float} {t₁ t₂ t₃ t₄ : Written} (input : List ℕ) (individual : Float) (i : ℕ) (t : Written) → b ≡ floatAt input i 3 → x ≡ word b → s ≡ floatAt input i 4 → y ≡ word
+    s
+    → t₁ ≡ write (0 ∷ []) t → t₂ ≡ write (0 ∷ []) t₁ → v ≡ toBits binary64 (x +ᶠ y *ᶠ individual) → t₃ ≡ write (v ∷ []) t₂ → d ≡ toBits binary64 y → t₄ ≡ write (d ∷ []) t₃ → t₄ ≡ write
+    (rowAt input individual i) t
 unfolding rowAt write
 simulated input individual i t eb ex es ey e₁ e₂ ev e₃ ed e₄ =
     let x-is = ex ∙ ap word eb in
@@ -159,7 +164,8 @@ module _ (left i : ℕ) (input : List ℕ) (individual : Float) (t : Written) wh
     unfolding repliedFrom write
     reply-short j = ap (λ (l : List ℕ). write l t) (no _ (le-ltb _ _ j) refl) ∙ ap (λ (m : ℕ). write (repliedFrom m input individual i) t) more
 
-    pub reply-step : {t' : Written} → i < length input / 48 → t' ≡ write (rowAt input individual i) t → write (repliedFrom (left - 1) input individual (i + 1)) t' ≡ write (repliedFrom left input individual i) t
+    pub reply-step : {t' : Written} → i < length input / 48 → t' ≡ write (rowAt input individual i) t → write (repliedFrom (left - 1) input individual (i + 1)) t' ≡ write
+        (repliedFrom left input individual i) t
     unfolding repliedFrom
     reply-step j q =
         ap (write (repliedFrom (left - 1) input individual (i + 1))) q
@@ -167,6 +173,7 @@ module _ (left i : ℕ) (input : List ℕ) (individual : Float) (t : Written) wh
         ∙ ap (λ (l : List ℕ). write l t) (yes _ (lt-ltb _ _ j) refl)
         ∙ ap (λ (m : ℕ). write (repliedFrom m input individual i) t) more
 
-pub reply-all : {t' : Written} (input : List ℕ) (first rows : ℕ) (individual : Float) (t : Written) → t' ≡ write (repliedFrom rows input individual first) t → t' ≡ write (reply input first rows individual) t
+pub reply-all : {t' : Written} (input : List ℕ) (first rows : ℕ) (individual : Float) (t : Written) → t' ≡ write (repliedFrom rows input individual first) t → t' ≡ write
+    (reply input first rows individual) t
 unfolding reply
 reply-all input first rows individual t e = e

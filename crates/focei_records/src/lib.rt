@@ -6,7 +6,8 @@ ghost use mathlib.Core.Path.{_≡_};
 ghost use Prim.Native.Nat.{_+_, _*_, _/_, _≤_, _<_};
 ghost use lib.ListN.{length};
 ghost use Rattle.words.specs.Written.{written, write};
-ghost use Rattle.focei_records.specs.Records.{halfAt, wordAt, subjectAt, reservedAt, floatAt, countFrom, counts, observationAt, observations, cohortFrom, cohort, rowAt, reply};
+ghost use Rattle.focei_records.specs.Records.{halfAt, wordAt, subjectAt, reservedAt, floatAt, countFrom, counts, observationAt};
+ghost use Rattle.focei_records.specs.Records.{observations, cohortFrom, cohort, rowAt, reply};
 
 // The bytes of a record.
 pub const RECORD_BYTES: usize = 48;

@@ -14,7 +14,8 @@ use Rattle.population.specs.Population.{rowsOf}
 use Rattle.search.specs.declared.Place.{Place}
 use Rattle.search.specs.declared.Place.the-variants.{Nowhere, Subject, Observation}
 use Rattle.focei_text.specs.Writing.{hexFrom, hexadecimal, digits, decimal}
-use Rattle.focei_text.specs.Report.{fields, line, none, subjectField, observationField, refusalLine, objectiveLine, subjectLine, fittedLine, shrinkageLine, subjectLines, fittedLines, allFitted, subjectsOf, finished}
+use Rattle.focei_text.specs.Report.{fields, line, none, subjectField, observationField, refusalLine, objectiveLine, subjectLine, fittedLine, shrinkageLine, subjectLines, fittedLines, allFitted}
+use Rattle.focei_text.specs.Report.{subjectsOf, finished}
 
 -- ---- numbers
 hex-from : (left w : ℕ) → length (hexFrom left w) ≡ left

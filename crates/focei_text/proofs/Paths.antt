@@ -25,7 +25,8 @@ hex-end zero w t h = refl
 hex-end (suc left) w t h = absurd (omega arith)
 
 -- g is the topmost digit, t' what was written with it
-pub hex-step : {g : ℕ} {t' : Written} (left w : ℕ) (t : Written) → 0 < left → g ≡ glyph (w / 0x1000_0000_0000_0000) → t' ≡ write (g ∷ []) t → write (hexFrom (left - 1) (w % 0x1000_0000_0000_0000 * 16)) t' ≡ write (hexFrom left w) t
+pub hex-step : {g : ℕ} {t' : Written} (left w : ℕ) (t : Written) → 0 < left → g ≡ glyph (w / 0x1000_0000_0000_0000) → t' ≡ write (g ∷ []) t → write
+    (hexFrom (left - 1) (w % 0x1000_0000_0000_0000 * 16)) t' ≡ write (hexFrom left w) t
 unfolding write hexFrom
 hex-step left w t h eg e =
     let more : suc (left - 1) ≡ left = omega arith in

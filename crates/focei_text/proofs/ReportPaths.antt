@@ -16,7 +16,8 @@ use Rattle.work.specs.Work.{mostRows, mostSubjects}
 use Rattle.population.specs.Population.{rowsOf}
 use Rattle.search.specs.declared.Place.{Place}
 use Rattle.search.specs.declared.Place.the-variants.{Nowhere, Subject, Observation}
-use Rattle.focei_text.specs.Report.{fields, line, none, subjectField, observationField, refusalLine, objectiveLine, subjectLine, fittedLine, shrinkageLine, subjectLines, fittedLines, allFitted, subjectsOf, finished}
+use Rattle.focei_text.specs.Report.{fields, line, none, subjectField, observationField, refusalLine, objectiveLine, subjectLine, fittedLine, shrinkageLine, subjectLines, fittedLines, allFitted}
+use Rattle.focei_text.specs.Report.{subjectsOf, finished}
 
 -- ---- what is left of n turns after i
 none-left : (n i : ℕ) → n ≤ i → 0 ≡ n - i
@@ -60,7 +61,8 @@ pub objective-told : {w : ℕ} {t₁ t₂ t₃ t₄ : Written} (objective : Floa
 unfolding objectiveLine
 objective-told objective evaluations t e₁ ew e₂ e₃ e₄ = letter 79 _ t e₁ (field _ _ _ (of-float objective _ ew e₂) (field _ _ _ e₃ (ends _ e₄)))
 
-pub subject-told : {t₁ t₂ t₃ t₄ : Written} (subject eta : ℕ) (t : Written) → t₁ ≡ write (83 ∷ []) t → t₂ ≡ write (32 ∷ decimal subject) t₁ → t₃ ≡ write (32 ∷ hexadecimal eta) t₂ → t₄ ≡ write (10 ∷ []) t₃
+pub subject-told : {t₁ t₂ t₃ t₄ : Written} (subject eta : ℕ) (t : Written) → t₁ ≡ write (83 ∷ []) t → t₂ ≡ write (32 ∷ decimal subject) t₁ → t₃ ≡ write (32 ∷ hexadecimal eta) t₂ → t₄ ≡ write (10 ∷ [])
+    t₃
     → t₄ ≡ write (subjectLine subject eta) t
 unfolding subjectLine
 subject-told subject eta t e₁ e₂ e₃ e₄ = letter 83 _ t e₁ (field _ _ _ e₂ (field _ _ _ e₃ (ends _ e₄)))
@@ -70,7 +72,8 @@ pub fitted-told : {t₁ t₂ t₃ t₄ t₅ t₆ : Written} (subject n populatio
 unfolding fittedLine
 fitted-told subject n population individual t e₁ e₂ e₃ e₄ e₅ e₆ = letter 70 _ t e₁ (field _ _ _ e₂ (field _ _ _ e₃ (field _ _ _ e₄ (field _ _ _ e₅ (ends _ e₆)))))
 
-pub shrinkage-told : {w : ℕ} {t₁ t₂ t₃ : Written} (shrinkage : Float) (t : Written) → t₁ ≡ write (72 ∷ []) t → w ≡ toBits binary64 shrinkage → t₂ ≡ write (32 ∷ hexadecimal w) t₁ → t₃ ≡ write (10 ∷ []) t₂
+pub shrinkage-told : {w : ℕ} {t₁ t₂ t₃ : Written} (shrinkage : Float) (t : Written) → t₁ ≡ write (72 ∷ []) t → w ≡ toBits binary64 shrinkage → t₂ ≡ write (32 ∷ hexadecimal w) t₁ → t₃ ≡ write (10 ∷ [])
+    t₂
     → t₃ ≡ write (shrinkageLine shrinkage) t
 unfolding shrinkageLine
 shrinkage-told shrinkage t e₁ ew e₂ e₃ = letter 72 _ t e₁ (field _ _ _ (of-float shrinkage _ ew e₂) (ends _ e₃))
@@ -81,7 +84,8 @@ module _ (n s : ℕ) (results : List ℕ) (t : Written) where
   unfolding subjectLines write
   subjects-end h = ap (λ (m : ℕ). write (subjectLines m s results) t) (none-left n s h)
 
-  pub subjects-step : {eta : ℕ} {t' : Written} → s < n → eta ≡ getD results (3 * s) 0 → t' ≡ write (subjectLine s eta) t → write (subjectLines (n - (s + 1)) (s + 1) results) t' ≡ write (subjectLines (n - s) s results) t
+  pub subjects-step : {eta : ℕ} {t' : Written} → s < n → eta ≡ getD results (3 * s) 0 → t' ≡ write (subjectLine s eta) t → write (subjectLines (n - (s + 1)) (s + 1) results) t' ≡ write
+      (subjectLines (n - s) s results) t
   unfolding subjectLines
   subjects-step h e q =
       ap (write (subjectLines (n - (s + 1)) (s + 1) results)) (q ∙ ap (λ (w : ℕ). write (subjectLine s w) t) e)
@@ -94,7 +98,8 @@ module _ (n s i a : ℕ) (results : List ℕ) (t : Written) where
   unfolding fittedLines write
   fitted-end h = ap (λ (m : ℕ). write (fittedLines m s i a results) t) (none-left n i h)
 
-  pub fitted-step : {x y : ℕ} {t' : Written} → i < n → x ≡ getD results a 0 → y ≡ getD results (a + 1) 0 → t' ≡ write (fittedLine s i x y) t → write (fittedLines (n - (i + 1)) s (i + 1) (a + 2) results) t' ≡ write (fittedLines (n - i) s i a results) t
+  pub fitted-step : {x y : ℕ} {t' : Written} → i < n → x ≡ getD results a 0 → y ≡ getD results (a + 1) 0 → t' ≡ write (fittedLine s i x y) t → write
+      (fittedLines (n - (i + 1)) s (i + 1) (a + 2) results) t' ≡ write (fittedLines (n - i) s i a results) t
   unfolding fittedLines
   fitted-step h ex ey q =
       ap (write (fittedLines (n - (i + 1)) s (i + 1) (a + 2) results)) (q ∙ (λ d. write (fittedLine s i (ex d) (ey d)) t))
@@ -107,7 +112,8 @@ module _ (n s a : ℕ) (counts results : List ℕ) (t : Written) where
   unfolding allFitted write
   all-end h = ap (λ (m : ℕ). write (allFitted m s a counts results) t) (none-left n s h)
 
-  pub all-step : {rows : ℕ} {t' : Written} → s < n → rows ≡ rowsOf counts s → t' ≡ write (fittedLines rows s 0 a results) t → write (allFitted (n - (s + 1)) (s + 1) (a + 2 * rows) counts results) t' ≡ write (allFitted (n - s) s a counts results) t
+  pub all-step : {rows : ℕ} {t' : Written} → s < n → rows ≡ rowsOf counts s → t' ≡ write (fittedLines rows s 0 a results) t → write (allFitted (n - (s + 1)) (s + 1) (a + 2 * rows) counts results) t' ≡
+      write (allFitted (n - s) s a counts results) t
   unfolding allFitted
   all-step h e q =
       (λ d. write (allFitted (n - (s + 1)) (s + 1) (a + 2 * e d) counts results) ((q ∙ ap (λ (m : ℕ). write (fittedLines m s 0 a results) t) e) d))
@@ -134,11 +140,14 @@ module _ (counts : List ℕ) where
   pub few-subjects : {n : ℕ} → n ≡ subjectsOf counts → n ≤ 4096
   unfolding subjectsOf
   few-subjects e =
-      let low : pick (ltb (length counts) mostSubjects) (length counts) mostSubjects ≤ 4096 = cases (λ (k : ℕ). k ≤ 4096) (ltb (length counts) mostSubjects) (λ q. omega (arith, ltb-true)) (λ q. omega arith) in
+      let low : pick (ltb (length counts) mostSubjects) (length counts) mostSubjects ≤ 4096 = cases (λ (k : ℕ). k ≤ 4096) (ltb (length counts) mostSubjects) (λ q. omega (arith, ltb-true))
+      (λ q. omega arith) in
       omega arith
 
-pub all-told : {n : ℕ} {t₁ t₂ t₃ t₄ : Written} (objective : Float) (evaluations : ℕ) (shrinkage : Float) (counts results : List ℕ) (t : Written) → n ≡ subjectsOf counts → t₁ ≡ write (objectiveLine objective evaluations) t
-    → t₂ ≡ write (subjectLines n 0 results) t₁ → t₃ ≡ write (allFitted n 0 (3 * n) counts results) t₂ → t₄ ≡ write (shrinkageLine shrinkage) t₃ → t₄ ≡ write (finished objective evaluations shrinkage counts results) t
+pub all-told : {n : ℕ} {t₁ t₂ t₃ t₄ : Written} (objective : Float) (evaluations : ℕ) (shrinkage : Float) (counts results : List ℕ) (t : Written) → n ≡ subjectsOf counts → t₁ ≡ write
+    (objectiveLine objective evaluations) t
+    → t₂ ≡ write (subjectLines n 0 results) t₁ → t₃ ≡ write (allFitted n 0 (3 * n) counts results) t₂ → t₄ ≡ write (shrinkageLine shrinkage) t₃ → t₄ ≡ write
+    (finished objective evaluations shrinkage counts results) t
 unfolding finished
 all-told {t₁ = t₁} {t₂ = t₂} objective evaluations shrinkage counts results t e e₁ e₂ e₃ e₄ =
     after _ _ t

@@ -58,7 +58,8 @@ shrinkageLine shrinkage = line 72 (hexadecimal (toBits binary64 shrinkage) ∷ [
 -- so many subjects from one on
 unfoldable pub subjectLines : ℕ → ℕ → List ℕ → List ℕ
 subjectLines zero subject results = []
-subjectLines (suc left) subject results = subjectLine subject (getD results (resultWords * subject) 0) ++ subjectLines left (subject + 1) results
+subjectLines (suc left) subject results =
+    subjectLine subject (getD results (resultWords * subject) 0) ++ subjectLines left (subject + 1) results
 
 -- so many observations of a subject from one on, whose predictions stand from a word on
 unfoldable pub fittedLines : ℕ → ℕ → ℕ → ℕ → List ℕ → List ℕ
@@ -70,7 +71,8 @@ fittedLines (suc left) subject n at results =
 unfoldable pub allFitted : ℕ → ℕ → ℕ → List ℕ → List ℕ → List ℕ
 allFitted zero subject at counts results = []
 allFitted (suc left) subject at counts results =
-    fittedLines (rowsOf counts subject) subject 0 at results ++ allFitted left (subject + 1) (at + fittedWords * rowsOf counts subject) counts results
+    fittedLines (rowsOf counts subject) subject 0 at results
+    ++ allFitted left (subject + 1) (at + fittedWords * rowsOf counts subject) counts results
 
 -- at most the domain's largest number
 unfoldable pub subjectsOf : List ℕ → ℕ
@@ -79,4 +81,5 @@ subjectsOf counts = pick (ltb (length counts) mostSubjects) (length counts) most
 unfoldable pub finished : Float → ℕ → Float → List ℕ → List ℕ → List ℕ
 finished objective evaluations shrinkage counts results =
     let n = subjectsOf counts in
-    objectiveLine objective evaluations ++ subjectLines n 0 results ++ allFitted n 0 (resultWords * n) counts results ++ shrinkageLine shrinkage
+    objectiveLine objective evaluations ++ subjectLines n 0 results
+    ++ allFitted n 0 (resultWords * n) counts results ++ shrinkageLine shrinkage

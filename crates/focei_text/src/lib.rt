@@ -9,7 +9,8 @@ ghost use mathlib.Core.List.{[], _∷_};
 ghost use Prim.Native.Nat.{_<_, _*_, _≤_};
 ghost use Rattle.words.specs.Written.{written, write};
 ghost use Rattle.focei_text.specs.Writing.{glyph, hexadecimal, digits, decimal};
-ghost use Rattle.focei_text.specs.Report.{none, subjectField, observationField, objectiveLine, subjectLine, fittedLine, shrinkageLine, refusalLine, subjectLines, fittedLines, allFitted, subjectsOf, finished};
+ghost use Rattle.focei_text.specs.Report.{none, subjectField, observationField, objectiveLine, subjectLine, fittedLine};
+ghost use Rattle.focei_text.specs.Report.{shrinkageLine, refusalLine, subjectLines, fittedLines, allFitted, subjectsOf, finished};
 use search::Place;
 use work::FITTED_WORDS;
 use work::RESULT_WORDS;
@@ -217,7 +218,8 @@ fn fitted_lines(
 fn all_fitted(out: &mut [u8], at: usize, subjects: usize, counts: &[u64], results: &[u64]) -> usize
     requires { ⌜ subjects ≤ 4096 ⌝ }
     ensures { λ r. ⌜ written r (now (out .exit))
-        ≡ write (allFitted subjects 0 (resultWords * subjects) (now (counts .entry)) (now (results .entry))) (written at (now (out .entry))) ⌝ }
+        ≡ write (allFitted subjects 0 (resultWords * subjects) (now (counts .entry)) (now (results .entry)))
+        (written at (now (out .entry))) ⌝ }
 {
     let mut end = at;
     let mut subject = 0;

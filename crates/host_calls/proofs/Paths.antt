@@ -35,7 +35,8 @@ use Rattle.session.specs.declared.State.{State}
 use Rattle.state_words.specs.SessionWords as W
 use Rattle.state_words.specs.declared.LoadedState.{LoadedState}
 use Rattle.state_words.specs.declared.LoadedState.the-variants.{Given, None}
-use Rattle.host_calls.specs.Hosting.{additiveSd, setupOf, parametersOf, setupFrom, setupBits, parametersFrom, parameterBits, answerWords, placeWords, answerOf, answered, numberOf, isUnaltered, toldAs, told, noState, openedTo, opened, Out, outOf, out, did, unknown, withState, openWith, objectiveWith, failureWith, finishWith}
+use Rattle.host_calls.specs.Hosting.{additiveSd, setupOf, parametersOf, setupFrom, setupBits, parametersFrom, parameterBits, answerWords, placeWords, answerOf, answered, numberOf, isUnaltered}
+use Rattle.host_calls.specs.Hosting.{toldAs, told, noState, openedTo, opened, Out, outOf, out, did, unknown, withState, openWith, objectiveWith, failureWith, finishWith}
 use Rattle.host_calls.specs.declared.AnswerWords.{AnswerWords}
 use Rattle.host_calls.specs.declared.Done.{Done}
 use Rattle.host_calls.specs.declared.SessionParameters.{SessionParameters}
@@ -137,7 +138,8 @@ module _ (number : ℕ) {place : Place} where
   observation-words t = ap (placeWords number) (sym t)
 
 module _ {step : Step} where
-  pub asked-words : {eta individual : Pair} {a b c d : ℕ} → step ≡ Says.Asked eta individual → a ≡ toBits binary64 (eta .first) → b ≡ toBits binary64 (eta .second) → c ≡ toBits binary64 (individual .first) → d ≡ toBits binary64 (individual .second)
+  pub asked-words : {eta individual : Pair} {a b c d : ℕ} → step ≡ Says.Asked eta individual → a ≡ toBits binary64 (eta .first) → b ≡ toBits binary64 (eta .second) → c ≡ toBits binary64
+      (individual .first) → d ≡ toBits binary64 (individual .second)
       → answerWords 0 a b c d ≡ answerOf step
   unfolding answerOf
   asked-words t ea eb ec ed = (λ i. answerWords 0 (ea i) (eb i) (ec i) (ed i)) ∙ ap answerOf (sym t)
@@ -163,7 +165,8 @@ module _ {step : Step} where
   refused-number t = ap numberOf (sym t)
 
 -- v to z are the words after each store
-pub answer-written : (a : AnswerWords) (w : List ℕ) {v x y z r : List ℕ} → v ≡ set w 0 (a .kind) → x ≡ set v 1 (a .first) → y ≡ set x 2 (a .second) → z ≡ set y 3 (a .third) → r ≡ set z 4 (a .fourth) → r ≡ answered a w
+pub answer-written : (a : AnswerWords) (w : List ℕ) {v x y z r : List ℕ} → v ≡ set w 0 (a .kind) → x ≡ set v 1 (a .first) → y ≡ set x 2 (a .second) → z ≡ set y 3 (a .third) → r ≡ set z 4 (a .fourth) →
+    r ≡ answered a w
 unfolding answered
 answer-written a w ev ex ey ez er =
     er ∙ ap (λ (u : List ℕ). set u 4 (a .fourth)) (ez ∙ ap (λ (u : List ℕ). set u 3 (a .third)) (ey ∙ ap (λ (u : List ℕ). set u 2 (a .second)) (ex ∙ ap (λ (u : List ℕ). set u 1 (a .first)) ev)))
@@ -183,7 +186,8 @@ module _ (n : ℕ) where
   later-unaltered e l q = no _ (ne-eqb _ _ e) (no _ (le-ltb _ _ l) q)
 
 -- ---- the state and the answer as they are told; n is the number, a the answer's words, w the words afterwards
-module _ (c : Called) (state answer : List ℕ) {n : ℕ} {a : AnswerWords} {w : List ℕ} {b : Bool} (en : n ≡ numberOf (c .step)) (ea : a ≡ answerOf (c .step)) (ew : w ≡ answered a answer) (eb : b ≡ isUnaltered n) where
+module _ (c : Called) (state answer : List ℕ) {n : ℕ} {a : AnswerWords} {w : List ℕ} {b : Bool} (en : n ≡ numberOf (c .step)) (ea : a ≡ answerOf (c .step)) (ew : w ≡ answered a answer)
+    (eb : b ≡ isUnaltered n) where
   by-number : {v : Bool} → b ≡ v → isUnaltered (numberOf (c .step)) ≡ v
   by-number t = ap isUnaltered (sym en) ∙ sym eb ∙ t
 
@@ -201,33 +205,40 @@ module _ (c : Called) (state answer : List ℕ) {n : ℕ} {a : AnswerWords} {w :
 
 -- ---- a setup; w is the answer's words afterwards
 module _ (b : Begun) (state answer : List ℕ) {w : List ℕ} where
-  pub opens-told : {next : State} {s : List ℕ} → b .opening ≡ Opens.Opened next → w ≡ answered (answerWords 1 0 0 0 0) answer → s ≡ W.savedState next state → toldAs (record { number = 0; tally = b .tally }) s w ≡ opened b state answer
+  pub opens-told : {next : State} {s : List ℕ} → b .opening ≡ Opens.Opened next → w ≡ answered (answerWords 1 0 0 0 0) answer → s ≡ W.savedState next state → toldAs
+      (record { number = 0; tally = b .tally }) s w ≡ opened b state answer
   unfolding opened openedTo
   opens-told t ew es = (λ i. toldAs (record { number = 0; tally = b .tally }) (es i) (ew i)) ∙ ap (openedTo (b .tally) state answer) (sym t)
 
-  pub refused-told : {number : ℕ} {place : Place} {a : AnswerWords} → b .opening ≡ Opens.Refused number place → a ≡ placeWords number place → w ≡ answered a answer → toldAs (record { number = number; tally = b .tally }) state w ≡ opened b state answer
+  pub refused-told : {number : ℕ} {place : Place} {a : AnswerWords} → b .opening ≡ Opens.Refused number place → a ≡ placeWords number place → w ≡ answered a answer → toldAs
+      (record { number = number; tally = b .tally }) state w ≡ opened b state answer
   unfolding opened openedTo
   refused-told {number} t ea ew =
       (λ i. toldAs (record { number = number; tally = b .tally }) state ((ew ∙ ap (λ (x : AnswerWords). answered x answer) ea) i)) ∙ ap (openedTo (b .tally) state answer) (sym t)
 
 -- ---- words that are no state; r and w are what `no_state` answered and wrote
-pub unknown-out : (tally : Tally) (state answer cache work warm results : List ℕ) {r : Done} {w : List ℕ} → (r ≡ noState tally) × (w ≡ answered (placeWords 19 At.Nowhere) answer) → out r state w cache work warm results ≡ unknown tally state answer cache work warm results
+pub unknown-out : (tally : Tally) (state answer cache work warm results : List ℕ) {r : Done} {w : List ℕ} → (r ≡ noState tally) × (w ≡ answered (placeWords 19 At.Nowhere) answer) → out r state w cache
+    work warm results ≡ unknown tally state answer cache work warm results
 unknown-out tally state answer cache work warm results (er, ew) = λ i. out (er i) state (ew i) cache work warm results
 
 module _ (setup : Setup) (counts : List ℕ) (n : ℕ) (check : Check) (tally : Tally) (state answer cache work warm results : List ℕ) where
-  pub open-unknown : {r : Done} {w : List ℕ} → length state < 63 → (r ≡ noState tally) × (w ≡ answered (placeWords 19 At.Nowhere) answer) → out r state w cache work warm results ≡ openWith setup counts n check tally state answer cache work warm results
+  pub open-unknown : {r : Done} {w : List ℕ} → length state < 63 → (r ≡ noState tally) × (w ≡ answered (placeWords 19 At.Nowhere) answer) → out r state w cache work warm results ≡ openWith setup
+      counts n check tally state answer cache work warm results
   unfolding openWith
   open-unknown l q = yes _ (lt-ltb _ _ l) (unknown-out tally state answer cache work warm results q)
 
-  pub open-settled : {own : Setup} {r : Done} {s w c k m : List ℕ} {b : Begun} → 63 ≤ length state → own ≡ setup → begunWith b c k m ≡ openedBy own counts n check tally cache work warm results → toldAs r s w ≡ opened b state answer
+  pub open-settled : {own : Setup} {r : Done} {s w c k m : List ℕ} {b : Begun} → 63 ≤ length state → own ≡ setup → begunWith b c k m ≡ openedBy own counts n check tally cache work warm results →
+      toldAs r s w ≡ opened b state answer
       → out r s w c k m results ≡ openWith setup counts n check tally state answer cache work warm results
   unfolding openWith
   open-settled {c = c} {k = k} {m = m} l eo eb et =
       no _ (le-ltb _ _ l)
-      ((λ i. outOf (et i) c k m results) ∙ ap (λ (x : Setting). outOf (opened (x .begun) state answer) (x .cache) (x .work) (x .warm) results) (eb ∙ ap (λ (o : Setup). openedBy o counts n check tally cache work warm results) eo))
+      ((λ i. outOf (et i) c k m results) ∙ ap (λ (x : Setting). outOf (opened (x .begun) state answer) (x .cache) (x .work) (x .warm) results)
+      (eb ∙ ap (λ (o : Setup). openedBy o counts n check tally cache work warm results) eo))
 
 -- ---- what the session did, told of the state that was lent
-pub did-told : (state answer : List ℕ) {c : Called} {r : Done} {s w cache work warm results : List ℕ} {z : Ran (Held words) Step} → called c cache work warm results ≡ z → toldAs r s w ≡ told c state answer → out r s w cache work warm results ≡ did z state answer
+pub did-told : (state answer : List ℕ) {c : Called} {r : Done} {s w cache work warm results : List ℕ} {z : Ran (Held words) Step} → called c cache work warm results ≡ z → toldAs r s w ≡ told c state
+    answer → out r s w cache work warm results ≡ did z state answer
 did-told state answer {cache = cache} {work = work} {warm = warm} {results = results} ec et = (λ i. outOf (et i) cache work warm results) ∙ ap (λ (x : Ran (Held words) Step). did x state answer) ec
 
 -- ---- what is made of the state of some words, x being what `load` answered of them
@@ -256,25 +267,30 @@ module _ (setup : Setup) (counts : List ℕ) (n : ℕ) (check : Check) (tally : 
   begins : Parameters → Setup → Parameters → State → Out
   begins parameters o p s = did (entered o counts (enterObjective words o counts n check p (heldOf s tally cache work warm results))) state answer
 
-  pub objective-given : {x : LoadedState} → W.answer x ≡ W.loadedState state → (parameters : Parameters) {s : State} {own : Setup} {p : Parameters} {c : Called} {r : Done} {t w k m q : List ℕ} → x ≡ Given s → own ≡ setup → p ≡ parameters
-      → called c cache k m q ≡ entered own counts (enterObjective words own counts n check p (heldOf s tally cache work warm results)) → toldAs r t w ≡ told c state answer → out r t w cache k m q ≡ objectiveWith setup counts n check tally state answer cache work warm results parameters
+  pub objective-given : {x : LoadedState} → W.answer x ≡ W.loadedState state → (parameters : Parameters) {s : State} {own : Setup} {p : Parameters} {c : Called} {r : Done} {t w k m q : List ℕ} → x ≡
+      Given s → own ≡ setup → p ≡ parameters
+      → called c cache k m q ≡ entered own counts (enterObjective words own counts n check p (heldOf s tally cache work warm results)) → toldAs r t w ≡ told c state answer → out r t w cache k m q ≡
+      objectiveWith setup counts n check tally state answer cache work warm results parameters
   unfolding objectiveWith begins
   objective-given ex parameters {s} tx eo ep ec et =
       with-given state ex (begins parameters setup parameters) none tx (did-told state answer ec et ∙ (λ i. begins parameters (eo i) (ep i) s))
 
-  pub objective-none : {x : LoadedState} → W.answer x ≡ W.loadedState state → (parameters : Parameters) {r : Done} {w : List ℕ} → x ≡ None → (r ≡ noState tally) × (w ≡ answered (placeWords 19 At.Nowhere) answer) → out r state w cache work warm results ≡ objectiveWith setup counts n check tally state answer cache work warm results parameters
+  pub objective-none : {x : LoadedState} → W.answer x ≡ W.loadedState state → (parameters : Parameters) {r : Done} {w : List ℕ} → x ≡ None → (r ≡ noState tally) ×
+      (w ≡ answered (placeWords 19 At.Nowhere) answer) → out r state w cache work warm results ≡ objectiveWith setup counts n check tally state answer cache work warm results parameters
   unfolding objectiveWith begins
   objective-none ex parameters tx q = with-none state ex (begins parameters setup parameters) none tx (unknown-out tally state answer cache work warm results q)
 
   fails : Setup → State → Out
   fails o s = did (entered o counts (enterFailure words o counts n check (heldOf s tally cache work warm results))) state answer
 
-  pub failure-given : {x : LoadedState} → W.answer x ≡ W.loadedState state → {s : State} {own : Setup} {c : Called} {r : Done} {t w k : List ℕ} → x ≡ Given s → own ≡ setup → called c cache k warm results ≡ entered own counts (enterFailure words own counts n check (heldOf s tally cache work warm results)) → toldAs r t w ≡ told c state answer
+  pub failure-given : {x : LoadedState} → W.answer x ≡ W.loadedState state → {s : State} {own : Setup} {c : Called} {r : Done} {t w k : List ℕ} → x ≡ Given s → own ≡ setup → called c cache k warm
+      results ≡ entered own counts (enterFailure words own counts n check (heldOf s tally cache work warm results)) → toldAs r t w ≡ told c state answer
       → out r t w cache k warm results ≡ failureWith setup counts n check tally state answer cache work warm results
   unfolding failureWith fails
   failure-given ex {s} tx eo ec et = with-given state ex (fails setup) none tx (did-told state answer ec et ∙ (λ i. fails (eo i) s))
 
-  pub failure-none : {x : LoadedState} → W.answer x ≡ W.loadedState state → {r : Done} {w : List ℕ} → x ≡ None → (r ≡ noState tally) × (w ≡ answered (placeWords 19 At.Nowhere) answer) → out r state w cache work warm results ≡ failureWith setup counts n check tally state answer cache work warm results
+  pub failure-none : {x : LoadedState} → W.answer x ≡ W.loadedState state → {r : Done} {w : List ℕ} → x ≡ None → (r ≡ noState tally) × (w ≡ answered (placeWords 19 At.Nowhere) answer) → out r state w
+      cache work warm results ≡ failureWith setup counts n check tally state answer cache work warm results
   unfolding failureWith fails
   failure-none ex tx q = with-none state ex (fails setup) none tx (unknown-out tally state answer cache work warm results q)
 
@@ -283,11 +299,13 @@ module _ (setup : Setup) (counts : List ℕ) (a : Awaited) (e : Evaluation) (tal
   finishes : Setup → State → Out
   finishes o s = did (finishReply o counts a e (heldOf s tally cache work warm results)) state answer
 
-  pub finish-given : {x : LoadedState} → W.answer x ≡ W.loadedState state → {s : State} {own : Setup} {c : Called} {r : Done} {t w j k m q : List ℕ} → x ≡ Given s → own ≡ setup → called c j k m q ≡ finishReply own counts a e (heldOf s tally cache work warm results) → toldAs r t w ≡ told c state answer
+  pub finish-given : {x : LoadedState} → W.answer x ≡ W.loadedState state → {s : State} {own : Setup} {c : Called} {r : Done} {t w j k m q : List ℕ} → x ≡ Given s → own ≡ setup → called c j k m q ≡
+      finishReply own counts a e (heldOf s tally cache work warm results) → toldAs r t w ≡ told c state answer
       → out r t w j k m q ≡ finishWith setup counts a e tally state answer cache work warm results
   unfolding finishWith finishes
   finish-given ex {s} tx eo ec et = with-given state ex (finishes setup) (unknown tally state answer cache work warm results) tx (did-told state answer ec et ∙ (λ i. finishes (eo i) s))
 
-  pub finish-none : {x : LoadedState} → W.answer x ≡ W.loadedState state → {r : Done} {w : List ℕ} → x ≡ None → (r ≡ noState tally) × (w ≡ answered (placeWords 19 At.Nowhere) answer) → out r state w cache work warm results ≡ finishWith setup counts a e tally state answer cache work warm results
+  pub finish-none : {x : LoadedState} → W.answer x ≡ W.loadedState state → {r : Done} {w : List ℕ} → x ≡ None → (r ≡ noState tally) × (w ≡ answered (placeWords 19 At.Nowhere) answer) → out r state w
+      cache work warm results ≡ finishWith setup counts a e tally state answer cache work warm results
   unfolding finishWith finishes
   finish-none ex tx q = with-none state ex (finishes setup) (unknown tally state answer cache work warm results) tx (unknown-out tally state answer cache work warm results q)

@@ -41,12 +41,14 @@ module _ (setup : Setup) (counts : List ℕ) (observations : List Observation) (
   unfolding setupOver
   setup-over ec q = q ∙ ap (λ (c : Check). openWith setup counts (length observations) c tally state answer cache work warm results) ec
 
-  pub objective-over : (parameters : Parameters) {check : Check} {z : Out} → check ≡ allChecked setup counts observations → z ≡ objectiveWith setup counts (length observations) check tally state answer cache work warm results parameters
+  pub objective-over : (parameters : Parameters) {check : Check} {z : Out} → check ≡ allChecked setup counts observations → z ≡ objectiveWith setup counts (length observations) check tally state
+      answer cache work warm results parameters
       → z ≡ callOver setup counts observations tally state answer cache work warm results (objective parameters)
   unfolding objectiveWith callOver does
   objective-over parameters {check} ec q =
       q
-      ∙ same-state (λ s. did (entered setup counts (enterObjective words setup counts (length observations) check parameters (heldOf s tally cache work warm results))) state answer) (does (objective parameters))
+      ∙ same-state (λ s. did (entered setup counts (enterObjective words setup counts (length observations) check parameters (heldOf s tally cache work warm results))) state answer)
+      (does (objective parameters))
       (λ s. ap (λ (z : Ran (Held words) Step). did z state answer) (objective-call setup counts observations s tally cache work warm results parameters ec refl)) (loadedState state)
 
   pub failure-over : {check : Check} {z : Out} → check ≡ allChecked setup counts observations → z ≡ failureWith setup counts (length observations) check tally state answer cache work warm results

@@ -9,7 +9,8 @@
 // and 2 for an observation, the subject and the observation.
 ghost use mathlib.Core.Path.{_≡_};
 ghost use Rattle.search.specs.declared.Place.the-variants.{Nowhere};
-ghost use Rattle.host_calls.specs.Hosting.{additiveSd, setupOf, parametersOf, setupFrom, setupBits, parametersFrom, parameterBits, placeWords, answerOf, answered, numberOf, isUnaltered, toldAs, told, noState, opened};
+ghost use Rattle.host_calls.specs.Hosting.{additiveSd, setupOf, parametersOf, setupFrom, setupBits, parametersFrom, parameterBits};
+ghost use Rattle.host_calls.specs.Hosting.{placeWords, answerOf, answered, numberOf, isUnaltered, toldAs, told, noState, opened};
 
 pub mod calls;
 pub mod replies;

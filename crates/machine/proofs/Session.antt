@@ -14,7 +14,8 @@ use Rattle.machine.specs.Claim.{Demand3}
 use Rattle.machine.specs.Lawful.{Kept, Advances, Over, Begins, Turn, Enters, Lawful}
 use Rattle.machine.specs.Lawful.Enters.{same, begins, replied, failed}
 use Rattle.machine.specs.Lawful.Turn.{hit, short, wild, miss, next, barred, last, fails}
-use Rattle.machine.specs.Log.{Entry, End, not-yet, in-mode, in-refusal, stop, Every, none, more, Searched, history, OfEvaluation, told, begun, latest, note, read, searches, counts, Through, Chain, Ended, Waits, Holds}
+use Rattle.machine.specs.Log.{Entry, End, not-yet, in-mode, in-refusal, stop, Every, none, more, Searched, history, OfEvaluation, told, begun, latest, note, read, searches, counts, Through}
+use Rattle.machine.specs.Log.{Chain, Ended, Waits, Holds}
 use Rattle.machine.specs.Log.Event.{Began, Ask, Count, Got, Mode, Refused}
 use Rattle.machine.specs.Machine.{halt, Machine, Outcome, Move, requests, onward, loop, call, Act, calls, sets, set, run}
 use Rattle.machine.specs.Observed.{asked, finished, refused, goes-on, View, wantedAt, raise, turn-log, enter-log, loop-log, call-log, log}
@@ -145,7 +146,8 @@ module _ (R : Rules) (K : Claims R) (P : Proved R K) (M : Machine) (Y : View R M
       few = hx .few;
       raised = hx .raised;
       good = λ m q. hx .good m (stop-mode n (x .end) q);
-      refused = λ k q. ⊎-elim (λ (r : (x .end ≡ not-yet) × (n ≡ k)). subst (λ (j : ℕ). OfEvaluation j ⊎ K .Means (x .settings) (history R x) j) (r .1) (why (r .0))) (λ (r : x .end ≡ in-refusal k). hx .refused k r) (stop-refusal n (x .end) q);
+      refused = λ k q. ⊎-elim (λ (r : (x .end ≡ not-yet) × (n ≡ k)). subst (λ (j : ℕ). OfEvaluation j ⊎ K .Means (x .settings) (history R x) j) (r .1) (why (r .0)))
+          (λ (r : x .end ≡ in-refusal k). hx .refused k r) (stop-refusal n (x .end) q);
     }
 
     asks : (p : R .Point) → Current 0 s x xs → wantedAt R M Y s ≡ point p → Holds R K (told R x (Ask p))
@@ -160,7 +162,19 @@ module _ (R : Rules) (K : Claims R) (P : Proved R K) (M : Machine) (Y : View R M
     }
 
     asking : (p : R .Point) → Current 0 s x xs → Current 1 s (told R x (Ask p)) xs
-    asking p u = record { number = u .number; within = u .within; earlier = u .earlier; same = u .same; at = u .at; asked = omega (arith, u .asked); running = u .running; tally = u .tally; chain = u .chain; past = u .past }
+    asking p u = record {
+      number = u .number;
+      within = u .within;
+      earlier = u .earlier;
+      same = u .same;
+      at = u .at;
+      asked = omega (arith, u .asked);
+      running = u .running;
+      tally = u .tally;
+      chain = u
+          .chain;
+      past = u .past;
+    }
 
     -- the history with it
     longer : (c : Trial R) → length (points R (x .trials ++ (c ∷ []))) ≡ suc (length (history R x))
@@ -170,7 +184,8 @@ module _ (R : Rules) (K : Claims R) (P : Proved R K) (M : Machine) (Y : View R M
     gets c u t = record {
       domain = hx .domain;
       follows = subst (Follows R (x .settings)) (sym (points-more R (x .trials) c))
-          (answered-more (R .Answers) (R .request (x .settings)) (R .advance (x .settings)) (R .start) (history R x) (c .point) (hx .follows) (subst (λ (q : R .Request). R .Answers q (c .point)) (asked-there 1 u) t));
+          (answered-more (R .Answers) (R .request (x .settings)) (R .advance (x .settings)) (R .start) (history R x) (c .point) (hx .follows)
+          (subst (λ (q : R .Request). R .Answers q (c .point)) (asked-there 1 u) t));
       answered = omega (arith, u .asked, longer c);
       few = hx .few;
       raised = hx .raised;
@@ -194,7 +209,15 @@ module _ (R : Rules) (K : Claims R) (P : Proved R K) (M : Machine) (Y : View R M
     }
 
     counted : (p : R .Point) (n : ℕ) → Current 0 s x xs → wantedAt R M Y s ≡ point p → n ≡ suc (Y .evaluations s) → Holds R K (told R (told R x (Ask p)) (Count n))
-    counted p n u e v = let a = asks p u e in record { domain = hx .domain; follows = hx .follows; answered = a .answered; few = a .few; raised = omega (arith, hx .raised, u .tally); good = hx .good; refused = hx .refused }
+    counted p n u e v = let a = asks p u e in record {
+      domain = hx .domain;
+      follows = hx .follows;
+      answered = a .answered;
+      few = a .few;
+      raised = omega (arith, hx .raised, u .tally);
+      good = hx .good;
+      refused = hx .refused;
+    }
 
     counting : (p : R .Point) (t : M .State) → Current 0 s x xs → Kept R K M Y Sound s t → Y .search t ≡ Y .search s → Current 1 t (told R (told R x (Ask p)) (Count (Y .evaluations t))) xs
     counting p t u k e = record {
@@ -215,7 +238,8 @@ module _ (R : Rules) (K : Claims R) (P : Proved R K) (M : Machine) (Y : View R M
     passed m u = (u .number, (m, refl), u .earlier)
 
   -- a search that has just begun
-  fresh : (s t : M .State) (i : ℕ) (xs : List (Searched R)) → Begins R K M Y Sound s i t → Through R i xs → Chain R (Y .evaluations s) xs → Every (Ended R) xs → Current 0 t (begun R (Y .subject t) (Y .settings t) (Y .evaluations t)) xs
+  fresh : (s t : M .State) (i : ℕ) (xs : List (Searched R)) → Begins R K M Y Sound s i t → Through R i xs → Chain R (Y .evaluations s) xs → Every (Ended R) xs → Current 0 t
+      (begun R (Y .subject t) (Y .settings t) (Y .evaluations t)) xs
   unfolding ledFrom points
   fresh s t i xs b h c d = record {
     number = refl;
@@ -232,7 +256,15 @@ module _ (R : Rules) (K : Claims R) (P : Proved R K) (M : Machine) (Y : View R M
 
   fresh-holds : (i : ℕ) (st : R .Settings) (n : ℕ) → K .Domain st → Holds R K (begun R i st n)
   unfolding Answered points
-  fresh-holds i st n d = record { domain = d; follows = tt; answered = omega arith; few = omega arith; raised = omega arith; good = λ m q. let z : _≡_ {A = ℕ} 0 1 = cc in absurd (omega arith); refused = λ n q. let z : _≡_ {A = ℕ} 0 1 = cc in absurd (omega arith) }
+  fresh-holds i st n d = record {
+    domain = d;
+    follows = tt;
+    answered = omega arith;
+    few = omega arith;
+    raised = omega arith;
+    good = λ m q. let z : _≡_ {A = ℕ} 0 1 = cc in absurd (omega arith);
+    refused = λ n q. let z : _≡_ {A = ℕ} 0 1 = cc in absurd (omega arith);
+  }
 
   -- ---- a turn and the rest of the loop
   module _ (v : ℕ) (xs : List (Searched R)) where
@@ -244,9 +276,17 @@ module _ (R : Rules) (K : Claims R) (P : Proved R K) (M : Machine) (Y : View R M
       question = λ p q. (es ++ a .question p q .0, ap (λ (l : List (Entry R)). es ++ l) (a .question p q .1) ∙ sym (append-assoc es (a .question p q .0) _));
     }
 
-    over : (a : M .Answer) (t : M .State) (n k : ℕ) (es : List (Entry R)) → Y .means a ≡ refused n → Over R K M Y Sound k t → k ≡ v + counts R es → Every (Holds R K) (read R xs es) → Chain R k (read R xs es) → Every (Ended R) (read R xs es) → After v xs (record { answer = a; state = t }) es
+    over : (a : M .Answer) (t : M .State) (n k : ℕ) (es : List (Entry R)) → Y .means a ≡ refused n → Over R K M Y Sound k t → k ≡ v + counts R es → Every (Holds R K) (read R xs es) → Chain R k
+        (read R xs es) → Every (Ended R) (read R xs es) → After v xs (record { answer = a; state = t }) es
     over a t n k es w o e h c d = record {
-      between = record { sound = o .sound; all = h; chain = subst (λ (j : ℕ). Chain R j (read R xs es)) (sym (o .tally)) c; awaiting = λ q. let i = o .idle in let z : _≡_ {A = ℕ} 0 1 = cc in absurd (omega arith); idle = λ q. d };
+      between = record {
+        sound = o .sound;
+        all = h;
+        chain = subst (λ (j : ℕ). Chain R j (read R xs es)) (sym (o .tally)) c;
+        awaiting = λ q. let i = o .idle in let z : _≡_ {A = ℕ} 0 1 = cc in absurd
+            (omega arith);
+        idle = λ q. d;
+      };
       tally = o .tally ∙ e;
       through = λ q. let z : _≡_ {A = ℕ} 0 1 = cc in absurd (omega arith);
       question = λ p q. let z : _≡_ {A = ℕ} 0 1 = cc in absurd (omega arith);
@@ -259,7 +299,8 @@ module _ (R : Rules) (K : Claims R) (P : Proved R K) (M : Machine) (Y : View R M
   raise-one m n e = yes _ (lt-ltb m n (omega arith)) refl
 
   abbrev Goes : ℕ → (M .State → Outcome M) → (M .State → List (Entry R)) → Type 0
-  Goes n k l = (t : M .State) (x : Searched R) (xs : List (Searched R)) → Sound t → Holds R K x → Every (Holds R K) xs → Current 0 t x xs → remaining t ≤ n + x .asked → After (Y .evaluations t) (x ∷ xs) (k t) (l t)
+  Goes n k l = (t : M .State) (x : Searched R) (xs : List (Searched R)) → Sound t → Holds R K x → Every (Holds R K) xs → Current 0 t x xs → remaining t ≤ n + x .asked → After (Y .evaluations t)
+      (x ∷ xs) (k t) (l t)
 
   -- the next subject needs one search less
   less : (i j n a : ℕ) → i < Y .subjects → j ≡ suc i → a ≤ K .ceiling → (Y .subjects - i) * suc (K .ceiling) ≤ suc n + a → (Y .subjects - j) * suc (K .ceiling) ≤ n + 0
@@ -281,24 +322,42 @@ module _ (R : Rules) (K : Claims R) (P : Proved R K) (M : Machine) (Y : View R M
     turned (short {p} {a} {t} {n} e w b o) = rw (e, w, ← (raise-no (Y .evaluations s) (Y .evaluations t) (o .tally)))
         (over _ _ a t n _ (Ask p ∷ Refused n ∷ []) w o (omega arith) (more (ends s _ xs (asks s x xs hx p u e) n (λ r. inl b)) hs) (u .tally, u .chain) (more (stop-ended n (x .end)) (u .past)))
     turned (wild {p} {a} {t} {n} e w b o) = rw (e, w, ← (raise-one (Y .evaluations s) (Y .evaluations t) (o .tally)))
-        (over _ _ a t n _ (Ask p ∷ Count (Y .evaluations t) ∷ Refused n ∷ []) w o (omega arith) (more (ends s _ xs (counted s x xs hx p (Y .evaluations t) u e (o .tally)) n (λ r. inl b)) hs) (o .tally, u .chain) (more (stop-ended n (x .end)) (u .past)))
+        (over _ _ a t n _ (Ask p ∷ Count (Y .evaluations t) ∷ Refused n ∷ []) w o (omega arith) (more (ends s _ xs (counted s x xs hx p (Y .evaluations t) u e (o .tally)) n (λ r. inl b)) hs)
+        (o .tally, u .chain) (more (stop-ended n (x .end)) (u .past)))
     turned (miss {p} {a} {t} e w j g aw v) = rw (e, w, ← (raise-one (Y .evaluations s) (Y .evaluations t) v)) (record {
-      between = record { sound = j .sound; all = more (counted s x xs hx p (Y .evaluations t) u e v) hs; chain = (refl, u .chain); awaiting = λ q. (counting s x xs hx p t u j g, (p, ap₂ (wanted R) (j .settings) g ∙ e)); idle = λ q. let z : _≡_ {A = ℕ} 0 1 = cc in absurd (omega arith) };
+      between = record {
+        sound = j .sound;
+        all = more (counted s x xs hx p (Y .evaluations t) u e v) hs;
+        chain = (refl, u .chain);
+        awaiting = λ q.
+            (counting s x xs hx p t u j g, (p, ap₂ (wanted R) (j .settings) g ∙ e));
+        idle = λ q. let z : _≡_ {A = ℕ} 0 1 = cc in absurd (omega arith);
+      };
       tally = omega (arith, v);
       through = λ q. let z : _≡_ {A = ℕ} 0 1 = cc in absurd (omega arith);
       question = λ p' q. ([], cc);
     })
-    turned (next {t} e b) = let m = R .best (Y .search s) in rw e (ahead _ _ _ (Mode m ∷ Began (Y .subject t) (Y .settings t) (Y .evaluations t) ∷ []) (l t) (k t) (omega (arith, b .tally)) (go t _ _ (b .sound)
+    turned (next {t} e b) = let m = R .best (Y .search s) in rw e (ahead _ _ _ (Mode m ∷ Began (Y .subject t) (Y .settings t) (Y .evaluations t) ∷ []) (l t) (k t) (omega (arith, b .tally))
+        (go t _ _ (b .sound)
         (fresh-holds _ _ _ (b .domain)) (more (in-a-mode s x xs hx 0 u e) hs) (fresh s t _ _ b (passed s x xs hx m u) (u .tally, u .chain) (more (stop-ended 0 (in-mode m)) (u .past)))
         (less _ _ n _ (u .within) (b .subject) (hx .few) f)))
-    turned (barred {a} {t} {n} e w o) = let m = R .best (Y .search s) in rw (e, w) (over _ _ a t n _ (Mode m ∷ Refused n ∷ []) w o (omega arith) (more (ends s _ xs (in-a-mode s x xs hx 0 u e) n (λ r. let z : _≡_ {A = ℕ} 0 1 = cc in absurd (omega arith))) hs) (u .tally, u .chain) (more (stop-ended n (in-mode m)) (u .past)))
+    turned (barred {a} {t} {n} e w o) = let m = R .best (Y .search s) in rw (e, w) (over _ _ a t n _ (Mode m ∷ Refused n ∷ []) w o (omega arith)
+        (more (ends s _ xs (in-a-mode s x xs hx 0 u e) n (λ r. let z : _≡_ {A = ℕ} 0 1 = cc in absurd (omega arith))) hs) (u .tally, u .chain) (more (stop-ended n (in-mode m)) (u .past)))
     turned (last {a} {t} e w j o) = let m = R .best (Y .search s) in rw (e, w) (record {
-      between = record { sound = o .sound; all = more (in-a-mode s x xs hx 0 u e) hs; chain = (u .tally ∙ sym (o .tally), u .chain); awaiting = λ q. let i = o .idle in let z : _≡_ {A = ℕ} 0 1 = cc in absurd (omega arith); idle = λ q. more (stop-ended 0 (in-mode m)) (u .past) };
+      between = record {
+        sound = o .sound;
+        all = more (in-a-mode s x xs hx 0 u e) hs;
+        chain = (u .tally ∙ sym (o .tally), u .chain);
+        awaiting = λ q. let i = o .idle in let z : _≡_ {A = ℕ} 0 1 = cc in
+            absurd (omega arith);
+        idle = λ q. more (stop-ended 0 (in-mode m)) (u .past);
+      };
       tally = omega (arith, o .tally);
       through = λ q. subst (λ (i : ℕ). Through R i (told R x (Mode m) ∷ xs)) j (passed s x xs hx m u);
       question = λ p q. let z : _≡_ {A = ℕ} 0 1 = cc in absurd (omega arith);
     })
-    turned (fails {a} {t} {n} e w o) = rw e (over _ _ a t n _ (Refused n ∷ []) w o (omega arith) (more (ends s x xs hx n (λ r. inr (says s x xs hx 0 u e))) hs) (u .tally, u .chain) (more (stop-ended n (x .end)) (u .past)))
+    turned (fails {a} {t} {n} e w o) = rw e (over _ _ a t n _ (Refused n ∷ []) w o (omega arith) (more (ends s x xs hx n (λ r. inr (says s x xs hx 0 u e))) hs) (u .tally, u .chain)
+        (more (stop-ended n (x .end)) (u .past)))
 
   -- the loop: it never runs out of requests
   loops : (n : ℕ) → Goes n (λ t. loop (M .turn) (M .spent) n t) (λ t. loop-log R M Y n t)
@@ -338,7 +397,8 @@ module _ (R : Rules) (K : Claims R) (P : Proved R K) (M : Machine) (Y : View R M
     ended : (t : M .State) (n : ℕ) → M .awaits t ≡ false → _≡_ {A = List (Entry R)} (Refused n ∷ []) (pick (M .awaits t) [] (Refused n ∷ []))
     ended t n e = no _ e refl
 
-    entered : (c : M .Call) {m : Move M} → Enters R K M Y Sound c s m → After (Y .evaluations s) xs (onward m (λ t. requests M t)) (enter-log R M Y c s m ++ goes-on m (λ t. loop-log R M Y (M .fuel) t))
+    entered : (c : M .Call) {m : Move M} → Enters R K M Y Sound c s m → After (Y .evaluations s) xs (onward m (λ t. requests M t))
+        (enter-log R M Y c s m ++ goes-on m (λ t. loop-log R M Y (M .fuel) t))
     unfolding onward goes-on read counts Through
     entered c (same {a} {n} w) = rw (silent c a (M .awaits s) refl) (record {
       between = b;
@@ -349,7 +409,8 @@ module _ (R : Rules) (K : Claims R) (P : Proved R K) (M : Machine) (Y : View R M
     entered c (begins {t} w h) = unfold enter-log in rw w (ahead _ _ _ (Began (Y .subject t) (Y .settings t) (Y .evaluations t) ∷ []) _ _ (omega (arith, h .tally))
         (loops _ t _ xs (h .sound) (fresh-holds _ _ _ (h .domain)) (b .all) (fresh s t _ xs h tt (b .chain) (b .idle w)) (omega (arith, enough t))))
     entered c (replied {t} w h a) = unfold enter-log in rw w (ahead _ _ _ (Got (Y .given c s) ∷ []) _ _ (omega (arith, a .tally)) (replies s t _ h a xs (b .all) (b .awaiting w)))
-    entered c (failed {a} {t} {n} w e r o) = unfold enter-log in rw (w, e, ← (ended t n (o .idle))) (over _ _ a t n _ (Refused n ∷ []) e o (omega arith) (ends-latest n r s xs (b .all)) (chain-latest n _ xs (b .chain)) (ended-latest n s xs (b .awaiting w)))
+    entered c (failed {a} {t} {n} w e r o) = unfold enter-log in rw (w, e, ← (ended t n (o .idle))) (over _ _ a t n _ (Refused n ∷ []) e o (omega arith) (ends-latest n r s xs (b .all))
+        (chain-latest n _ xs (b .chain)) (ended-latest n s xs (b .awaiting w)))
 
     called : (c : M .Call) → After (Y .evaluations s) xs (call M c s) (call-log R M Y c s)
     unfolding call call-log

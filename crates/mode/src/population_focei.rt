@@ -3,7 +3,8 @@
 ghost use mathlib.Core.Path.{_≡_};
 ghost use Prim.Native.Nat.{_<_};
 ghost use Rattle.float64.specs.Pick.{pick};
-ghost use Rattle.mode.specs.Rules.{etaTolerance, gridPoint, secantPoint, midpoint, settled, isAbove, isUnder, isCloser, firstScore, fell, firstStage, start, request, screened, entered, tried, chosen, advance};
+ghost use Rattle.mode.specs.Rules.{etaTolerance, gridPoint, secantPoint, midpoint, settled, isAbove, isUnder, isCloser, firstScore};
+ghost use Rattle.mode.specs.Rules.{fell, firstStage, start, request, screened, entered, tried, chosen, advance};
 
 // What a search is given: eta_bound, omega, the tolerance of eta (`eta_tolerance`) and the subject's warm
 // start.

@@ -2,7 +2,9 @@
 // 48 Newton rounds of up to 22 reductions (`mode_from_seed`). Each public function is defined for all values.
 ghost use mathlib.Core.Path.{_≡_};
 ghost use Prim.Native.Nat.{_<_, _≤_, _-_};
-ghost use Rattle.mode_2d.specs.Rules.{vector, pairOf, precision, priorScore, joint, penalisedScore, maxAbs, norm, curvature, stepBy, scale, reduced, trialPoint, decrease, isSame, isPassedOver, nextReduction, isTaken, startPoint, isUnresolved, isFar, better, between, finish, start, request, advance};
+ghost use Rattle.mode_2d.specs.Rules.{vector, pairOf, precision, priorScore, joint, penalisedScore, maxAbs, norm, curvature, stepBy};
+ghost use Rattle.mode_2d.specs.Rules.{scale, reduced, trialPoint, decrease, isSame, isPassedOver, nextReduction, isTaken, startPoint};
+ghost use Rattle.mode_2d.specs.Rules.{isUnresolved, isFar, better, between, finish, start, request, advance};
 ghost use Rattle.mode_2d.specs.Turns.{over, beginning, taking, leaving, turnAfter, tried, descended, proceeded, goneOn};
 use matrix::InversePositive;
 use matrix::Pair;

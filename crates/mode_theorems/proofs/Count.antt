@@ -61,7 +61,8 @@ in-halving : (s : Settings) (x : Search) → T (isPoint (requestAt Halving s x))
 unfolding requestAt
 in-halving s x h =
     ltb-true (x .count) 48
-    (pick-point (ltb (x .count) 48) (Point (midpoint (x .left) (x .right))) (Refused 15) tt (past-mode (settled s (x .best) (x .left) (x .right)) (pick (ltb (x .count) 48) (Point (midpoint (x .left) (x .right))) (Refused 15)) h))
+    (pick-point (ltb (x .count) 48) (Point (midpoint (x .left) (x .right))) (Refused 15) tt (past-mode (settled s (x .best) (x .left) (x .right))
+    (pick (ltb (x .count) 48) (Point (midpoint (x .left) (x .right))) (Refused 15)) h))
 
 past : (i n : ℕ) → i < n → n ≤ i → ⊥
 past i n h k = omega arith

@@ -20,7 +20,8 @@ use Rattle.mode_2d.specs.declared.population_focei_2d.Stage2.the-variants.{Zero
 use Rattle.mode_2d.specs.declared.population_focei_2d.Search2.{Search2}
 use Rattle.mode_2d.specs.declared.population_focei_2d.Request2.{Request2}
 use Rattle.mode_2d.specs.declared.population_focei_2d.Request2.the-variants.{Point, Mode, Refused}
-use Rattle.mode_2d.specs.Rules.{requestAt, request, advanceAt, advance, between, trying, finish, tryFrom, descendBy, descend, beginRound, take, leave, nextReduction, trialPoint, isPassedOver, isUnresolved, isFar, better, norm, curvature, stepBy, isTaken, start}
+use Rattle.mode_2d.specs.Rules.{requestAt, request, advanceAt, advance, between, trying, finish, tryFrom, descendBy, descend, beginRound, take, leave, nextReduction, trialPoint, isPassedOver}
+use Rattle.mode_2d.specs.Rules.{isUnresolved, isFar, better, norm, curvature, stepBy, isTaken, start}
 use Rattle.mode_theorems.specs.History2.{Answers, Follows, after, asks}
 use Rattle.mode_theorems.proofs.Ceiling.{Fewer, at-most}
 
@@ -153,13 +154,15 @@ module _ (s : Settings2) (x : Search2) (c : Conditional2) (n : ℕ) (w : InTrial
   unfolding leave
   leave-room =
       cases (RoomOf (n - 1)) (ltb (x .reduction) 21) {x = descend s (x .seed) (x .round) (x .reduction + 1) (x .current) (x .best)} {y = finish s (x .seed) (x .current) (x .best)}
-      (λ e. let g = go (x .seed) (x .round) (x .reduction) n (w .left) (ltb-true (x .reduction) 21 e) in descend-room s (x .seed) (x .round) (x .reduction + 1) (x .current) (x .best) (n - 1) (w .seed) (w .round) (g .1) (g .0))
+      (λ e. let g = go (x .seed) (x .round) (x .reduction) n (w .left) (ltb-true (x .reduction) 21 e) in descend-room s (x .seed) (x .round) (x .reduction + 1) (x .current) (x .best) (n - 1) (w .seed)
+      (w .round) (g .1) (g .0))
       (λ _. finish-room s (x .seed) (x .current) (x .best) (n - 1) over)
     where
       go : (k r j n : ℕ) → 6341 ≤ n + j + r * 22 + k * 1057 → j < 21 → (6341 ≤ n - 1 + (j + 1) + r * 22 + k * 1057) × (j + 1 < 22)
       go k r j n a b = (omega arith, omega arith)
 
-room-step : (st : Stage2) (s : Settings2) (x : Search2) (c : Conditional2) (n : ℕ) → Room st (x .seed) (x .round) (x .reduction) n → T (isPoint (requestAt st s x)) → RoomOf (n - 1) (advanceAt st s x c)
+room-step : (st : Stage2) (s : Settings2) (x : Search2) (c : Conditional2) (n : ℕ) → Room st (x .seed) (x .round) (x .reduction) n → T (isPoint (requestAt st s x)) → RoomOf (n - 1)
+    (advanceAt st s x c)
 unfolding requestAt advanceAt between
 room-step Zero s x c n r h = (omega arith, lit< tt)
 room-step Start s x c n r h = round-room s (x .seed) 0 c (x .best) (n - 1) (r .1) (lit< tt) (go (x .seed) n (r .0))

@@ -21,7 +21,8 @@ use Rattle.mode_2d.specs.declared.population_focei_2d.NewtonStep.{NewtonStep}
 use Rattle.mode_2d.specs.declared.population_focei_2d.Stage2.{Stage2}
 use Rattle.mode_2d.specs.declared.population_focei_2d.Stage2.the-variants.{Zero, Start, Trial, Found, Halted}
 use Rattle.mode_2d.specs.declared.population_focei_2d.Search2.{Search2}
-use Rattle.mode_2d.specs.Rules.{nought, between, trying, finish, tryFrom, descendBy, descend, beginRound, take, leave, nextReduction, trialPoint, decrease, isSame, isPassedOver, isUnresolved, isFar, better, norm, curvature, stepBy, isTaken}
+use Rattle.mode_2d.specs.Rules.{nought, between, trying, finish, tryFrom, descendBy, descend, beginRound, take, leave, nextReduction, trialPoint, decrease, isSame, isPassedOver, isUnresolved, isFar}
+use Rattle.mode_2d.specs.Rules.{better, norm, curvature, stepBy, isTaken}
 use Rattle.mode_theorems.specs.Terms2 as W
 use Rattle.mode_theorems.specs.Terms2.{etas, joint, NoHigher}
 use Rattle.mode_theorems.specs.History2.{withCandidate}
@@ -170,7 +171,8 @@ module _ (s : Settings2) (x : Search2) (i : OnTrial s x) where
   unfolding leave
   leave-way =
       cases (OnWay s) (ltb (x .reduction) 21) {x = descend s (x .seed) (x .round) (x .reduction + 1) (x .current) (x .best)} {y = finish s (x .seed) (x .current) (x .best)}
-      (λ _. descend-way s (x .seed) (x .current) (x .best) (i .seed) (i .current) (i .best) (x .round) (x .reduction + 1)) (λ _. finish-way s (x .seed) (x .current) (x .best) (i .seed) (i .current) (i .best))
+      (λ _. descend-way s (x .seed) (x .current) (x .best) (i .seed) (i .current) (i .best) (x .round) (x .reduction + 1))
+      (λ _. finish-way s (x .seed) (x .current) (x .best) (i .seed) (i .current) (i .best))
 
 -- ---- each candidate, the k-th first, passes 13, and 14 against the best so far, b; and the best of all is m
 unfoldable pub Passes : Settings2 → ℕ → Conditional2 → List Conditional2 → Conditional2 → Type 0
@@ -441,7 +443,8 @@ module _ (s : Settings2) (k : ℕ) (c b : Conditional2) where
 pub take-of : (s : Settings2) (x : Search2) (c : Conditional2) → Of c (x .best) (take s x c)
 unfolding take
 take-of s x c =
-    cases (Of c (x .best)) (ltb (x .round) 47) {x = beginRound s (x .seed) (x .round + 1) c (x .best)} {y = finish s (x .seed) c (x .best)} (λ _. round-of s (x .seed) c (x .best) (x .round + 1)) (λ _. finish-of s (x .seed) c (x .best))
+    cases (Of c (x .best)) (ltb (x .round) 47) {x = beginRound s (x .seed) (x .round + 1) c (x .best)} {y = finish s (x .seed) c (x .best)} (λ _. round-of s (x .seed) c (x .best) (x .round + 1))
+    (λ _. finish-of s (x .seed) c (x .best))
 
 pub leave-of : (s : Settings2) (x : Search2) → Of (x .current) (x .best) (leave s x)
 unfolding leave

@@ -28,7 +28,8 @@ use Rattle.mode_theorems.proofs.Words2.{startPointsFrom, starts-are, re
 use Rattle.mode_theorems.proofs.Count2.{isMode, mode-true, isPoint, point-true, pointOf, at-most-6343}
 use Rattle.mode_theorems.proofs.Joint.{joint-num}
 use Rattle.mode_theorems.proofs.Precision.{precision-bound}
-use Rattle.mode_theorems.proofs.Descent.{taken-no-higher, Passes, run-whole, Why, Way, OnWay, round-way, take-way, leave-way, Begin, AtStart, InRound, Ahead, AheadOf, round-back, take-back, leave-back, Of, round-of, take-of, leave-of}
+use Rattle.mode_theorems.proofs.Descent.{taken-no-higher, Passes, run-whole, Why, Way, OnWay, round-way, take-way, leave-way, Begin, AtStart, InRound, Ahead, AheadOf, round-back, take-back}
+use Rattle.mode_theorems.proofs.Descent.{leave-back, Of, round-of, take-of, leave-of}
 
 -- ---- forward: what holds on the way is kept
 way-step : (st : Stage2) (s : Settings2) (x : Search2) (c : Conditional2) → Way st s x → T (num? (joint s c)) → T (isPoint (requestAt st s x)) → OnWay s (advanceAt st s x c)
@@ -156,7 +157,8 @@ at-end Trial s x h = absurd h
 at-end Found s x h = record { starts = refl; candidates = refl; mode = refl; over = refl }
 at-end (Halted n) s x h = absurd h
 
-lowest-step : (st : Stage2) (s : Settings2) (c m : Conditional2) (l : List Conditional2) → Came st s c m → ((t : Conditional2) → List·Memᴰ t l → NoHigher s m t) → (t : Conditional2) → List·Memᴰ t (pick (isStart st) (c ∷ l) l) → NoHigher s m t
+lowest-step : (st : Stage2) (s : Settings2) (c m : Conditional2) (l : List Conditional2) → Came st s c m → ((t : Conditional2) → List·Memᴰ t l → NoHigher s m t) → (t : Conditional2) → List·Memᴰ t
+    (pick (isStart st) (c ∷ l) l) → NoHigher s m t
 unfolding pick
 lowest-step Zero s c m l g f = f
 lowest-step Start s c m l g f = λ t p. go t (List·Memᴰ·cases-cons p)

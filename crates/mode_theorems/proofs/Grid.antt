@@ -42,7 +42,8 @@ eight-cross A B c C D d h = omega arith
 
 pub div-mono : (f : Format) (x y : Float) → T (finite x) → T (finite y) → T (le x y) → T (le (div f x eight) (div f y eight))
 div-mono f x y p q h =
-    rounded-le f (div f x eight) (div f y eight) (plus x) (less x) (8 * den x) (plus y) (less y) (8 * den y) (mul-pos (lit< {m = 0} {n = 8} tt) (den-pos x)) (mul-pos (lit< {m = 0} {n = 8} tt) (den-pos y)) (div-is f x p) (div-is f y q)
+    rounded-le f (div f x eight) (div f y eight) (plus x) (less x) (8 * den x) (plus y) (less y) (8 * den y) (mul-pos (lit< {m = 0} {n = 8} tt) (den-pos x))
+    (mul-pos (lit< {m = 0} {n = 8} tt) (den-pos y)) (div-is f x p) (div-is f y q)
     (eight-cross (plus x) (less x) (den x) (plus y) (less y) (den y) (le→cross x y p q h))
 
 -- ---- whole numbers
@@ -135,7 +136,8 @@ module _ (s : Settings) (d : Domain s) where
 
   rep16 : Rep binary64 (n * 2 * 2 * 2 * 2)
   rep16 =
-      rep-double binary64 (n * 2 * 2 * 2) (rep-double binary64 (n * 2 * 2) (rep-double binary64 (n * 2) rep2 (at4 n (room n 4 (overflow binary64) few-units (lit< tt)))) (at8 n (room n 8 (overflow binary64) few-units (lit< tt)))) (at16 n (room n 16 (overflow binary64) few-units (lit< tt)))
+      rep-double binary64 (n * 2 * 2 * 2) (rep-double binary64 (n * 2 * 2) (rep-double binary64 (n * 2) rep2 (at4 n (room n 4 (overflow binary64) few-units (lit< tt))))
+      (at8 n (room n 8 (overflow binary64) few-units (lit< tt)))) (at16 n (room n 16 (overflow binary64) few-units (lit< tt)))
     where
       at4 : (n : ℕ) → n * 4 < overflow binary64 → n * 2 * 2 < overflow binary64
       at4 n h = subst (λ (z : ℕ). z < overflow binary64) (sym (N.mul-assoc n 2 2)) h
@@ -183,8 +185,10 @@ module _ (s : Settings) (d : Domain s) where
   product16 =
       rounded-le-units binary64 (mul binary64 (s .«eta_bound») sixteen) times16 (P g n * 16) (M g n * 16) 1 (P g (n * 2 * 2 * 2 * 2)) (M g (n * 2 * 2 * 2 * 2)) (lit< tt) times16-fits times16-units
       (once binary64 (mul binary64 (s .«eta_bound») sixteen) (P g n * 16) (M g n * 16)
-      (rounded-rescale binary64 (mul binary64 (s .«eta_bound») sixteen) (plus (s .«eta_bound») * 16 + less (s .«eta_bound») * 0) (plus (s .«eta_bound») * 0 + less (s .«eta_bound») * 16) (den (s .«eta_bound») * 1) (P g n * 16) (M g n * 16) (L binary64)
-      (mul-pos (den-pos (s .«eta_bound»)) (lit< tt)) (L-pos binary64) (mul-rounded binary64 (s .«eta_bound») sixteen finL tt) (by16 (plus (s .«eta_bound»)) (less (s .«eta_bound»)) (den (s .«eta_bound»)) (P g n) (M g n) (L binary64) (val .units .value))))
+      (rounded-rescale binary64 (mul binary64 (s .«eta_bound») sixteen) (plus (s .«eta_bound») * 16 + less (s .«eta_bound») * 0) (plus (s .«eta_bound») * 0 + less (s .«eta_bound») * 16)
+      (den (s .«eta_bound») * 1) (P g n * 16) (M g n * 16) (L binary64)
+      (mul-pos (den-pos (s .«eta_bound»)) (lit< tt)) (L-pos binary64) (mul-rounded binary64 (s .«eta_bound») sixteen finL tt)
+      (by16 (plus (s .«eta_bound»)) (less (s .«eta_bound»)) (den (s .«eta_bound»)) (P g n) (M g n) (L binary64) (val .units .value))))
       (fit g n)
     where
       fit : (g : Bool) (n : ℕ) → P g n * 16 + M g (n * 2 * 2 * 2 * 2) * 1 ≤ P g (n * 2 * 2 * 2 * 2) * 1 + M g n * 16
@@ -220,7 +224,8 @@ module _ (s : Settings) (d : Domain s) where
   eighth16 =
       rounded-le-units binary64 (div binary64 times16 eight) twice (P g (n * 2 * 2 * 2 * 2)) (M g (n * 2 * 2 * 2 * 2)) 8 (P g (n * 2)) (M g (n * 2)) (lit< tt) twice-fits twice-units
       (rounded-rescale binary64 (div binary64 times16 eight) (plus times16) (less times16) (8 * den times16) (P g (n * 2 * 2 * 2 * 2)) (M g (n * 2 * 2 * 2 * 2)) (8 * L binary64)
-      (mul-pos (lit< {m = 0} {n = 8} tt) (den-pos times16)) (mul-pos (lit< {m = 0} {n = 8} tt) (L-pos binary64)) (div-is binary64 times16 (times16-units .isFinite)) (by8 (plus times16) (less times16) (den times16) (P g (n * 2 * 2 * 2 * 2)) (M g (n * 2 * 2 * 2 * 2)) (L binary64) (times16-units .value)))
+      (mul-pos (lit< {m = 0} {n = 8} tt) (den-pos times16)) (mul-pos (lit< {m = 0} {n = 8} tt) (L-pos binary64)) (div-is binary64 times16 (times16-units .isFinite))
+      (by8 (plus times16) (less times16) (den times16) (P g (n * 2 * 2 * 2 * 2)) (M g (n * 2 * 2 * 2 * 2)) (L binary64) (times16-units .value)))
       (fit g n)
     where
       fit : (g : Bool) (n : ℕ) → P g (n * 2 * 2 * 2 * 2) + M g (n * 2) * 8 ≤ P g (n * 2) * 8 + M g (n * 2 * 2 * 2 * 2)
@@ -251,7 +256,8 @@ module _ (s : Settings) (d : Domain s) where
   pub grid-mono : (i j : ℕ) → i ≤ j → j ≤ 16 → T (le (gridPoint (s .«eta_bound») i) (gridPoint (s .«eta_bound») j))
   unfolding gridPoint ofBits
   grid-mono i j h k =
-      add-mono binary64 (neg (s .«eta_bound»)) (neg (s .«eta_bound»)) (part i) (part j) neg-le (part-mono i j h k) (fin-add-num (neg (s .«eta_bound»)) (part i) neg-fin (part-finite i (N.le-trans h k))) (fin-add-num (neg (s .«eta_bound»)) (part j) neg-fin (part-finite j k))
+      add-mono binary64 (neg (s .«eta_bound»)) (neg (s .«eta_bound»)) (part i) (part j) neg-le (part-mono i j h k)
+      (fin-add-num (neg (s .«eta_bound»)) (part i) neg-fin (part-finite i (N.le-trans h k))) (fin-add-num (neg (s .«eta_bound»)) (part j) neg-fin (part-finite j k))
 
   pub grid-low : (i : ℕ) → i ≤ 16 → T (le minusEdge (gridPoint (s .«eta_bound») i))
   unfolding gridPoint ofBits
@@ -262,12 +268,14 @@ module _ (s : Settings) (d : Domain s) where
   top-le : T (le (add binary64 (neg (s .«eta_bound»)) twice) (s .«eta_bound»))
   top-le =
       rounded-le-units binary64 (add binary64 (neg (s .«eta_bound»)) twice) (s .«eta_bound») (M g n + P g (n * 2)) (P g n + M g (n * 2)) 1 (P g n) (M g n) (lit< tt) (d .fitsBound) (val .units)
-      (once binary64 (add binary64 (neg (s .«eta_bound»)) twice) (M g n + P g (n * 2)) (P g n + M g (n * 2)) (add-units binary64 (neg (s .«eta_bound»)) twice (M g n) (P g n) (P g (n * 2)) (M g (n * 2)) (neg-units binary64 (s .«eta_bound») (P g n) (M g n) (val .units)) twice-units))
+      (once binary64 (add binary64 (neg (s .«eta_bound»)) twice) (M g n + P g (n * 2)) (P g n + M g (n * 2)) (add-units binary64 (neg (s .«eta_bound»)) twice (M g n) (P g n) (P g (n * 2))
+      (M g (n * 2)) (neg-units binary64 (s .«eta_bound») (P g n) (M g n) (val .units)) twice-units))
       (sum-lemma (P g n) (M g n) (P g (n * 2)) (M g (n * 2)) (P-mul g n 2) (M-mul g n 2))
 
   pub grid-high : (i : ℕ) → i ≤ 16 → T (le (gridPoint (s .«eta_bound») i) edge)
   unfolding gridPoint ofBits
   grid-high i h =
       le-trans (gridPoint (s .«eta_bound») i) (add binary64 (neg (s .«eta_bound»)) twice) edge
-      (add-mono binary64 (neg (s .«eta_bound»)) (neg (s .«eta_bound»)) (part i) twice neg-le (part-le i h) (fin-add-num (neg (s .«eta_bound»)) (part i) neg-fin (part-finite i h)) (fin-add-num (neg (s .«eta_bound»)) twice neg-fin (twice-units .isFinite)))
+      (add-mono binary64 (neg (s .«eta_bound»)) (neg (s .«eta_bound»)) (part i) twice neg-le (part-le i h) (fin-add-num (neg (s .«eta_bound»)) (part i) neg-fin (part-finite i h))
+      (fin-add-num (neg (s .«eta_bound»)) twice neg-fin (twice-units .isFinite)))
       (le-trans (add binary64 (neg (s .«eta_bound»)) twice) (s .«eta_bound») edge top-le high)

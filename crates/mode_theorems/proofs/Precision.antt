@@ -176,12 +176,14 @@ module _ (m : List (List Float)) (s : Settings2) (o : Accepted m s) where
     low =
         elim (le-or-gt (fin true 1 (pos 21)) (entry m 0 1) tt (finite-num (entry m 0 1) (tests .finite01))) [
           | inl h ↦ h
-          | inr h ↦ let g = lt→le (entry m 0 1) (fin true 1 (pos 21)) h in absurd (not-big (deep-mul 21 (entry m 0 1) (entry m 1 0) tt (tests .finite01) (tests .finite10) g (le-trans (entry m 1 0) (entry m 0 1) (fin true 1 (pos 21)) second-le g)))
+          | inr h ↦ let g = lt→le (entry m 0 1) (fin true 1 (pos 21)) h in absurd (not-big (deep-mul 21 (entry m 0 1) (entry m 1 0) tt (tests .finite01) (tests .finite10) g
+              (le-trans (entry m 1 0) (entry m 0 1) (fin true 1 (pos 21)) second-le g)))
         ];
     high =
         elim (le-or-gt (entry m 0 1) (power 21) (finite-num (entry m 0 1) (tests .finite01)) tt) [
           | inl h ↦ h
-          | inr h ↦ let g = lt→le (power 21) (entry m 0 1) h in absurd (not-big (big-mul 21 (entry m 0 1) (entry m 1 0) tt (tests .finite01) (tests .finite10) g (le-trans (power 21) (entry m 0 1) (entry m 1 0) g first-le)))
+          | inr h ↦ let g = lt→le (power 21) (entry m 0 1) h in absurd (not-big (big-mul 21 (entry m 0 1) (entry m 1 0) tt (tests .finite01) (tests .finite10) g
+              (le-trans (power 21) (entry m 0 1) (entry m 1 0) g first-le)))
         ];
   }
 

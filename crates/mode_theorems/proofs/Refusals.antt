@@ -162,7 +162,8 @@ fall-step true false false g = refl
 fall-step false u true g = refl
 fall-step false u false g = refl
 
-run-step : (s : Settings) (n : ℕ) (x : Search) (c : Conditional) (h : List Conditional) (y : Search) → 1 ≤ x .count → c .eta ≡ gridPoint (s .«eta_bound») (x .count) → Run s n (screened x c) h y → Run s (suc n) x (c ∷ h) y
+run-step : (s : Settings) (n : ℕ) (x : Search) (c : Conditional) (h : List Conditional) (y : Search) → 1 ≤ x .count → c .eta ≡ gridPoint (s .«eta_bound») (x .count) → Run s n (screened x c) h y → Run
+    s (suc n) x (c ∷ h) y
 unfolding etas lastFrom fallsFrom screened fell
 run-step s n x c h y k e r =
     record {
@@ -281,7 +282,8 @@ whole s (c ∷ h) f q =
     ]
 
 -- ---- what is told at its end
-told : (s : Settings) (y : Search) (r : Request) → y .stage ≡ Grid → 17 ≤ y .count → request s y ≡ r → pick (le nought (y .first)) (Refused 13) (pick (isUnder (y .latest)) (Refused 13) (Refused 14)) ≡ r
+told : (s : Settings) (y : Search) (r : Request) → y .stage ≡ Grid → 17 ≤ y .count → request s y ≡ r → pick (le nought (y .first)) (Refused 13) (pick (isUnder (y .latest)) (Refused 13) (Refused 14)) ≡
+    r
 unfolding requestAt
 told s y r e k q = sym (ap (λ (t : Stage). requestAt t s y) e ∙ pick-no (ltb (y .count) 17) _ _ (le-ltb (y .count) 17 k)) ∙ q
 

@@ -51,7 +51,8 @@ side c n =
     ]
 
 -- ---- the warm start and the trials
-warm-trials : (s : Settings) (d : Domain s) (a z : Float) (h : List Conditional) (x : Search) → x .stage ≡ Warm → T (lt (x .left .eta) (s .warm)) → T (lt (s .warm) (x .right .eta)) → Good a z (x .left) (x .right) (x .best) → FollowsFrom s x h
+warm-trials : (s : Settings) (d : Domain s) (a z : Float) (h : List Conditional) (x : Search) → x .stage ≡ Warm → T (lt (x .left .eta) (s .warm)) → T (lt (s .warm) (x .right .eta)) → Good a z
+    (x .left) (x .right) (x .best) → FollowsFrom s x h
     → T (isEnd (request s (afterFrom s x h))) → Ends s a z (cellIn x) (x .best) h (afterFrom s x h)
 unfolding Answered ledFrom requestAt advanceAt tried
 warm-trials s d a z [] x e p q g f m = absurd (subst (λ (t : Stage). T (isEnd (requestAt t s x))) e m)
@@ -132,7 +133,8 @@ unfolding requestAt
 grid-asked s x c e w =
     let a : requestAt Grid s x ≡ Point (c .eta) = subst (λ (t : Stage). requestAt t s x ≡ Point (c .eta)) e (w .asked) in
     let k = on-grid s x (point-true (requestAt Grid s x) (c .eta) a) in
-    let p = pick-yes (ltb (x .count) 17) (Point (gridPoint (s .«eta_bound») (x .count))) (pick (le nought (x .first)) (Refused 13) (pick (isUnder (x .latest)) (Refused 13) (Refused 14))) (lt-ltb (x .count) 17 k) in
+    let p = pick-yes (ltb (x .count) 17) (Point (gridPoint (s .«eta_bound») (x .count))) (pick (le nought (x .first)) (Refused 13) (pick (isUnder (x .latest)) (Refused 13) (Refused 14)))
+    (lt-ltb (x .count) 17 k) in
     (k, ap pointOf (sym a ∙ p))
 
 -- ---- the next search on the grid
@@ -323,7 +325,8 @@ above-next n x c a p u = record {
 }
 
 -- the first point above 0 makes the cell
-new-cell : (s : Settings) (d : Domain s) (j i : ℕ) (l r : Conditional) → j ≤ i → i ≤ 16 → l .eta ≡ gridPoint (s .«eta_bound») j → r .eta ≡ gridPoint (s .«eta_bound») i → T (num? (l .score)) → T (num? (r .score)) → T (isUnder l) → T (isAbove r) → GoodCell (record { left = l; right = r })
+new-cell : (s : Settings) (d : Domain s) (j i : ℕ) (l r : Conditional) → j ≤ i → i ≤ 16 → l .eta ≡ gridPoint (s .«eta_bound») j → r .eta ≡ gridPoint (s .«eta_bound») i → T (num? (l .score)) → T
+    (num? (r .score)) → T (isUnder l) → T (isAbove r) → GoodCell (record { left = l; right = r })
 unfolding GoodCell
 new-cell s d j i l r h k p q nl nr ul ar =
     let low : T (le minusEdge (l .eta)) = subst (λ (v : Float). T (le minusEdge v)) (sym p) (grid-low s d j (omega arith)) in
@@ -350,7 +353,8 @@ new-cell s d j i l r h k p q nl nr ul ar =
       signR = ar;
     }
 
-pub above-first : (s : Settings) (d : Domain s) (n : ℕ) (x : Search) (c : Conditional) → Below s (suc n) x → c .eta ≡ gridPoint (s .«eta_bound») (x .count) → T (num? (c .score)) → isAbove c ≡ true → isUnder c ≡ false → Above n (screened x c)
+pub above-first : (s : Settings) (d : Domain s) (n : ℕ) (x : Search) (c : Conditional) → Below s (suc n) x → c .eta ≡ gridPoint (s .«eta_bound») (x .count) → T (num? (c .score)) → isAbove c ≡ true →
+    isUnder c ≡ false → Above n (screened x c)
 above-first s d n x c b e q p u =
     let k = b .number in
     let i = b .before in
@@ -362,10 +366,12 @@ above-first s d n x c b e q p u =
       noFall = no-fall-c x c (b .noFall) u;
       notUnder = unfold screened in u;
       isAbove = unfold screened in p;
-      good = subst GoodCell (sym (met-cell x c (b .isUnder) p)) (new-cell s d (b .j) (x .count) (x .latest) c (omega arith) (omega arith) (b .at) e (b .scoreNumber) q (of-true (isUnder (x .latest)) (b .isUnder)) (of-true (isAbove c) p));
+      good = subst GoodCell (sym (met-cell x c (b .isUnder) p)) (new-cell s d (b .j) (x .count) (x .latest) c (omega arith) (omega arith) (b .at) e (b .scoreNumber) q
+          (of-true (isUnder (x .latest)) (b .isUnder)) (of-true (isAbove c) p));
     }
 
-pub below-next : (s : Settings) (n : ℕ) (x : Search) (c : Conditional) → Below s (suc n) x → c .eta ≡ gridPoint (s .«eta_bound») (x .count) → T (num? (c .score)) → isAbove c ≡ false → isUnder c ≡ true → Below s n (screened x c)
+pub below-next : (s : Settings) (n : ℕ) (x : Search) (c : Conditional) → Below s (suc n) x → c .eta ≡ gridPoint (s .«eta_bound») (x .count) → T (num? (c .score)) → isAbove c ≡ false → isUnder c ≡ true
+    → Below s n (screened x c)
 below-next s n x c b e q p u =
     let k = b .number in
     let i = b .before in

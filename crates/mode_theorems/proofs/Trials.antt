@@ -175,8 +175,44 @@ keep a z l r b c g i = go (isAbove c) (λ (h : T (isAbove c)). h) (not-above c (
     inZ = both (λ (k : Conditional). T (le (k .eta) z)) (isCloser c b) cZ (g .inR)
 
     go : (t : Bool) → (T t → T (isAbove c)) → (T (not t) → T (isUnder c)) → Good a z (pick t l c) (pick t c r) (pick (isCloser c b) c b)
-    go true up down = record { fitsL = g .fitsL; fitsR = i .fitsC; low = g .low; cellL = g .cellL; order = i .aboveL; cellR = cZ; high = g .high; numL = g .numL; numR = i .numC; numB = num; bestL = toL; bestR = toC; inL = inA; inR = inZ; signL = g .signL; signR = up tt }
-    go false up down = record { fitsL = i .fitsC; fitsR = g .fitsR; low = g .low; cellL = aC; order = i .belowR; cellR = g .cellR; high = g .high; numL = i .numC; numR = g .numR; numB = num; bestL = toC; bestR = toR; inL = inA; inR = inZ; signL = down tt; signR = g .signR }
+    go true up down = record {
+      fitsL = g .fitsL;
+      fitsR = i .fitsC;
+      low = g .low;
+      cellL = g .cellL;
+      order = i .aboveL;
+      cellR = cZ;
+      high = g .high;
+      numL = g .numL;
+      numR = i .numC;
+      numB = num;
+      bestL =
+          toL;
+      bestR = toC;
+      inL = inA;
+      inR = inZ;
+      signL = g .signL;
+      signR = up tt;
+    }
+    go false up down = record {
+      fitsL = i .fitsC;
+      fitsR = g .fitsR;
+      low = g .low;
+      cellL = aC;
+      order = i .belowR;
+      cellR = g .cellR;
+      high = g .high;
+      numL = i .numC;
+      numR = g .numR;
+      numB = num;
+      bestL =
+          toC;
+      bestR = toR;
+      inL = inA;
+      inR = inZ;
+      signL = down tt;
+      signR = g .signR;
+    }
 
 -- ---- the points that are asked for lie between the ends
 not-wide : (t u : Bool) → pick t true u ≡ false → T (not t)
@@ -271,7 +307,8 @@ end-settled Warm p s x h = absurd p
 end-settled Secant p s x h = end-secant (settled s (x .best) (x .left) (x .right)) (secantPoint (x .left) (x .right)) h
 end-settled Halving p s x h = end-halving (settled s (x .best) (x .left) (x .right)) (ltb (x .count) 48) (midpoint (x .left) (x .right)) h
 
-asked-inside : (st : Stage) → T (later st) → (s : Settings) (d : Domain s) (a z : Float) (x : Search) (c : Conditional) → Good a z (x .left) (x .right) (x .best) → Answers (requestAt st s x) c → Inside (x .left) (x .right) c
+asked-inside : (st : Stage) → T (later st) → (s : Settings) (d : Domain s) (a z : Float) (x : Search) (c : Conditional) → Good a z (x .left) (x .right) (x .best) → Answers (requestAt st s x) c →
+    Inside (x .left) (x .right) c
 unfolding requestAt
 asked-inside Grid p s d a z x c g w = absurd p
 asked-inside Warm p s d a z x c g w = absurd p
@@ -334,7 +371,8 @@ source-step false c b m h (inl e) = inl e
 
 -- one point earlier: c was tried
 pub ends-step : (s : Settings) (a z : Float) (stage : Stage) (count : ℕ) (x : Search) (c : Conditional) (h : List Conditional) (e : Search)
-    → Good a z (x .left) (x .right) (x .best) → Inside (x .left) (x .right) c → Ends s a z (cellIn (tried stage count x c)) (tried stage count x c .best) h e → Ends s a z (cellIn x) (x .best) (c ∷ h) e
+    → Good a z (x .left) (x .right) (x .best) → Inside (x .left) (x .right) c → Ends s a z (cellIn (tried stage count x c)) (tried stage count x c .best) h e → Ends s a z (cellIn x) (x .best) (c ∷ h)
+    e
 unfolding bracketFrom InBracket
 ends-step s a z stage count x c h e g i w =
     let b = pick (isCloser c (x .best)) c (x .best) in
@@ -363,7 +401,8 @@ ends-step s a z stage count x c h e g i w =
       source = source-step (isCloser c (x .best)) c (x .best) (e .best) h (v .source);
     }
 
-pub trials : (s : Settings) (d : Domain s) (a z : Float) (h : List Conditional) (x : Search) → T (later (x .stage)) → Good a z (x .left) (x .right) (x .best) → FollowsFrom s x h → T (isEnd (request s (afterFrom s x h)))
+pub trials : (s : Settings) (d : Domain s) (a z : Float) (h : List Conditional) (x : Search) → T (later (x .stage)) → Good a z (x .left) (x .right) (x .best) → FollowsFrom s x h → T
+    (isEnd (request s (afterFrom s x h)))
     → Ends s a z (cellIn x) (x .best) h (afterFrom s x h)
 unfolding Answered ledFrom bracketFrom tried InBracket
 trials s d a z [] x p g f m = record {

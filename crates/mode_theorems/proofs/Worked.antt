@@ -11,7 +11,8 @@ use Rattle.float64.specs.Pick.{pick}
 use Rattle.mode.specs.declared.population_focei.Settings.{Settings}
 use Rattle.mode.specs.declared.population_focei.Conditional.{Conditional}
 use Rattle.mode.specs.declared.population_focei.Request.the-variants.{Point, Mode, Refused}
-use Rattle.mode.specs.Rules.{nought, loosest, gridPoint, secantPoint, settled, isAbove, isUnder, isCloser, requestAt, request, advanceAt, screened, firstScore, fell, firstStage, entered, chosen, tried, start}
+use Rattle.mode.specs.Rules.{nought, loosest, gridPoint, secantPoint, settled, isAbove, isUnder, isCloser, requestAt, request, advanceAt, screened, firstScore, fell, firstStage, entered, chosen}
+use Rattle.mode.specs.Rules.{tried, start}
 use Rattle.mode_theorems.specs.Histories.{ledFrom, Answered}
 use Rattle.mode_theorems.specs.History.{Domain, Answers, Follows, after}
 
@@ -43,15 +44,45 @@ abbrev toMode : List Conditional
 toMode = gridBy (λ i. gridPoint (word 0x4010_0000_0000_0000) i -ᶠ quarter) 17 0 ++ (evaluated quarter nought ∷ [])
 
 pub mode-follows : Follows settings toMode
-unfolding gridBy Answered ledFrom gridPoint secantPoint settled isAbove isUnder isCloser requestAt advanceAt screened firstScore fell firstStage entered chosen tried start pick abs clamp ofBits ofInt add sub mul div neg lt le isNan
-mode-follows = (ok tt tt, (ok tt tt, (ok tt tt, (ok tt tt, (ok tt tt, (ok tt tt, (ok tt tt, (ok tt tt, (ok tt tt, (ok tt tt, (ok tt tt, (ok tt tt, (ok tt tt, (ok tt tt, (ok tt tt, (ok tt tt, (ok tt tt, (ok tt tt, tt))))))))))))))))))
+unfolding gridBy Answered ledFrom gridPoint secantPoint settled isAbove isUnder isCloser requestAt advanceAt screened firstScore fell firstStage entered chosen tried start pick abs clamp ofBits ofInt
+    add sub mul div neg lt le isNan
+mode-follows = (
+  ok tt tt,
+  (
+    ok tt tt,
+    (
+      ok tt tt,
+      (
+        ok tt tt,
+        (
+          ok tt tt,
+          (
+            ok tt tt,
+            (
+              ok tt tt,
+              (
+                ok tt tt,
+                (
+                  ok tt tt,
+                  (ok tt tt, (ok tt tt, (ok tt tt, (ok tt tt, (ok tt tt, (ok tt tt, (ok tt tt, (ok tt tt, (ok tt tt, tt))))))))),
+                ),
+              ),
+            ),
+          ),
+        ),
+      ),
+    ),
+  ),
+)
 
 pub mode-reached : request settings (after settings toMode) ≡ Mode
-unfolding gridBy Answered ledFrom gridPoint secantPoint settled isAbove isUnder isCloser requestAt advanceAt screened firstScore fell firstStage entered chosen tried start pick abs clamp ofBits ofInt add sub mul div neg lt le isNan
+unfolding gridBy Answered ledFrom gridPoint secantPoint settled isAbove isUnder isCloser requestAt advanceAt screened firstScore fell firstStage entered chosen tried start pick abs clamp ofBits ofInt
+    add sub mul div neg lt le isNan
 mode-reached = refl
 
 pub mode-is : after settings toMode .best .eta ≡ quarter
-unfolding gridBy Answered ledFrom gridPoint secantPoint settled isAbove isUnder isCloser requestAt advanceAt screened firstScore fell firstStage entered chosen tried start pick abs clamp ofBits ofInt add sub mul div neg lt le isNan
+unfolding gridBy Answered ledFrom gridPoint secantPoint settled isAbove isUnder isCloser requestAt advanceAt screened firstScore fell firstStage entered chosen tried start pick abs clamp ofBits ofInt
+    add sub mul div neg lt le isNan
 mode-is = refl
 
 -- ---- a score of 1 everywhere: 13
@@ -59,11 +90,40 @@ abbrev toBound : List Conditional
 toBound = gridBy (λ i. one) 17 0
 
 pub bound-follows : Follows settings toBound
-unfolding gridBy Answered ledFrom gridPoint secantPoint settled isAbove isUnder isCloser requestAt advanceAt screened firstScore fell firstStage entered chosen tried start pick abs clamp ofBits ofInt add sub mul div neg lt le isNan
-bound-follows = (ok tt tt, (ok tt tt, (ok tt tt, (ok tt tt, (ok tt tt, (ok tt tt, (ok tt tt, (ok tt tt, (ok tt tt, (ok tt tt, (ok tt tt, (ok tt tt, (ok tt tt, (ok tt tt, (ok tt tt, (ok tt tt, (ok tt tt, tt)))))))))))))))))
+unfolding gridBy Answered ledFrom gridPoint secantPoint settled isAbove isUnder isCloser requestAt advanceAt screened firstScore fell firstStage entered chosen tried start pick abs clamp ofBits ofInt
+    add sub mul div neg lt le isNan
+bound-follows = (
+  ok tt tt,
+  (
+    ok tt tt,
+    (
+      ok tt tt,
+      (
+        ok tt tt,
+        (
+          ok tt tt,
+          (
+            ok tt tt,
+            (
+              ok tt tt,
+              (
+                ok tt tt,
+                (
+                  ok tt tt,
+                  (ok tt tt, (ok tt tt, (ok tt tt, (ok tt tt, (ok tt tt, (ok tt tt, (ok tt tt, (ok tt tt, tt)))))))),
+                ),
+              ),
+            ),
+          ),
+        ),
+      ),
+    ),
+  ),
+)
 
 pub bound-refused : request settings (after settings toBound) ≡ Refused 13
-unfolding gridBy Answered ledFrom gridPoint secantPoint settled isAbove isUnder isCloser requestAt advanceAt screened firstScore fell firstStage entered chosen tried start pick abs clamp ofBits ofInt add sub mul div neg lt le isNan
+unfolding gridBy Answered ledFrom gridPoint secantPoint settled isAbove isUnder isCloser requestAt advanceAt screened firstScore fell firstStage entered chosen tried start pick abs clamp ofBits ofInt
+    add sub mul div neg lt le isNan
 bound-refused = refl
 
 -- ---- -1, then 1, but -1 once more at the 12th point: 14
@@ -74,9 +134,38 @@ abbrev toSeveral : List Conditional
 toSeveral = gridBy rising 17 0
 
 pub several-follows : Follows settings toSeveral
-unfolding gridBy Answered ledFrom gridPoint secantPoint settled isAbove isUnder isCloser requestAt advanceAt screened firstScore fell firstStage entered chosen tried start pick abs clamp ofBits ofInt add sub mul div neg lt le isNan
-several-follows = (ok tt tt, (ok tt tt, (ok tt tt, (ok tt tt, (ok tt tt, (ok tt tt, (ok tt tt, (ok tt tt, (ok tt tt, (ok tt tt, (ok tt tt, (ok tt tt, (ok tt tt, (ok tt tt, (ok tt tt, (ok tt tt, (ok tt tt, tt)))))))))))))))))
+unfolding gridBy Answered ledFrom gridPoint secantPoint settled isAbove isUnder isCloser requestAt advanceAt screened firstScore fell firstStage entered chosen tried start pick abs clamp ofBits ofInt
+    add sub mul div neg lt le isNan
+several-follows = (
+  ok tt tt,
+  (
+    ok tt tt,
+    (
+      ok tt tt,
+      (
+        ok tt tt,
+        (
+          ok tt tt,
+          (
+            ok tt tt,
+            (
+              ok tt tt,
+              (
+                ok tt tt,
+                (
+                  ok tt tt,
+                  (ok tt tt, (ok tt tt, (ok tt tt, (ok tt tt, (ok tt tt, (ok tt tt, (ok tt tt, (ok tt tt, tt)))))))),
+                ),
+              ),
+            ),
+          ),
+        ),
+      ),
+    ),
+  ),
+)
 
 pub several-refused : request settings (after settings toSeveral) ≡ Refused 14
-unfolding gridBy Answered ledFrom gridPoint secantPoint settled isAbove isUnder isCloser requestAt advanceAt screened firstScore fell firstStage entered chosen tried start pick abs clamp ofBits ofInt add sub mul div neg lt le isNan
+unfolding gridBy Answered ledFrom gridPoint secantPoint settled isAbove isUnder isCloser requestAt advanceAt screened firstScore fell firstStage entered chosen tried start pick abs clamp ofBits ofInt
+    add sub mul div neg lt le isNan
 several-refused = refl

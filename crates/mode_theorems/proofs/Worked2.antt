@@ -13,7 +13,8 @@ use Rattle.mode_2d.specs.declared.population_focei_2d.Settings2.{Settings2}
 use Rattle.mode_2d.specs.declared.population_focei_2d.Conditional2.{Conditional2}
 use Rattle.mode_2d.specs.declared.population_focei_2d.Request2.{Request2}
 use Rattle.mode_2d.specs.declared.population_focei_2d.Request2.the-variants.{Point, Mode, Refused}
-use Rattle.mode_2d.specs.Rules.{nought, of, maxAbs, isSame, priorScore, joint, penalisedScore, norm, curvature, stepBy, scale, reduced, trialPoint, decrease, isPassedOver, nextReduction, isTaken, startPoint, isUnresolved, isFar, better, between, trying, finish, tryFrom, descendBy, descend, beginRound, take, leave, requestAt, request, advanceAt, start}
+use Rattle.mode_2d.specs.Rules.{nought, of, maxAbs, isSame, priorScore, joint, penalisedScore, norm, curvature, stepBy, scale, reduced, trialPoint, decrease, isPassedOver, nextReduction, isTaken}
+use Rattle.mode_2d.specs.Rules.{startPoint, isUnresolved, isFar, better, between, trying, finish, tryFrom, descendBy, descend, beginRound, take, leave, requestAt, request, advanceAt, start}
 use Rattle.mode_theorems.specs.Histories.{ledFrom, Answered}
 use Rattle.mode_theorems.specs.History2.{Accepted, Answers, Follows, after}
 
@@ -48,7 +49,8 @@ abbrev reach : Float
 reach = word 0x4030_0000_0000_0000
 
 -- the point that is asked for, evaluated
-ok : {c : Conditional2} → T (le (neg reach) (c .eta .first)) → T (le (c .eta .first) reach) → T (le (neg reach) (c .eta .second)) → T (le (c .eta .second) reach) → T (finite (c .nll)) → Answers (Point (c .eta)) c
+ok : {c : Conditional2} → T (le (neg reach) (c .eta .first)) → T (le (c .eta .first) reach) → T (le (neg reach) (c .eta .second)) → T (le (c .eta .second) reach) → T (finite (c .nll)) → Answers
+    (Point (c .eta)) c
 ok l h m i n = record { asked = refl; within0 = record { low = l; high = h }; within1 = record { low = m; high = i }; nllFinite = n }
 
 -- with this warm start the history h follows the rules, and q is asked after it
@@ -64,15 +66,34 @@ to-mode =
     ∷ flat (of nought two) ∷ flat origin ∷ flat (of nought (neg two)) ∷ flat origin ∷ []
 
 pub comes-to-mode : Comes origin to-mode Mode
-unfolding ofBits round sum isNan lt le eq neg add sub mul div abs max clamp pick determinant product dot inverse hasNonfiniteEntry inversePositive maxAbs isSame priorScore joint penalisedScore norm curvature stepBy scale reduced trialPoint decrease isPassedOver nextReduction isTaken startPoint isUnresolved isFar better between trying finish tryFrom descendBy descend beginRound take leave requestAt advanceAt start ledFrom Answered finite
-comes-to-mode = record { follows = (ok tt tt tt tt tt, (ok tt tt tt tt tt, (ok tt tt tt tt tt, (ok tt tt tt tt tt, (ok tt tt tt tt tt, (ok tt tt tt tt tt, (ok tt tt tt tt tt, (ok tt tt tt tt tt, (ok tt tt tt tt tt, (ok tt tt tt tt tt, (ok tt tt tt tt tt, tt))))))))))); asks = refl }
+unfolding ofBits round sum isNan lt le eq neg add sub mul div abs max clamp pick determinant product dot inverse hasNonfiniteEntry inversePositive maxAbs isSame priorScore joint penalisedScore norm
+    curvature stepBy scale reduced trialPoint decrease isPassedOver nextReduction isTaken startPoint isUnresolved isFar better between trying finish tryFrom descendBy descend beginRound take leave
+    requestAt advanceAt start ledFrom Answered finite
+comes-to-mode = record {
+  follows = (
+    ok tt tt tt tt tt,
+    (
+      ok tt tt tt tt tt,
+      (
+        ok tt tt tt tt tt,
+        (
+          ok tt tt tt tt tt,
+          (ok tt tt tt tt tt, (ok tt tt tt tt tt, (ok tt tt tt tt tt, (ok tt tt tt tt tt, (ok tt tt tt tt tt, (ok tt tt tt tt tt, (ok tt tt tt tt tt, tt))))))),
+        ),
+      ),
+    ),
+  );
+  asks = refl;
+}
 
 -- ---- the warm start at the bound, and a score that leads beyond it: every trial is the start itself, and 13
 abbrev to-bound : List Conditional2
 to-bound = flat origin ∷ point (of four nought) (of (neg eight) nought) nought ∷ []
 
 pub comes-to-13 : Comes (of four nought) to-bound (Refused 13)
-unfolding ofBits round sum isNan lt le eq neg add sub mul div abs max clamp pick determinant product dot inverse hasNonfiniteEntry inversePositive maxAbs isSame priorScore joint penalisedScore norm curvature stepBy scale reduced trialPoint decrease isPassedOver nextReduction isTaken startPoint isUnresolved isFar better between trying finish tryFrom descendBy descend beginRound take leave requestAt advanceAt start ledFrom Answered finite
+unfolding ofBits round sum isNan lt le eq neg add sub mul div abs max clamp pick determinant product dot inverse hasNonfiniteEntry inversePositive maxAbs isSame priorScore joint penalisedScore norm
+    curvature stepBy scale reduced trialPoint decrease isPassedOver nextReduction isTaken startPoint isUnresolved isFar better between trying finish tryFrom descendBy descend beginRound take leave
+    requestAt advanceAt start ledFrom Answered finite
 comes-to-13 = record { follows = (ok tt tt tt tt tt, (ok tt tt tt tt tt, tt)); asks = refl }
 
 -- ---- the warm start is a candidate, and so is zero: 14
@@ -80,7 +101,9 @@ abbrev to-two : List Conditional2
 to-two = flat origin ∷ point (of two nought) (of (neg two) nought) nought ∷ flat origin ∷ []
 
 pub comes-to-14 : Comes (of two nought) to-two (Refused 14)
-unfolding ofBits round sum isNan lt le eq neg add sub mul div abs max clamp pick determinant product dot inverse hasNonfiniteEntry inversePositive maxAbs isSame priorScore joint penalisedScore norm curvature stepBy scale reduced trialPoint decrease isPassedOver nextReduction isTaken startPoint isUnresolved isFar better between trying finish tryFrom descendBy descend beginRound take leave requestAt advanceAt start ledFrom Answered finite
+unfolding ofBits round sum isNan lt le eq neg add sub mul div abs max clamp pick determinant product dot inverse hasNonfiniteEntry inversePositive maxAbs isSame priorScore joint penalisedScore norm
+    curvature stepBy scale reduced trialPoint decrease isPassedOver nextReduction isTaken startPoint isUnresolved isFar better between trying finish tryFrom descendBy descend beginRound take leave
+    requestAt advanceAt start ledFrom Answered finite
 comes-to-14 = record { follows = (ok tt tt tt tt tt, (ok tt tt tt tt tt, (ok tt tt tt tt tt, tt))); asks = refl }
 
 -- ---- an information that undoes the precision: 16
@@ -88,5 +111,7 @@ abbrev to-flat : List Conditional2
 to-flat = flat origin ∷ point origin (of one nought) (neg one) ∷ []
 
 pub comes-to-16 : Comes origin to-flat (Refused 16)
-unfolding ofBits round sum isNan lt le eq neg add sub mul div abs max clamp pick determinant product dot inverse hasNonfiniteEntry inversePositive maxAbs isSame priorScore joint penalisedScore norm curvature stepBy scale reduced trialPoint decrease isPassedOver nextReduction isTaken startPoint isUnresolved isFar better between trying finish tryFrom descendBy descend beginRound take leave requestAt advanceAt start ledFrom Answered finite
+unfolding ofBits round sum isNan lt le eq neg add sub mul div abs max clamp pick determinant product dot inverse hasNonfiniteEntry inversePositive maxAbs isSame priorScore joint penalisedScore norm
+    curvature stepBy scale reduced trialPoint decrease isPassedOver nextReduction isTaken startPoint isUnresolved isFar better between trying finish tryFrom descendBy descend beginRound take leave
+    requestAt advanceAt start ledFrom Answered finite
 comes-to-16 = record { follows = (ok tt tt tt tt tt, (ok tt tt tt tt tt, tt)); asks = refl }

@@ -59,7 +59,8 @@ module _ (fit : Fit) (subject : ℕ) (kept : Cache) where
   unfolding foundUnless
   none-over eta t = yes _ t refl
 
-  pub found-by : {over : Bool} {key : CacheKey} {f : Found} (eta : Pair) → over ≡ false → key ≡ B.keyOf fit subject eta → f ≡ find (kept .words) (fit .k) (kept .order) key → f ≡ foundUnless over fit subject kept eta
+  pub found-by : {over : Bool} {key : CacheKey} {f : Found} (eta : Pair) → over ≡ false → key ≡ B.keyOf fit subject eta → f ≡ find (kept .words) (fit .k) (kept .order) key → f ≡ foundUnless over fit
+      subject kept eta
   unfolding foundUnless
   found-by eta t ek ef = no _ t (ef ∙ ap (find (kept .words) (fit .k) (kept .order)) ek)
 
@@ -86,7 +87,8 @@ pub nothing-taken-one : (fit : Fit) (s : Settings) (rows : ℕ) (x : Search) (wo
 unfolding taken1
 nothing-taken-one fit s rows x work t = ap (λ (h : InHand). taken1 fit s rows h x work) (sym t)
 
-pub takes-one : (fit : Fit) (s : Settings) (rows : ℕ) (x : Search) (work : List ℕ) {hand : InHand} {eta : Pair} {sums : Sums} {c : Conditional} {sources : Sources} {y : Search} {w : List ℕ} → hand ≡ Hand.Evaluated eta sums → c ≡ B.conditional1 fit eta sums → sources ≡ B.sources1 x c → w ≡ moveRows rows sources work → y ≡ advance s x c → worked y w ≡ taken1 fit s rows hand x work
+pub takes-one : (fit : Fit) (s : Settings) (rows : ℕ) (x : Search) (work : List ℕ) {hand : InHand} {eta : Pair} {sums : Sums} {c : Conditional} {sources : Sources} {y : Search} {w : List ℕ} → hand ≡
+    Hand.Evaluated eta sums → c ≡ B.conditional1 fit eta sums → sources ≡ B.sources1 x c → w ≡ moveRows rows sources work → y ≡ advance s x c → worked y w ≡ taken1 fit s rows hand x work
 unfolding taken1
 takes-one fit s rows x work t ec es ew ey =
     (λ i. worked ((ey ∙ ap (advance s x) ec) i) ((ew ∙ ap (λ (z : Sources). moveRows rows z work) (es ∙ ap (B.sources1 x) ec)) i))
@@ -96,7 +98,8 @@ pub nothing-taken-two : (s : Settings2) (rows : ℕ) (x : Search2) (work : List 
 unfolding taken2
 nothing-taken-two s rows x work t = ap (λ (h : InHand). taken2 s rows h x work) (sym t)
 
-pub takes-two : (s : Settings2) (rows : ℕ) (x : Search2) (work : List ℕ) {hand : InHand} {eta : Pair} {sums : Sums} {c : Conditional2} {y : Search2} {sources : Sources} {w : List ℕ} → hand ≡ Hand.Evaluated eta sums → c ≡ B.conditional2 eta sums → y ≡ R2.advance s x c → sources ≡ B.sources2 s x y c → w ≡ moveRows rows sources work → worked y w ≡ taken2 s rows hand x work
+pub takes-two : (s : Settings2) (rows : ℕ) (x : Search2) (work : List ℕ) {hand : InHand} {eta : Pair} {sums : Sums} {c : Conditional2} {y : Search2} {sources : Sources} {w : List ℕ} → hand ≡
+    Hand.Evaluated eta sums → c ≡ B.conditional2 eta sums → y ≡ R2.advance s x c → sources ≡ B.sources2 s x y c → w ≡ moveRows rows sources work → worked y w ≡ taken2 s rows hand x work
 unfolding taken2
 takes-two s rows x work {eta = eta} {sums = sums} {c = c} t ec ey es ew =
     (λ i. worked (ey i) ((ew ∙ ap (λ (z : Sources). moveRows rows z work) (es ∙ ap (λ (y : Search2). B.sources2 s x y c) ey)) i))
@@ -104,7 +107,8 @@ takes-two s rows x work {eta = eta} {sums = sums} {c = c} t ec ey es ew =
     ∙ ap (λ (h : InHand). taken2 s rows h x work) (sym t)
 
 -- ---- either search, as that of the objective
-same-take : (fit : Fit) (rows : ℕ) (progress : Progress) (eta : Pair) (sums : Sums) (work : List ℕ) {a : Advanced} → a ≡ B.advanceBy fit progress eta sums → worked (a .progress) (moveRows rows (a .sources) work) ≡ take fit rows progress eta sums work
+same-take : (fit : Fit) (rows : ℕ) (progress : Progress) (eta : Pair) (sums : Sums) (work : List ℕ) {a : Advanced} → a ≡ B.advanceBy fit progress eta sums → worked (a .progress)
+    (moveRows rows (a .sources) work) ≡ take fit rows progress eta sums work
 unfolding take
 same-take fit rows progress eta sums work e = ap (λ (a : Advanced). worked (a .progress) (moveRows rows (a .sources) work)) e
 
@@ -141,7 +145,8 @@ module _ (fit : Fit) (rows : ℕ) (progress : Progress) (effects : fit .effects 
   two-wanted y e = wanted-two fit (with-two y) effects es e
 
 -- ---- the loop, with n requests left: p is the objective and w the work words with what was in hand
-module _ (fit : Fit) (rows : ℕ) (kept : Cache) (n : ℕ) (hand : InHand) (progress : Progress) (work : List ℕ) {p : Progress} {w : List ℕ} {wanted : Wanted} (et : worked p w ≡ taken fit rows hand progress work) (ew : wanted ≡ B.wantedBy fit p) where
+module _ (fit : Fit) (rows : ℕ) (kept : Cache) (n : ℕ) (hand : InHand) (progress : Progress) (work : List ℕ) {p : Progress} {w : List ℕ} {wanted : Wanted}
+    (et : worked p w ≡ taken fit rows hand progress work) (ew : wanted ≡ B.wantedBy fit p) where
   abbrev Goes : Worked Reached → Type 0
   Goes z = z ≡ throughFrom fit rows kept n hand progress work
 
@@ -179,7 +184,8 @@ module _ (fit : Fit) (rows : ℕ) (kept : Cache) (n : ℕ) (hand : InHand) (prog
     stops t = from-taken (told ∙ stops-from n (sym found-is ∙ t))
 
     -- the kept sums are in hand then
-    pub goes-on : {slot : ℕ} {sums : Sums} {v : List ℕ} → f ≡ F.At slot → v ≡ copied (kept .words) (fit .k) slot rows w (block rows 3) → sums ≡ B.sumsOf (termsOf (kept .words) (fit .k) slot) → throughFrom fit rows kept (n - 1) (Hand.Evaluated eta sums) p v ≡ throughFrom fit rows kept n hand progress work
+    pub goes-on : {slot : ℕ} {sums : Sums} {v : List ℕ} → f ≡ F.At slot → v ≡ copied (kept .words) (fit .k) slot rows w (block rows 3) → sums ≡ B.sumsOf (termsOf (kept .words) (fit .k) slot) →
+        throughFrom fit rows kept (n - 1) (Hand.Evaluated eta sums) p v ≡ throughFrom fit rows kept n hand progress work
     unfolding passed throughFrom taken recalled
     goes-on {slot} t ev es =
         from-taken
@@ -190,15 +196,20 @@ unfolding taken take B.advanceBy B.advance1 B.advance2 B.settings B.settings2 B.
 taken-idle fit rows Hand.Nothing progress work = refl
 taken-idle fit rows (Hand.Evaluated eta sums) progress work = refl
 
-pub from-idle : (fit : Fit) (rows : ℕ) (kept : Cache) (n : ℕ) (hand : InHand) (progress : Progress) (work : List ℕ) → throughFrom fit rows kept n hand (B.withSearch progress (progress .search) (progress .«search_2d»)) work ≡ throughFrom fit rows kept n hand progress work
+pub from-idle : (fit : Fit) (rows : ℕ) (kept : Cache) (n : ℕ) (hand : InHand) (progress : Progress) (work : List ℕ) → throughFrom fit rows kept n hand
+    (B.withSearch progress (progress .search) (progress .«search_2d»)) work ≡ throughFrom fit rows kept n hand progress work
 unfolding throughFrom B.idle
 from-idle fit rows kept n hand progress work = ap (λ (t : Worked Progress). through fit rows kept n (t .value) (t .work)) (taken-idle fit rows hand progress work)
 
 -- ---- either; p is what `with_search` made
-pub reaches-one : (fit : Fit) (rows : ℕ) (kept : Cache) (n : ℕ) (hand : InHand) (progress : Progress) (work : List ℕ) {m : ℕ} (r : Reached1) {p : Progress} {w : List ℕ} → rows ≡ m → worked (reached1 progress r) w ≡ throughFrom fit rows kept n hand progress work → p ≡ B.withSearch progress (r .search) (progress .«search_2d») → worked (record { progress = p; left = r .left; wanted = r .wanted }) w ≡ throughFrom fit m kept n hand progress work
+pub reaches-one : (fit : Fit) (rows : ℕ) (kept : Cache) (n : ℕ) (hand : InHand) (progress : Progress) (work : List ℕ) {m : ℕ} (r : Reached1) {p : Progress} {w : List ℕ} → rows ≡ m → worked
+    (reached1 progress r) w ≡ throughFrom fit rows kept n hand progress work → p ≡ B.withSearch progress (r .search) (progress .«search_2d») → worked
+    (record { progress = p; left = r .left; wanted = r .wanted }) w ≡ throughFrom fit m kept n hand progress work
 reaches-one fit rows kept n hand progress work r {w = w} er q ep =
     ap (λ (p : Progress). worked (record { progress = p; left = r .left; wanted = r .wanted }) w) ep ∙ q ∙ ap (λ (m : ℕ). throughFrom fit m kept n hand progress work) er
 
-pub reaches-two : (fit : Fit) (rows : ℕ) (kept : Cache) (n : ℕ) (hand : InHand) (progress : Progress) (work : List ℕ) {m : ℕ} (r : Reached2) {p : Progress} {w : List ℕ} → rows ≡ m → worked (reached2 progress r) w ≡ throughFrom fit rows kept n hand progress work → p ≡ B.withSearch progress (progress .search) (r .search) → worked (record { progress = p; left = r .left; wanted = r .wanted }) w ≡ throughFrom fit m kept n hand progress work
+pub reaches-two : (fit : Fit) (rows : ℕ) (kept : Cache) (n : ℕ) (hand : InHand) (progress : Progress) (work : List ℕ) {m : ℕ} (r : Reached2) {p : Progress} {w : List ℕ} → rows ≡ m → worked
+    (reached2 progress r) w ≡ throughFrom fit rows kept n hand progress work → p ≡ B.withSearch progress (progress .search) (r .search) → worked
+    (record { progress = p; left = r .left; wanted = r .wanted }) w ≡ throughFrom fit m kept n hand progress work
 reaches-two fit rows kept n hand progress work r {w = w} er q ep =
     ap (λ (p : Progress). worked (record { progress = p; left = r .left; wanted = r .wanted }) w) ep ∙ q ∙ ap (λ (m : ℕ). throughFrom fit m kept n hand progress work) er

@@ -76,7 +76,8 @@ module _ (fit : Fit) (counts : List ℕ) (tally : Tally) (kept : Cache) (p : Pro
   serves (Wants.Refused number) = refl
 
   -- nothing is kept of what is wanted
-  pub unkept-served : {x : Wanted} → x ≡ B.wantedBy fit p → keptPoint fit (p .subject) kept x ≡ notKept → cleared (unkept fit counts p tally work warm results x) ≡ turned words fit counts p tally kept work warm results
+  pub unkept-served : {x : Wanted} → x ≡ B.wantedBy fit p → keptPoint fit (p .subject) kept x ≡ notKept → cleared (unkept fit counts p tally work warm results x) ≡ turned words fit counts p tally kept
+      work warm results
   unfolding Serves cleared turned served
   unkept-served {x} e t =
       let s : Serves x notKept = subst (Serves x) t (serves x) in
@@ -118,8 +119,10 @@ module _ (fit : Fit) (counts : List ℕ) (tally : Tally) (kept : Cache) (warm re
   same (suc n) p w er = same-by n p w (same n) _ refl er
 
 -- z is what `through_kept` answered, with the work words that it left
-pub same-loop : (fit : Fit) (counts : List ℕ) (tally : Tally) (kept : Cache) (warm results : List ℕ) (n : ℕ) (hand : InHand) (p : Progress) (work : List ℕ) {z : Worked Reached} → z ≡ throughFrom fit (rowsOf counts (p .subject)) kept n hand p work
-    → loop (turn words fit counts) spent (z .value .left) (whole (z .value .progress) tally kept (z .work) warm results) ≡ loop (turn words fit counts) spent n (wholeFrom fit counts hand p tally kept work warm results)
+pub same-loop : (fit : Fit) (counts : List ℕ) (tally : Tally) (kept : Cache) (warm results : List ℕ) (n : ℕ) (hand : InHand) (p : Progress) (work : List ℕ) {z : Worked Reached} → z ≡ throughFrom fit
+    (rowsOf counts (p .subject)) kept n hand p work
+    → loop (turn words fit counts) spent (z .value .left) (whole (z .value .progress) tally kept (z .work) warm results) ≡ loop (turn words fit counts) spent n
+    (wholeFrom fit counts hand p tally kept work warm results)
 unfolding throughFrom
 same-loop fit counts tally kept warm results n hand p work e =
     let rows = rowsOf counts (p .subject) in
@@ -134,7 +137,8 @@ pub record Ends (fit : Fit) (kept : Cache) (n : ℕ) (r : Reached) : Type 0 wher
   pub unkept : (r .left ≡ 0 → ⊥) → keptPoint fit (r .progress .subject) kept (r .wanted) ≡ notKept
 
 module _ (fit : Fit) (kept : Cache) (rows : ℕ) where
-  ends-by : (n : ℕ) (p : Progress) (w : List ℕ) → ((q : Progress) (v : List ℕ) → Ends fit kept n (through fit rows kept n q v .value)) → (point : KeptPoint) → keptPoint fit (p .subject) kept (B.wantedBy fit p) ≡ point
+  ends-by : (n : ℕ) (p : Progress) (w : List ℕ) → ((q : Progress) (v : List ℕ) → Ends fit kept n (through fit rows kept n q v .value)) → (point : KeptPoint) → keptPoint fit (p .subject) kept
+      (B.wantedBy fit p) ≡ point
       → Ends fit kept (suc n) (passed fit rows kept (suc n) p w (λ q v. through fit rows kept n q v) point .value)
   unfolding passed
   ends-by n p w ih (keptIn eta slot) t =

@@ -42,7 +42,8 @@ module _ (counts : List ℕ) (subject : ℕ) where
   pub rows-at-most : {n : ℕ} → n ≡ rowsOf counts subject → n ≤ mostRows
   unfolding rowsOf
   rows-at-most e =
-      let few : rowsOf counts subject ≤ mostRows = cases (λ (x : ℕ). x ≤ mostRows) (ltb (getD counts subject 0) mostRows) (λ h. let l = ltb-true (getD counts subject 0) mostRows h in omega arith) (λ h. omega arith) in
+      let few : rowsOf counts subject ≤ mostRows = cases (λ (x : ℕ). x ≤ mostRows) (ltb (getD counts subject 0) mostRows) (λ h. let l = ltb-true (getD counts subject 0) mostRows h in omega arith)
+      (λ h. omega arith) in
       subst (λ (x : ℕ). x ≤ mostRows) (sym e) few
 
 -- ---- warm starts; a and b are the words that were read, x and y their floats
@@ -54,7 +55,8 @@ module _ (warm : List ℕ) (effects subject : ℕ) where
       let second : getD warm (2 * subject + 1) 0 ≡ 0 = List·getD-eq-default warm 0 (omega arith) in
       yes _ (eq-eqb _ _ h) (λ i. record { first = word (sym first i); second = word (sym second i) })
 
-  pub two-warm : {a b : ℕ} {x y : Float} → effects ≡ 2 → a ≡ getD warm (2 * subject) 0 → x ≡ word a → b ≡ getD warm (2 * subject + 1) 0 → y ≡ word b → record { first = x; second = y } ≡ warmOf warm effects subject
+  pub two-warm : {a b : ℕ} {x y : Float} → effects ≡ 2 → a ≡ getD warm (2 * subject) 0 → x ≡ word a → b ≡ getD warm (2 * subject + 1) 0 → y ≡ word b → record { first = x; second = y } ≡ warmOf warm
+      effects subject
   unfolding warmOf
   two-warm h ea ex eb ey = yes _ (eq-eqb _ _ h) (λ i. record { first = (ex ∙ ap word ea) i; second = (ey ∙ ap word eb) i })
 
@@ -71,7 +73,8 @@ module _ (effects subject : ℕ) (eta : Pair) (warm : List ℕ) where
       yes _ (eq-eqb _ _ h)
       (sym (ap (λ (w : List ℕ). set w (2 * subject + 1) b) (set-out warm (2 * subject) (toBits binary64 (eta .first)) (omega arith)) ∙ set-out warm (2 * subject + 1) b (omega arith)))
 
-  pub two-stored : {a b : ℕ} {w1 w2 : List ℕ} → effects ≡ 2 → a ≡ toBits binary64 (eta .first) → w1 ≡ set warm (2 * subject) a → b ≡ toBits binary64 (eta .second) → w2 ≡ set w1 (2 * subject + 1) b → w2 ≡ warmStored effects subject eta warm
+  pub two-stored : {a b : ℕ} {w1 w2 : List ℕ} → effects ≡ 2 → a ≡ toBits binary64 (eta .first) → w1 ≡ set warm (2 * subject) a → b ≡ toBits binary64 (eta .second) → w2 ≡ set w1 (2 * subject + 1) b →
+      w2 ≡ warmStored effects subject eta warm
   unfolding warmStored
   two-stored h ea e1 eb e2 = yes _ (eq-eqb _ _ h) (e2 ∙ (λ i. set ((e1 ∙ ap (set warm (2 * subject)) ea) i) (2 * subject + 1) (eb i)))
 
@@ -87,7 +90,8 @@ module _ (fit : Fit) (counts : List ℕ) (progress : Progress) (tally : Tally) (
   abbrev squares : Float
   squares = progress .«eta_squares» +ᶠ mode .eta .first *ᶠ mode .eta .first
 
-  pub next-begins : {first : ℕ} {start : Pair} {w : List ℕ} {next : Progress} → subject < length counts → first ≡ raised (progress .first) rows → start ≡ warmOf warm (fit .effects) subject → w ≡ zeros (length work) → next ≡ B.beginSubject subject first start sum squares → worked (On next) w ≡ nextSubject fit counts progress tally mode rows warm work
+  pub next-begins : {first : ℕ} {start : Pair} {w : List ℕ} {next : Progress} → subject < length counts → first ≡ raised (progress .first) rows → start ≡ warmOf warm (fit .effects) subject → w ≡ zeros
+      (length work) → next ≡ B.beginSubject subject first start sum squares → worked (On next) w ≡ nextSubject fit counts progress tally mode rows warm work
   unfolding nextSubject
   next-begins l ef ea ew en =
       yes _ (lt-ltb _ _ (subst (λ (x : ℕ). x < length counts) es l))
@@ -98,23 +102,27 @@ module _ (fit : Fit) (counts : List ℕ) (progress : Progress) (tally : Tally) (
   none-next l q = no _ (le-ltb _ _ (subst (λ (x : ℕ). length counts ≤ x) es l)) (ap (λ (h : Halted). worked (Halt h) work) q)
 
 -- ---- a mode; x is what `closed_by` answered
-module _ (fit : Fit) (counts : List ℕ) (progress : Progress) (tally : Tally) (work warm results : List ℕ) {rows : ℕ} {x : Closed} (er : rows ≡ rowsOf counts (progress .subject)) (ex : x ≡ B.closedBy fit progress rows) where
+module _ (fit : Fit) (counts : List ℕ) (progress : Progress) (tally : Tally) (work warm results : List ℕ) {rows : ℕ} {x : Closed} (er : rows ≡ rowsOf counts (progress .subject))
+    (ex : x ≡ B.closedBy fit progress rows) where
   closed-as : {variant : Closed} {z : Ended} → x ≡ variant → z ≡ closing fit counts progress tally rows work warm results variant → z ≡ atMode fit counts progress tally work warm results
   unfolding atMode
   closed-as t q = q ∙ (λ i. closing fit counts progress tally (er i) work warm results ((sym t ∙ ex ∙ ap (B.closedBy fit progress) er) i))
 
-  pub not-positive : {h : Halted} → x ≡ NotPositive → h ≡ B.refusedBy progress tally 16 (Subject (progress .subject)) → ended (Halt h) work warm results ≡ atMode fit counts progress tally work warm results
+  pub not-positive : {h : Halted} → x ≡ NotPositive → h ≡ B.refusedBy progress tally 16 (Subject (progress .subject)) → ended (Halt h) work warm results ≡ atMode fit counts progress tally work warm
+      results
   unfolding closing
   not-positive t q = closed-as t (ap (λ (h : Halted). ended (Halt h) work warm results) q)
 
   -- stored is the warm starts with this one, b what `is_same_grid` answered
   module _ {mode : Mode} {stored : List ℕ} {b : Bool} (t : x ≡ Positive mode) (es : stored ≡ warmStored (fit .effects) (progress .subject) (mode .eta) warm) (eb : b ≡ isSameGrid work rows) where
-    pub other-grid : {h : Halted} → b ≡ false → h ≡ B.refusedBy progress tally 17 (Subject (progress .subject)) → ended (Halt h) work stored results ≡ atMode fit counts progress tally work warm results
+    pub other-grid : {h : Halted} → b ≡ false → h ≡ B.refusedBy progress tally 17 (Subject (progress .subject)) → ended (Halt h) work stored results ≡ atMode fit counts progress tally work warm
+        results
     unfolding closing
     other-grid u q = closed-as t (noOf _ eb u (λ i. ended (Halt (q i)) work (es i) results))
 
     -- r1 and r2 are the results after each store
-    pub same-grid : {r1 r2 w : List ℕ} {next : Turned} → b ≡ true → r1 ≡ resultWritten (progress .subject) (mode .eta) (mode .nll) results → r2 ≡ fittedWritten (length counts) (progress .first) work rows r1 → worked next w ≡ nextSubject fit counts progress tally mode rows stored work → ended next w stored r2 ≡ atMode fit counts progress tally work warm results
+    pub same-grid : {r1 r2 w : List ℕ} {next : Turned} → b ≡ true → r1 ≡ resultWritten (progress .subject) (mode .eta) (mode .nll) results → r2 ≡ fittedWritten (length counts) (progress .first) work
+        rows r1 → worked next w ≡ nextSubject fit counts progress tally mode rows stored work → ended next w stored r2 ≡ atMode fit counts progress tally work warm results
     unfolding closing
     same-grid u e1 e2 q =
         let n = q ∙ ap (λ (s : List ℕ). nextSubject fit counts progress tally mode rows s work) es in

@@ -43,11 +43,13 @@ module _ (fit : Fit) (counts : List ℕ) (progress : Progress) (tally : Tally) (
   unfolding unkept
   wants-point t q = wanted t (ap (λ (h : Halted). ended (Halt h) work warm results) q)
 
-  pub wants-mode : {next : Turned} {w a r : List ℕ} → x ≡ Wants.Mode → ended next w a r ≡ atMode fit counts progress tally work warm results → ended next w a r ≡ unkept fit counts progress tally work warm results x
+  pub wants-mode : {next : Turned} {w a r : List ℕ} → x ≡ Wants.Mode → ended next w a r ≡ atMode fit counts progress tally work warm results → ended next w a r ≡ unkept fit counts progress tally work
+      warm results x
   unfolding unkept
   wants-mode t q = wanted t q
 
-  pub wants-nothing : {number : ℕ} {h : Halted} → x ≡ Wants.Refused number → h ≡ B.refusedBy progress tally number (Subject (progress .subject)) → ended (Halt h) work warm results ≡ unkept fit counts progress tally work warm results x
+  pub wants-nothing : {number : ℕ} {h : Halted} → x ≡ Wants.Refused number → h ≡ B.refusedBy progress tally number (Subject (progress .subject)) → ended (Halt h) work warm results ≡ unkept fit counts
+      progress tally work warm results x
   unfolding unkept
   wants-nothing t q = wanted t (ap (λ (h : Halted). ended (Halt h) work warm results) q)
 
@@ -98,8 +100,10 @@ module _ (fit : Fit) (counts : List ℕ) (progress : Progress) (tally : Tally) (
   on-begins x e q = subst Begins (sym (ap (λ (y : Ended). y .turned) e) ∙ q) (begins x)
 
 -- ---- the loop, with n requests left; x is what `through_kept` answered, v the work words that it left
-module _ (fit : Fit) (counts : List ℕ) (hand : InHand) (progress : Progress) (tally : Tally) (kept : Cache) (work warm results : List ℕ) (n : ℕ) (x : Reached) {v : List ℕ} (ex : worked x v ≡ throughFrom fit (rowsOf counts (progress .subject)) kept n hand progress work) where
-  pub requests-spent : x .left ≡ 0 → ran (record { progress = x .progress; tally = tally; step = spent }) kept v warm results ≡ loop (turn words fit counts) spent n (wholeFrom fit counts hand progress tally kept work warm results)
+module _ (fit : Fit) (counts : List ℕ) (hand : InHand) (progress : Progress) (tally : Tally) (kept : Cache) (work warm results : List ℕ) (n : ℕ) (x : Reached) {v : List ℕ}
+    (ex : worked x v ≡ throughFrom fit (rowsOf counts (progress .subject)) kept n hand progress work) where
+  pub requests-spent : x .left ≡ 0 → ran (record { progress = x .progress; tally = tally; step = spent }) kept v warm results ≡ loop (turn words fit counts) spent n
+      (wholeFrom fit counts hand progress tally kept work warm results)
   requests-spent h = loop-spent (turn words fit counts) spent (whole (x .progress) tally kept v warm results) (x .left) h ∙ same-loop fit counts tally kept warm results n hand progress work ex
 
   -- t is what `turn` answered, w, a and r the words that it left
@@ -112,7 +116,8 @@ module _ (fit : Fit) (counts : List ℕ) (hand : InHand) (progress : Progress) (
         ∙ ap (λ (y : Ended). moved words tally kept (y .work) (y .warm) (y .results) (y .turned)) (e ∙ unkept-served fit counts tally kept (x .progress) v warm results (ends .wants) (ends .unkept h))
 
     pub requests-on : {next : Progress} → t ≡ On next
-        → loop (turn words fit counts) spent (x .left - 1) (wholeFrom fit counts Hand.Nothing next tally kept w a r) ≡ loop (turn words fit counts) spent n (wholeFrom fit counts hand progress tally kept work warm results)
+        → loop (turn words fit counts) spent (x .left - 1) (wholeFrom fit counts Hand.Nothing next tally kept w a r) ≡ loop (turn words fit counts) spent n
+        (wholeFrom fit counts hand progress tally kept work warm results)
     unfolding moved taken
     requests-on q =
         ap (λ (p : Progress). loop (turn words fit counts) spent (x .left - 1) (whole p tally kept w a r)) (sym (on-begins fit counts (x .progress) tally v warm results (x .wanted) e q))

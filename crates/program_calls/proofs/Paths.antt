@@ -111,7 +111,8 @@ module _ (w : List ℕ) (width : ℕ) (counts : List ℕ) where
   pub check-first : (n : ℕ) → checkedFrom (n - 0) 0 firstCheck ≡ checkedFrom n 0 firstCheck
   check-first n = ap (λ (m : ℕ). checkedFrom m 0 firstCheck) (all n)
 
-  pub check-next : {o : Observation} {check' : Check} (n i : ℕ) (check : Check) → i < n → o ≡ observationIn w i → check' ≡ checkObservation width counts o check → checkedFrom (n - (i + 1)) (i + 1) check' ≡ checkedFrom (n - i) i check
+  pub check-next : {o : Observation} {check' : Check} (n i : ℕ) (check : Check) → i < n → o ≡ observationIn w i → check' ≡ checkObservation width counts o check → checkedFrom (n - (i + 1)) (i + 1)
+      check' ≡ checkedFrom (n - i) i check
   check-next n i check h eo e =
       ap (checkedFrom (n - (i + 1)) (i + 1)) (e ∙ ap (λ (o : Observation). checkObservation width counts o check) eo)
       ∙ ap (λ (l : List Observation). checkObservations width counts l check) (first-of w n i h)
@@ -129,7 +130,8 @@ module _ (w : List ℕ) (trial : Trial) (reply : List ℕ) where
   abbrev pub addedFrom : ℕ → ℕ → Evaluating → Evaluating
   addedFrom n i x = addObservations trial reply (observationsFrom n i w) x
 
-  pub add-next : {o : Observation} {x' : Evaluating} (n i : ℕ) (x : Evaluating) → i < n → o ≡ observationIn w i → x' ≡ addObservation trial reply o x → addedFrom (n - (i + 1)) (i + 1) x' ≡ addedFrom (n - i) i x
+  pub add-next : {o : Observation} {x' : Evaluating} (n i : ℕ) (x : Evaluating) → i < n → o ≡ observationIn w i → x' ≡ addObservation trial reply o x → addedFrom (n - (i + 1)) (i + 1) x' ≡ addedFrom
+      (n - i) i x
   add-next n i x h eo e =
       ap (addedFrom (n - (i + 1)) (i + 1)) (e ∙ ap (λ (o : Observation). addObservation trial reply o x) eo)
       ∙ ap (λ (l : List Observation). addObservations trial reply l x) (first-of w n i h)
@@ -137,6 +139,7 @@ module _ (w : List ℕ) (trial : Trial) (reply : List ℕ) where
   pub add-end : (n i : ℕ) (x : Evaluating) → n ≤ i → x ≡ addedFrom (n - i) i x
   add-end n i x h = ap (λ (l : List Observation). addObservations trial reply l x) (none-of w n i h)
 
-  pub add-part : {r : Evaluating} {e n : ℕ} (f t : ℕ) (x : Evaluating) → n ≡ length (observationsOf w) → e ≡ smaller t n → r ≡ addedFrom (e - f) f x → r ≡ addObservations trial reply (take (t - f) (drop f (observationsOf w))) x
+  pub add-part : {r : Evaluating} {e n : ℕ} (f t : ℕ) (x : Evaluating) → n ≡ length (observationsOf w) → e ≡ smaller t n → r ≡ addedFrom (e - f) f x → r ≡ addObservations trial reply
+      (take (t - f) (drop f (observationsOf w))) x
   add-part f t x en ee q =
       q ∙ ap (λ (m : ℕ). addedFrom (m - f) f x) (ee ∙ ap (smaller t) (en ∙ sym (counted w))) ∙ ap (λ (l : List Observation). addObservations trial reply l x) (sym (part-of w f t))

@@ -71,7 +71,8 @@ module _ (fit : Fit) (best : Conditional2) (rows : ℕ) {r : InversePositive} (e
   unfolding closedWith answer
   not-positive t = closed-as t refl
 
-  pub closes-two : {det d l : Float} {v : List Float} → let eta = pair (best .eta .first) (best .eta .second) in r ≡ Exists det → v ≡ product (precisionOf fit) eta → d ≡ dot eta v → l ≡ log (fit .«det_omega» *ᶠ det) → modeTwo best rows d l ≡ closed2 fit best rows
+  pub closes-two : {det d l : Float} {v : List Float} → let eta = pair (best .eta .first) (best .eta .second) in r ≡ Exists det → v ≡ product (precisionOf fit) eta → d ≡ dot eta v → l ≡ log
+      (fit .«det_omega» *ᶠ det) → modeTwo best rows d l ≡ closed2 fit best rows
   unfolding closedWith answer
   closes-two t ev ed el =
       let eta = pair (best .eta .first) (best .eta .second) in

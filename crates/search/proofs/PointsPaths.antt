@@ -24,7 +24,8 @@ use Rattle.subject.specs.declared.Sums.{Sums}
 use Rattle.search.specs.declared.Fit.{Fit}
 use Rattle.search.specs.declared.Progress.{Progress}
 use Rattle.search.specs.declared.Wanted.{Wanted}
-use Rattle.search.specs.Subjects.{settings, settings2, wants1, wanted1, wants2, wanted2, wantedBy, conditional1, conditional2, sourcesAt, sources1, currentAt, currentSource, isNewBest, populationAt, populationSource, sources2, withSearch, advance1, advance2, advanceBy}
+use Rattle.search.specs.Subjects.{settings, settings2, wants1, wanted1, wants2, wanted2, wantedBy, conditional1, conditional2, sourcesAt, sources1, currentAt, currentSource, isNewBest}
+use Rattle.search.specs.Subjects.{populationAt, populationSource, sources2, withSearch, advance1, advance2, advanceBy}
 
 -- ---- what the search wants: r is what it asked for, v its variant
 pub wants-one : (s : Settings) (x : Search) {r v : Request} → r ≡ request s x → r ≡ v → wants1 v ≡ wanted1 s x
@@ -80,14 +81,16 @@ module _ (s : Settings2) (x y : Search2) where
 
 -- ---- the search with an evaluated point; after is the search afterwards, p the progress, w the sources
 module _ (fit : Fit) (progress : Progress) (eta : Pair) (sums : Sums) {p : Progress} {w : Sources} where
-  pub advance-two : {s : Settings2} {c : Conditional2} {after : Search2} → fit .effects ≡ 2 → s ≡ settings2 fit progress → c ≡ conditional2 eta sums → after ≡ R2.advance s (progress .«search_2d») c → p ≡ withSearch progress (progress .search) after → w ≡ sources2 s (progress .«search_2d») after c → record { progress = p; sources = w } ≡ advanceBy fit progress eta sums
+  pub advance-two : {s : Settings2} {c : Conditional2} {after : Search2} → fit .effects ≡ 2 → s ≡ settings2 fit progress → c ≡ conditional2 eta sums → after ≡ R2.advance s (progress .«search_2d») c →
+      p ≡ withSearch progress (progress .search) after → w ≡ sources2 s (progress .«search_2d») after c → record { progress = p; sources = w } ≡ advanceBy fit progress eta sums
   unfolding advanceBy advance2
   advance-two {s} {c} h es ec ea ep ew =
       let x = progress .«search_2d» in
       yes _ (eq-eqb _ _ h)
       ((λ i. record { progress = (ep ∙ ap (withSearch progress (progress .search)) ea) i; sources = (ew ∙ ap (λ (y : Search2). sources2 s x y c) ea) i }) ∙ (λ i. advance2 (es i) progress (ec i)))
 
-  pub advance-one : {s : Settings} {c : Conditional} {after : Search} → (fit .effects ≡ 2 → ⊥) → s ≡ settings fit progress → c ≡ conditional1 fit eta sums → after ≡ advance s (progress .search) c → p ≡ withSearch progress after (progress .«search_2d») → w ≡ sources1 (progress .search) c → record { progress = p; sources = w } ≡ advanceBy fit progress eta sums
+  pub advance-one : {s : Settings} {c : Conditional} {after : Search} → (fit .effects ≡ 2 → ⊥) → s ≡ settings fit progress → c ≡ conditional1 fit eta sums → after ≡ advance s (progress .search) c → p
+      ≡ withSearch progress after (progress .«search_2d») → w ≡ sources1 (progress .search) c → record { progress = p; sources = w } ≡ advanceBy fit progress eta sums
   unfolding advanceBy advance1
   advance-one {s} {c} h es ec ea ep ew =
       no _ (ne-eqb _ _ h)

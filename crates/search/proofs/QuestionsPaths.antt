@@ -64,16 +64,18 @@ module _ (fit : Fit) (progress : Progress) (tally : Tally) (eta : Pair) where
   unfolding ask
   none-left h q = no _ (le-ltb _ _ h) q
 
-  module _ {raised : Tally} {r : IndividualValues} (h : tally .calls .0 < fit .«max_evaluations») (et : raised ≡ counted tally) (e : answerValues r ≡ individualValues (fit .theta) eta (fit .effects)) where
-    asked : {v : IndividualValues} {z : Halted} → r ≡ v → z ≡ askFor progress raised eta (answerValues v) → z ≡ ask fit progress tally eta
-    unfolding ask
-    asked t q = yes _ (lt-ltb _ _ h) (q ∙ (λ i. askFor progress (et i) eta ((sym (ap answerValues t) ∙ e) i)))
+  module _ {raised : Tally} {r : IndividualValues} (h : tally .calls .0 < fit .«max_evaluations») (et : raised ≡ counted tally) (e : answerValues r ≡ individualValues (fit .theta) eta (fit .effects))
+    where
+      asked : {v : IndividualValues} {z : Halted} → r ≡ v → z ≡ askFor progress raised eta (answerValues v) → z ≡ ask fit progress tally eta
+      unfolding ask
+      asked t q = yes _ (lt-ltb _ _ h) (q ∙ (λ i. askFor progress (et i) eta ((sym (ap answerValues t) ∙ e) i)))
 
-    -- p is the progress afterwards
-    pub valid-values : {individual : Pair} {p : Progress} → r ≡ Valid individual → p ≡ awaiting progress individual → record { progress = p; tally = raised; step = Asked eta individual } ≡ ask fit progress tally eta
-    unfolding askFor answerValues
-    valid-values {individual} t q = asked t (λ i. record { progress = q i; tally = raised; step = Asked eta individual })
+      -- p is the progress afterwards
+      pub valid-values : {individual : Pair} {p : Progress} → r ≡ Valid individual → p ≡ awaiting progress individual → record { progress = p; tally = raised; step = Asked eta individual } ≡ ask fit
+          progress tally eta
+      unfolding askFor answerValues
+      valid-values {individual} t q = asked t (λ i. record { progress = q i; tally = raised; step = Asked eta individual })
 
-    pub invalid-values : {z : Halted} → r ≡ Invalid → z ≡ refusedBy progress raised 7 (Subject (progress .subject)) → z ≡ ask fit progress tally eta
-    unfolding askFor answerValues
-    invalid-values t q = asked t q
+      pub invalid-values : {z : Halted} → r ≡ Invalid → z ≡ refusedBy progress raised 7 (Subject (progress .subject)) → z ≡ ask fit progress tally eta
+      unfolding askFor answerValues
+      invalid-values t q = asked t q

@@ -3,7 +3,8 @@
 // get their rows. By value; each function is defined for all values.
 ghost use mathlib.Core.Path.{_≡_};
 ghost use Rattle.float64.specs.Pick.{pick};
-ghost use Rattle.search.specs.Subjects.{settings, settings2, wanted1, wanted2, wantedBy, conditional1, conditional2, gridSources, bracketSources, sources1, currentSource, isNewBest, populationSource, sources2, withSearch};
+ghost use Rattle.search.specs.Subjects.{settings, settings2, wanted1, wanted2, wantedBy, conditional1, conditional2, gridSources};
+ghost use Rattle.search.specs.Subjects.{bracketSources, sources1, currentSource, isNewBest, populationSource, sources2, withSearch};
 use super::Fit;
 use super::Progress;
 use super::Wanted;

@@ -53,9 +53,15 @@ module _ (effects : ℕ) (counts : List ℕ) (n : ℕ) (p : Progress) where
 
 -- ---- the first state; p is what `begin_subject` answered
 pub first-made : (setup : Setup) {p : Progress} → p ≡ beginSubject 0 0 (record { first = word 0; second = word 0 }) (word 0) (word 0)
-    → record { parameters = record { theta = record { first = word 0; second = word 0 }; omega = setup .omega00; «additive_sd» = setup .«additive_sd» }; progress = p; order = order 1 1 0 0 } ≡ firstState setup
+    → record { parameters = record { theta = record { first = word 0; second = word 0 }; omega = setup .omega00; «additive_sd» = setup .«additive_sd» }; progress = p; order = order 1 1 0 0 } ≡
+    firstState setup
 first-made setup e =
-    ap (λ (p : Progress). record { parameters = record { theta = record { first = word 0; second = word 0 }; omega = setup .omega00; «additive_sd» = setup .«additive_sd» }; progress = p; order = order 1 1 0 0 }) e
+    ap (λ (p : Progress). record {
+      parameters = record { theta = record { first = word 0; second = word 0 }; omega = setup .omega00; «additive_sd» = setup .«additive_sd» };
+      progress = p;
+      order = order
+          1 1 0 0;
+    }) e
 
 -- ---- what lets a new objective in: 19, then 1 to 5; b is what `is_standing` answered
 module _ (setup : Setup) (counts : List ℕ) (lent : Lent) (check : Check) (parameters : Parameters) (progress : Progress) (tally : Tally) where
@@ -64,7 +70,8 @@ module _ (setup : Setup) (counts : List ℕ) (lent : Lent) (check : Check) (para
   objective-awaits e = yes _ e refl
 
   module _ {b : Bool} (e : progress .awaits ≡ false) (q : b ≡ isStanding setup counts (lent .observations) tally progress) where
-    pub objective-checked : {own : Setup} {a : Admission} → b ≡ true → own ≡ withParameters setup parameters → a ≡ checks own counts lent check → a ≡ admitObjective setup counts lent check parameters progress tally
+    pub objective-checked : {own : Setup} {a : Admission} → b ≡ true → own ≡ withParameters setup parameters → a ≡ checks own counts lent check → a ≡ admitObjective setup counts lent check parameters
+        progress tally
     unfolding admitObjective
     objective-checked t o d = no _ e (yesOf _ q t (d ∙ ap (λ (s : Setup). checks s counts lent check) o))
 

@@ -72,9 +72,11 @@ module _ (setup : Setup) (counts : List ℕ) (lent : Lent) (check : Check) (stat
 
   pub whole-awaited : awaitedFor tested (awaitedPoint setup counts (lent .observations) state tally) ≡ admitAwaited setup counts lent check state tally
   unfolding awaitedPoint awaitedFor admitAwaited
-  whole-awaited = pick-through (awaitedFor tested) (state .progress .awaits) (λ _. pick-through (awaitedFor tested) (isStanding setup counts (lent .observations) tally (state .progress)) (λ _. at-wanted _) refl) refl
+  whole-awaited = pick-through (awaitedFor tested) (state .progress .awaits) (λ _. pick-through (awaitedFor tested) (isStanding setup counts (lent .observations) tally (state .progress))
+      (λ _. at-wanted _) refl) refl
 
-  pub awaited-by : {wanted : Wanted} {own : Setup} {a : Admission} {r : Awaited} → wanted ≡ awaitedPoint setup counts (lent .observations) state tally → own ≡ withParameters setup (state .parameters) → a ≡ checks own counts lent check → r ≡ awaitedFor a wanted
+  pub awaited-by : {wanted : Wanted} {own : Setup} {a : Admission} {r : Awaited} → wanted ≡ awaitedPoint setup counts (lent .observations) state tally → own ≡ withParameters setup (state .parameters)
+      → a ≡ checks own counts lent check → r ≡ awaitedFor a wanted
       → r ≡ admitAwaited setup counts lent check state tally
   awaited-by w o d e = e ∙ (λ i. awaitedFor ((d ∙ ap (λ (s : Setup). checks s counts lent check) o) i) (w i)) ∙ whole-awaited
 
@@ -102,14 +104,16 @@ module _ (setup : Setup) (counts : List ℕ) (lent : Lent) (check : Check) (stat
   abbrev own-trial : trial ≡ trialBy setup state (rowsOf counts (state .progress .subject))
   own-trial = et ∙ ap (trialBy setup state) er
 
-  pub by-admission : (a : Admission) (w : Awaited) → admittedOver setup (trialBy setup state (rowsOf counts (state .progress .subject))) reply w (state .progress .first) (smaller (state .progress .first + rowsOf counts (state .progress .subject)) (lent .observations)) a
+  pub by-admission : (a : Admission) (w : Awaited) → admittedOver setup (trialBy setup state (rowsOf counts (state .progress .subject))) reply w (state .progress .first)
+      (smaller (state .progress .first + rowsOf counts (state .progress .subject)) (lent .observations)) a
       ≡ admittedBy setup counts (lent .observations) state reply w a
   unfolding admittedOver admittedBy
   by-admission A.Accepted w = refl
   by-admission (A.Refused number) w = refl
   by-admission (A.Unsound at) w = refl
 
-  pub whole-reply : {w : Awaited} {to : ℕ} {r : Admitted} → w ≡ admitAwaited setup counts lent check state tally → to ≡ smaller (state .progress .first + rows) (lent .observations) → r ≡ admittedOver setup trial reply w (state .progress .first) to (w .admission)
+  pub whole-reply : {w : Awaited} {to : ℕ} {r : Admitted} → w ≡ admitAwaited setup counts lent check state tally → to ≡ smaller (state .progress .first + rows) (lent .observations) → r ≡ admittedOver
+      setup trial reply w (state .progress .first) to (w .admission)
       → r ≡ admitReply setup counts lent check state tally reply
   unfolding admitReply
   whole-reply ew l e =
@@ -117,7 +121,8 @@ module _ (setup : Setup) (counts : List ℕ) (lent : Lent) (check : Check) (stat
       ∙ (λ i. admittedOver setup (own-trial i) reply (ew i) (state .progress .first) ((l ∙ ap (λ (n : ℕ). smaller (state .progress .first + n) (lent .observations)) er) i) (ew i .admission))
       ∙ by-admission _ _
 
-  pub subject-reply : {w : Awaited} {wanted : Wanted} {own : Setup} {a : Admission} {r : Admitted} → wanted ≡ awaitedPoint setup counts 100000 state tally → own ≡ withParameters setup (state .parameters)
+  pub subject-reply : {w : Awaited} {wanted : Wanted} {own : Setup} {a : Admission} {r : Admitted} → wanted ≡ awaitedPoint setup counts 100000 state tally → own ≡ withParameters setup
+      (state .parameters)
       → a ≡ subjectChecks own counts (state .progress .subject) lent check → w ≡ awaitedFor a wanted → r ≡ admittedOver setup trial reply w 0 (lent .observations) (w .admission)
       → r ≡ admitSubjectReply setup counts lent check state tally reply
   unfolding admitSubjectReply subjectAwaited

@@ -37,8 +37,10 @@ use Rattle.population.specs.declared.answers.Kept.{Kept}
 use Rattle.population.specs.Through.{taken}
 use Rattle.population.specs.declared.kept_points.InHand.the-variants as Hand
 use Rattle.population.specs.Steps.{wholeFrom}
-use Rattle.session.specs.Calls.{heldOf, called, run, entered, lentBy, refusedAs, endedAs, firstState, Setting, begunWith, opening, openedBy, startOf, admitObjective, unawaited, awaitedAt, admitAwaited, followed, finishReply}
-use Rattle.session.specs.Session.{Held, held, noTally, isStanding, lentOf, whenAdmitted, begun, admitted, enterObjective, atWanted, whenAwaited, enterFailure, over, replied, unaltered, heldBy, turnHeld}
+use Rattle.session.specs.Calls.{heldOf, called, run, entered, lentBy, refusedAs, endedAs, firstState, Setting, begunWith, opening, openedBy, startOf, admitObjective, unawaited, awaitedAt}
+use Rattle.session.specs.Calls.{admitAwaited, followed, finishReply}
+use Rattle.session.specs.Session.{Held, held, noTally, isStanding, lentOf, whenAdmitted, begun, admitted, enterObjective, atWanted, whenAwaited, enterFailure, over, replied, unaltered, heldBy}
+use Rattle.session.specs.Session.{turnHeld}
 use Rattle.session.specs.declared.Awaited.{Awaited}
 use Rattle.session.specs.declared.Called.{Called}
 use Rattle.session.specs.declared.Opening.the-variants as Opens
@@ -74,14 +76,16 @@ ended-made state tally number place e =
     ap (λ (h : Halted). record { state = record { parameters = state .parameters; progress = h .progress; order = state .order }; tally = tally; step = h .step }) e
 
 -- ---- setup; a is what `checks` answered
-module _ (setup : Setup) (counts : List ℕ) (n : ℕ) (check : Check) (tally : Tally) (cache work warm results : List ℕ) {lent : Lent} {a : Admission} (el : lent ≡ lentBy n (length cache) (length work) (length warm) (length results)) (ea : a ≡ checks setup counts lent check) where
+module _ (setup : Setup) (counts : List ℕ) (n : ℕ) (check : Check) (tally : Tally) (cache work warm results : List ℕ) {lent : Lent} {a : Admission}
+    (el : lent ≡ lentBy n (length cache) (length work) (length warm) (length results)) (ea : a ≡ checks setup counts lent check) where
   abbrev Set : Setting → Type 0
   Set r = r ≡ openedBy setup counts n check tally cache work warm results
 
   opening-by : {v : Admission} {r : Setting} → a ≡ v → r ≡ opening setup counts (lentBy n (length cache) (length work) (length warm) (length results)) tally cache work warm results v → Set r
   unfolding openedBy
   opening-by t q =
-      q ∙ ap (opening setup counts (lentBy n (length cache) (length work) (length warm) (length results)) tally cache work warm results) (sym t ∙ ea ∙ ap (λ (l : Lent). checks setup counts l check) el)
+      q ∙ ap (opening setup counts (lentBy n (length cache) (length work) (length warm) (length results)) tally cache work warm results)
+      (sym t ∙ ea ∙ ap (λ (l : Lent). checks setup counts l check) el)
 
   pub setup-opens : {c w m : List ℕ} {s : State} → a ≡ A.Accepted → c ≡ zeros (length cache) → w ≡ zeros (length work) → m ≡ zeros (length warm) → s ≡ firstState setup
       → Set (begunWith (record { opening = Opens.Opened s; tally = noTally }) c w m)
@@ -137,10 +141,12 @@ module _ (setup : Setup) (counts : List ℕ) (n : ℕ) (check : Check) (paramete
       ap (pick (state .progress .awaits) (unaltered words setup counts 19 At.Nowhere h)) (through-pick f stands checked (A.Refused 19))
       ∙ through-pick f (state .progress .awaits) (A.Refused 19) (pick stands checked (A.Refused 19))
 
-  pub objective-enters : {lent : Lent} {a : Admission} → lent ≡ lentBy n (length cache) (length work) (length warm) (length results) → a ≡ admitObjective setup counts lent check parameters (state .progress) tally
+  pub objective-enters : {lent : Lent} {a : Admission} → lent ≡ lentBy n (length cache) (length work) (length warm) (length results) → a ≡ admitObjective setup counts lent check parameters
+      (state .progress) tally
       → enterObjective words setup counts n check parameters h ≡ whenAdmitted words setup counts h (on (begun words setup counts parameters (h .whole))) a
   objective-enters el ea =
-      enters ∙ ap (whenAdmitted words setup counts h (on (begun words setup counts parameters (h .whole)))) (sym (ea ∙ ap (λ (l : Lent). admitObjective setup counts l check parameters (state .progress) tally) el))
+      enters ∙ ap (whenAdmitted words setup counts h (on (begun words setup counts parameters (h .whole)))) (sym
+      (ea ∙ ap (λ (l : Lent). admitObjective setup counts l check parameters (state .progress) tally) el))
 
   -- the start, as the code makes it, with nothing in hand
   pub objective-starts : {s : State} {z : Ran (Held words) Step} → s ≡ startOf parameters warm (setup .effects) (state .order)
@@ -148,7 +154,8 @@ module _ (setup : Setup) (counts : List ℕ) (n : ℕ) (check : Check) (paramete
       → z ≡ entered setup counts (on (begun words setup counts parameters (h .whole)))
   unfolding begun startOf onward taken idle withSearch beginSubject
   objective-starts es q =
-      q ∙ ap (λ (x : State). run setup counts (held words (x .parameters) (wholeFrom (fitOf setup (x .parameters)) counts Hand.Nothing (x .progress) tally (cacheOf cache (x .order)) work warm results))) es
+      q ∙ ap (λ (x : State). run setup counts (held words (x .parameters) (wholeFrom (fitOf setup (x .parameters)) counts Hand.Nothing (x .progress) tally (cacheOf cache (x .order)) work warm
+      results))) es
 
 -- ---- a reply or a failure is let in; go is what it does with the point that was asked for
 module _ (setup : Setup) (counts : List ℕ) (n : ℕ) (check : Check) (state : State) (tally : Tally) (cache work warm results : List ℕ) (go : Pair → Moved (Held words) Step) where
@@ -173,10 +180,12 @@ module _ (setup : Setup) (counts : List ℕ) (n : ℕ) (check : Check) (state : 
       let w = wantedBy (fitOf setup (state .parameters)) (state .progress) in
       let stands = isStanding setup counts n tally (state .progress) in
       let there = awaitedAt setup counts lentHere check (state .parameters) w in
-      ap (λ (m : Moved (Held words) Step). pick (state .progress .awaits) m (unaltered words setup counts 19 At.Nowhere at)) (ap (λ (m : Moved (Held words) Step). pick stands m (unaltered words setup counts 19 At.Nowhere at)) (wanted-goes w) ∙ through-pick goes stands there unawaited)
+      ap (λ (m : Moved (Held words) Step). pick (state .progress .awaits) m (unaltered words setup counts 19 At.Nowhere at))
+      (ap (λ (m : Moved (Held words) Step). pick stands m (unaltered words setup counts 19 At.Nowhere at)) (wanted-goes w) ∙ through-pick goes stands there unawaited)
       ∙ through-pick goes (state .progress .awaits) (pick stands there unawaited) unawaited
 
-  pub awaited-enters : {a : Awaited} {lent : Lent} → lent ≡ lentHere → a ≡ admitAwaited setup counts lent check state tally → whenAwaited words setup counts n check at go ≡ whenAdmitted words setup counts at (go (a .eta)) (a .admission)
+  pub awaited-enters : {a : Awaited} {lent : Lent} → lent ≡ lentHere → a ≡ admitAwaited setup counts lent check state tally → whenAwaited words setup counts n check at go ≡ whenAdmitted words setup
+      counts at (go (a .eta)) (a .admission)
   unfolding goes
   awaited-enters el ea = all-goes ∙ ap goes (sym (ea ∙ ap (λ (l : Lent). admitAwaited setup counts l check state tally) el))
 
@@ -184,12 +193,15 @@ module _ (setup : Setup) (counts : List ℕ) (n : ℕ) (check : Check) (state : 
 module _ (setup : Setup) (counts : List ℕ) (n : ℕ) (check : Check) (state : State) (tally : Tally) (cache work warm results : List ℕ) where
   pub failure-enters : {a : Awaited} {lent : Lent} → lent ≡ lentBy n (length cache) (length work) (length warm) (length results) → a ≡ admitAwaited setup counts lent check state tally
       → enterFailure words setup counts n check (heldOf state tally cache work warm results)
-      ≡ whenAdmitted words setup counts (heldOf state tally cache work warm results) (over words setup counts 8 (At.Subject (state .progress .subject)) (heldOf state tally cache work warm results)) (a .admission)
+      ≡ whenAdmitted words setup counts (heldOf state tally cache work warm results) (over words setup counts 8 (At.Subject (state .progress .subject)) (heldOf state tally cache work warm results))
+      (a .admission)
   unfolding enterFailure
-  failure-enters el ea = awaited-enters setup counts n check state tally cache work warm results (λ eta. over words setup counts 8 (At.Subject (state .progress .subject)) (heldOf state tally cache work warm results)) el ea
+  failure-enters el ea = awaited-enters setup counts n check state tally cache work warm results (λ eta. over words setup counts 8 (At.Subject (state .progress .subject))
+      (heldOf state tally cache work warm results)) el ea
 
 -- an end, as the code makes it; w is the work words afterwards
-pub ended-called : (setup : Setup) (counts : List ℕ) (state : State) (tally : Tally) (number : ℕ) (place : Place) (cache work warm results : List ℕ) {r : Called} {w : List ℕ} → r ≡ endedAs state tally number place → w ≡ zeros (length work)
+pub ended-called : (setup : Setup) (counts : List ℕ) (state : State) (tally : Tally) (number : ℕ) (place : Place) (cache work warm results : List ℕ) {r : Called} {w : List ℕ} → r ≡ endedAs state tally
+    number place → w ≡ zeros (length work)
     → called r cache w warm results ≡ entered setup counts (over words setup counts number place (heldOf state tally cache work warm results))
 unfolding over onward
 ended-called setup counts state tally number place cache work warm results e q = λ i. called (e i) cache (q i) warm results
@@ -209,25 +221,30 @@ module _ (setup : Setup) (counts : List ℕ) (eta : Pair) (e : Evaluation) (stat
   -- k and c are the kept evaluations with the reply, which is in hand then
   pub follows-sums : {sums : Sums} {fit : Fit} (k : Kept) {c : List ℕ} {z : Ran (Held words) Step} → x ≡ E.Running sums → fit ≡ fitOf setup (state .parameters)
       → keptWith k c ≡ keep fit counts (state .progress .subject) tally eta sums (cacheOf cache (state .order)) work
-      → z ≡ run setup counts (held words (state .parameters) (wholeFrom (fitOf setup (state .parameters)) counts (Hand.Evaluated eta sums) (state .progress) (k .tally) (cacheOf c (k .order)) work warm results))
+      → z ≡ run setup counts (held words (state .parameters) (wholeFrom (fitOf setup (state .parameters)) counts (Hand.Evaluated eta sums) (state .progress) (k .tally) (cacheOf c (k .order)) work warm
+      results))
       → Follows z
   unfolding replied onward receive keep taken
   follows-sums {sums} k t ef ek q =
       follows-by t
       (q
-      ∙ ap (λ (y : KeptWith). run setup counts (held words (state .parameters) (wholeFrom (fitOf setup (state .parameters)) counts (Hand.Evaluated eta sums) (state .progress) (y .tally) (y .kept) work warm results))) (ek ∙ ap (λ (f : Fit). keep f counts (state .progress .subject) tally eta sums (cacheOf cache (state .order)) work) ef))
+      ∙ ap (λ (y : KeptWith). run setup counts (held words (state .parameters) (wholeFrom (fitOf setup (state .parameters)) counts (Hand.Evaluated eta sums) (state .progress) (y .tally) (y .kept) work
+      warm results))) (ek ∙ ap (λ (f : Fit). keep f counts (state .progress .subject) tally eta sums (cacheOf cache (state .order)) work) ef))
 
-  pub follows-refusal : {number : ℕ} {r : Called} {w : List ℕ} → x ≡ E.Refused number → (r ≡ endedAs state tally number (At.Subject (state .progress .subject))) × (w ≡ zeros (length work)) → Follows (called r cache w warm results)
+  pub follows-refusal : {number : ℕ} {r : Called} {w : List ℕ} → x ≡ E.Refused number → (r ≡ endedAs state tally number (At.Subject (state .progress .subject))) × (w ≡ zeros (length work)) → Follows
+      (called r cache w warm results)
   unfolding replied
   follows-refusal {number} t (er, ew) = follows-by t (ended-called setup counts state tally number _ cache work warm results er ew)
 
-  pub follows-refusal-at : {number n : ℕ} {r : Called} {w : List ℕ} → x ≡ E.RefusedAt number n → (r ≡ endedAs state tally number (At.Observation (state .progress .subject) n)) × (w ≡ zeros (length work)) → Follows (called r cache w warm results)
+  pub follows-refusal-at : {number n : ℕ} {r : Called} {w : List ℕ} → x ≡ E.RefusedAt number n → (r ≡ endedAs state tally number (At.Observation (state .progress .subject) n)) ×
+      (w ≡ zeros (length work)) → Follows (called r cache w warm results)
   unfolding replied
   follows-refusal-at {number} t (er, ew) = follows-by t (ended-called setup counts state tally number _ cache work warm results er ew)
 
 -- ---- the second part of a reply
 module _ (setup : Setup) (counts : List ℕ) (a : Awaited) (e : Evaluation) (h : Held words) where
-  pub finish-enters : entered setup counts (whenAdmitted words setup counts h (replied words setup counts (fitOf setup (h .parameters)) (a .eta) h (h .whole .work) (finish e)) (a .admission)) ≡ finishReply setup counts a e h
+  pub finish-enters : entered setup counts (whenAdmitted words setup counts h (replied words setup counts (fitOf setup (h .parameters)) (a .eta) h (h .whole .work) (finish e)) (a .admission)) ≡
+      finishReply setup counts a e h
   unfolding finishReply
   finish-enters = refl
 

@@ -40,7 +40,8 @@ use Rattle.machine.specs.Machine.{Moved, halt, Ran, call}
 use Rattle.population.specs.Kept.{words, cacheOf}
 use Rattle.population.specs.Population.{rowsOf, wholeOf}
 use Rattle.session.specs.Calls.{heldOf, entered, lentBy, unawaited, admitAwaited, trialBy, admittedBy, admitReply, finishReply}
-use Rattle.session.specs.Session.{Held, held, Call, firstCheck, isPlaced, isStanding, whenAdmitted, over, replied, trialOf, enterObjective, whenAwaited, enterFailure, allChecked, evaluated, answered, enterReply, enter, objective, reply, failure, session}
+use Rattle.session.specs.Session.{Held, held, Call, firstCheck, isPlaced, isStanding, whenAdmitted, over, replied, trialOf, enterObjective, whenAwaited, enterFailure, allChecked, evaluated, answered}
+use Rattle.session.specs.Session.{enterReply, enter, objective, reply, failure, session}
 use Rattle.session.specs.declared.Admitted.{Admitted}
 use Rattle.session.specs.declared.Awaited.{Awaited}
 use Rattle.session.specs.declared.State.{State}
@@ -50,7 +51,8 @@ use Rattle.session_calls.proofs.Paths.{awaited-enters}
 all-of : (l : List Observation) → take (length l - 0) (drop 0 l) ≡ l
 all-of l = take-all (length l - 0) l (omega arith)
 
-pub whole-check : (setup : Setup) (counts : List ℕ) (observations : List Observation) {first check : Check} → first ≡ firstCheck → check ≡ checkObservations (setup .width) counts (take (length observations - 0) (drop 0 observations)) first
+pub whole-check : (setup : Setup) (counts : List ℕ) (observations : List Observation) {first check : Check} → first ≡ firstCheck → check ≡ checkObservations (setup .width) counts
+    (take (length observations - 0) (drop 0 observations)) first
     → check ≡ allChecked setup counts observations
 whole-check setup counts observations f e =
     e ∙ (λ i. checkObservations (setup .width) counts (all-of observations i) (f i))
@@ -89,7 +91,8 @@ unfolding admitAwaited
 awaited-within setup counts lent check state tally =
     let Fits : Awaited → Type 0 = λ a. a .admission ≡ A.Accepted → state .progress .first + rowsOf counts (state .progress .subject) ≤ lent .observations in
     cases Fits (state .progress .awaits)
-    (λ _. cases Fits (isStanding setup counts (lent .observations) tally (state .progress)) (λ s _. standing-within setup counts (lent .observations) tally (state .progress) s) (λ _ e. refused-never 19 e))
+    (λ _. cases Fits (isStanding setup counts (lent .observations) tally (state .progress)) (λ s _. standing-within setup counts (lent .observations) tally (state .progress) s)
+    (λ _ e. refused-never 19 e))
     (λ _ e. refused-never 19 e)
 
 -- ---- the objective's own additive deviation is in its fit
@@ -108,7 +111,8 @@ module _ (setup : Setup) (counts : List ℕ) (fit : Fit) (eta : Pair) (state : S
   ends : ℕ → Place → ℕ → Moved (Held words) Step
   ends number place n = halt (Refused number place) (held words (state .parameters) (wholeOf words (idle (state .progress)) tally (cacheOf cache (state .order)) (zeros n) warm results))
 
-  replied-after : (x : Evaluation) → replied words setup counts fit eta (heldOf state tally cache w warm results) w x ≡ replied words setup counts fit eta (heldOf state tally cache work warm results) w x
+  replied-after : (x : Evaluation) → replied words setup counts fit eta (heldOf state tally cache w warm results) w x ≡ replied words setup counts fit eta (heldOf state tally cache work warm results)
+      w x
   unfolding replied over ends
   replied-after (E.Running sums) = refl
   replied-after (E.Refused number) = ap (ends number (At.Subject (state .progress .subject))) same
@@ -122,12 +126,14 @@ module _ (setup : Setup) (counts : List ℕ) (observations : List Observation) (
   abbrev Calls : Call → Ran (Held words) Step → Type 0
   Calls c z = z ≡ call (session words setup counts observations) c h
 
-  pub objective-call : (parameters : Parameters) {check : Check} {z : Ran (Held words) Step} → check ≡ allChecked setup counts observations → z ≡ entered setup counts (enterObjective words setup counts (length observations) check parameters h)
+  pub objective-call : (parameters : Parameters) {check : Check} {z : Ran (Held words) Step} → check ≡ allChecked setup counts observations → z ≡ entered setup counts
+      (enterObjective words setup counts (length observations) check parameters h)
       → Calls (objective parameters) z
   unfolding call enter
   objective-call parameters ec q = q ∙ ap (λ (c : Check). entered setup counts (enterObjective words setup counts (length observations) c parameters h)) ec
 
-  pub failure-call : {check : Check} {z : Ran (Held words) Step} → check ≡ allChecked setup counts observations → z ≡ entered setup counts (enterFailure words setup counts (length observations) check h) → Calls failure z
+  pub failure-call : {check : Check} {z : Ran (Held words) Step} → check ≡ allChecked setup counts observations → z ≡ entered setup counts
+      (enterFailure words setup counts (length observations) check h) → Calls failure z
   unfolding call enter
   failure-call ec q = q ∙ ap (λ (c : Check). entered setup counts (enterFailure words setup counts (length observations) c h)) ec
 
@@ -147,7 +153,8 @@ module _ (setup : Setup) (counts : List ℕ) (observations : List Observation) (
 
     answers : (eta : Pair) → state .progress .first + rowsOf counts (state .progress .subject) ≤ length observations
         → evaluating e w
-        ≡ addObservations (trialBy setup state (rowsOf counts (state .progress .subject))) v (take (smaller (state .progress .first + rowsOf counts (state .progress .subject)) (length observations) - state .progress .first) (drop (state .progress .first) observations)) (evaluating (begin v (setup .width) (setup .effects) (setup .«output_budget»)) work)
+        ≡ addObservations (trialBy setup state (rowsOf counts (state .progress .subject))) v (take (smaller (state .progress .first + rowsOf counts (state .progress .subject)) (length observations) -
+        state .progress .first) (drop (state .progress .first) observations)) (evaluating (begin v (setup .width) (setup .effects) (setup .«output_budget»)) work)
         → replied words setup counts fit eta after w (finish e) ≡ answered words setup counts observations v eta h
     unfolding answered
     answers eta within q =
@@ -157,13 +164,16 @@ module _ (setup : Setup) (counts : List ℕ) (observations : List Observation) (
         let trial : AdditiveSd → Trial =
         λ a. record { individual = state .progress .individual; «additive_sd» = a; width = setup .width; effects = setup .effects; block = block rows 3 } in
         let whole : evaluating e w ≡ evaluated words setup counts observations fit v (state .progress) work =
-        q ∙ (λ i. addObservations (trial (additive-of-fit setup (state .parameters) i)) v (take (count i) (drop first observations)) (evaluating (begin v (setup .width) (setup .effects) (setup .«output_budget»)) work)) in
+        q ∙ (λ i. addObservations (trial (additive-of-fit setup (state .parameters) i)) v (take (count i) (drop first observations))
+        (evaluating (begin v (setup .width) (setup .effects) (setup .«output_budget»)) work)) in
         replied-after setup counts fit eta state tally cache work warm results w same (finish e)
         ∙ ap (λ (x : Evaluating). replied words setup counts fit eta h (x .work) (finish (x .evaluation))) whole
 
     -- by what let it in, or not
-    finishes : (check : Check) (a : Awaited) (t : Admission) → a ≡ admitAwaited setup counts lent check state tally → a .admission ≡ t → Evaluates (admittedBy setup counts (length observations) state v a t)
-        → whenAdmitted words setup counts after (replied words setup counts fit (a .eta) after w (finish e)) t ≡ whenAdmitted words setup counts h (answered words setup counts observations v (a .eta) h) t
+    finishes : (check : Check) (a : Awaited) (t : Admission) → a ≡ admitAwaited setup counts lent check state tally → a .admission ≡ t → Evaluates
+        (admittedBy setup counts (length observations) state v a t)
+        → whenAdmitted words setup counts after (replied words setup counts fit (a .eta) after w (finish e)) t ≡ whenAdmitted words setup counts h
+        (answered words setup counts observations v (a .eta) h) t
     unfolding admittedBy whenAdmitted
     finishes check a A.Accepted ea et q =
         answers (a .eta) (awaited-within setup counts lent check state tally (ap (λ (x : Awaited). x .admission) (sym ea) ∙ et)) q
@@ -176,7 +186,8 @@ module _ (setup : Setup) (counts : List ℕ) (observations : List Observation) (
     same-awaited a (A.Refused number) = refl
     same-awaited a (A.Unsound at) = refl
 
-    pub reply-call : {check : Check} {l : Lent} {a : Admitted} {z : Ran (Held words) Step} → check ≡ allChecked setup counts observations → l ≡ lent → a ≡ admitReply setup counts l check state tally v → Evaluates a
+    pub reply-call : {check : Check} {l : Lent} {a : Admitted} {z : Ran (Held words) Step} → check ≡ allChecked setup counts observations → l ≡ lent → a ≡ admitReply setup counts l check state tally v
+        → Evaluates a
         → z ≡ finishReply setup counts (a .awaited) e after → Calls (reply v) z
     unfolding call enter enterReply admitReply finishReply
     reply-call {check} {l} {a} ec el ea q z =
@@ -185,5 +196,6 @@ module _ (setup : Setup) (counts : List ℕ) (observations : List Observation) (
         let eb : a ≡ b = ea ∙ ap (λ (y : Lent). admitReply setup counts y check state tally v) el in
         let ew : a .awaited ≡ x = ap (λ (y : Admitted). y .awaited) eb ∙ same-awaited x (x .admission) in
         z ∙ ap (λ (y : Awaited). entered setup counts (whenAdmitted words setup counts after (replied words setup counts fit (y .eta) after w (finish e)) (y .admission))) ew
-        ∙ ap (entered setup counts) (finishes check x (x .admission) refl refl (subst Evaluates eb q) ∙ sym (awaited-enters setup counts (length observations) check state tally cache work warm results (λ eta. answered words setup counts observations v eta h) {lent = lent} refl refl))
+        ∙ ap (entered setup counts) (finishes check x (x .admission) refl refl (subst Evaluates eb q) ∙ sym (awaited-enters setup counts (length observations) check state tally cache work warm results
+        (λ eta. answered words setup counts observations v eta h) {lent = lent} refl refl))
         ∙ ap (λ (c : Check). entered setup counts (whenAwaited words setup counts (length observations) c h (λ eta. answered words setup counts observations v eta h))) ec

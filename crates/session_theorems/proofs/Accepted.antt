@@ -57,7 +57,8 @@ each-count (count ∷ rest) total largest {t} {l} e =
     let one : 1 ≤ count = positive count (some .0) in
     (omega (arith, both .0, r .0), λ i h. at i h one (omega (arith, both .1, r .0)) (r .1))
   where
-    at : (i : ℕ) → i < suc (length rest) → 1 ≤ count → count ≤ l → ((j : ℕ) → j < length rest → (1 ≤ getD rest j 0) × (getD rest j 0 ≤ l)) → (1 ≤ getD (count ∷ rest) i 0) × (getD (count ∷ rest) i 0 ≤ l)
+    at : (i : ℕ) → i < suc (length rest) → 1 ≤ count → count ≤ l → ((j : ℕ) → j < length rest → (1 ≤ getD rest j 0) × (getD rest j 0 ≤ l)) → (1 ≤ getD (count ∷ rest) i 0) ×
+        (getD (count ∷ rest) i 0 ≤ l)
     at zero h a b f = (a, b)
     at (suc i) h a b f = f i (le-of-suc-le-suc h)
 
@@ -87,7 +88,8 @@ module _ (setup : Setup) (counts : List ℕ) (lent : Lent) (check : Check) where
   unfolding rowsOf
   rows-are l m i h = cases (λ (n : ℕ). (1 ≤ n) × (n ≤ l)) (ltb (getD counts i 0) mostRows) (λ u. h) (λ u. let v : mostRows ≤ getD counts i 0 = ltb-false _ _ u in (omega arith, omega (arith, h .1, v)))
 
-  room-lent : (subjects total largest : ℕ) → isShort setup subjects total largest lent ≡ false → (12 * largest ≤ lent .work) × (24 * setup .k ≤ lent .cache) × (setup .effects * subjects ≤ lent .warm) × (2 * total + 3 * subjects ≤ lent .results)
+  room-lent : (subjects total largest : ℕ) → isShort setup subjects total largest lent ≡ false → (12 * largest ≤ lent .work) × (24 * setup .k ≤ lent .cache) × (setup .effects * subjects ≤ lent .warm)
+      × (2 * total + 3 * subjects ≤ lent .results)
   unfolding isShort
   room-lent subjects total largest e =
       let w = not-first (ltb (lent .work) (12 * largest)) _ true-not-false e in

@@ -50,12 +50,14 @@ unfolding After onward
 onward-keeps P (on s) k p f = f s p
 onward-keeps P (halt a s) k p f = p
 
-pub loop-keeps : {State Answer : Type 0} (P : State → Type 0) (turn : State → Moved State Answer) (spent : Answer) → ((s : State) → P s → After P (turn s)) → (n : ℕ) (s : State) → P s → P (loop turn spent n s .state)
+pub loop-keeps : {State Answer : Type 0} (P : State → Type 0) (turn : State → Moved State Answer) (spent : Answer) → ((s : State) → P s → After P (turn s)) → (n : ℕ) (s : State) → P s → P
+    (loop turn spent n s .state)
 unfolding loop
 loop-keeps P turn spent keeps zero s p = p
 loop-keeps P turn spent keeps (suc n) s p = onward-keeps P (turn s) _ (keeps s p) (loop-keeps P turn spent keeps n)
 
-module _ (M : Machine) (P : M .State → Type 0) (turns : (s : M .State) → P s → After P (M .turn s)) (enters : (c : M .Call) (s : M .State) → P s → After P (M .enter c s)) (writes : (w : M .Host) (s : M .State) → P s → P (M .write w s)) where
+module _ (M : Machine) (P : M .State → Type 0) (turns : (s : M .State) → P s → After P (M .turn s)) (enters : (c : M .Call) (s : M .State) → P s → After P (M .enter c s))
+    (writes : (w : M .Host) (s : M .State) → P s → P (M .write w s)) where
   call-keeps : (c : M .Call) (s : M .State) → P s → P (call M c s .state)
   unfolding call
   call-keeps c s p = onward-keeps P (M .enter c s) _ (enters c s p) (loop-keeps P (M .turn) (M .spent) turns (M .fuel))

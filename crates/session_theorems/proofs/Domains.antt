@@ -50,7 +50,8 @@ unfolding isNoOmega
 first-omega setup e = not-first _ _ true-not-false e .0
 
 -- ---- one effect
-pub domain1 : (setup : Setup) (parameters : Parameters) (p : Progress) → setup .effects ≡ 1 → T (fits binary64 (setup .«eta_bound»)) → isNoOmega (withParameters setup parameters) ≡ false → isNoShape (withParameters setup parameters) ≡ false
+pub domain1 : (setup : Setup) (parameters : Parameters) (p : Progress) → setup .effects ≡ 1 → T (fits binary64 (setup .«eta_bound»)) → isNoOmega (withParameters setup parameters) ≡ false → isNoShape
+    (withParameters setup parameters) ≡ false
     → T (fits binary64 (p .warm .first)) → H1.Domain (B.settings (B.fitOf setup parameters) p)
 unfolding B.fitOf B.fitWith B.settings withParameters
 domain1 setup parameters p e f o s w =
@@ -109,7 +110,8 @@ domain2 setup parameters p e o =
     let t = two-omega own e o in
     accepted own (first-omega own o) t (inversePositive (omegaOf own)) refl fit
   where
-    accepted : (own : Setup) → isNoVariance (own .omega00) ≡ false → (isNoVariance (own .omega11) ≡ false) × ((ne (own .omega01) (own .omega10) ≡ false) × (isNone (inversePositive (omegaOf own)) ≡ false))
+    accepted : (own : Setup) → isNoVariance (own .omega00) ≡ false → (isNoVariance (own .omega11) ≡ false) × ((ne (own .omega01) (own .omega10) ≡ false) ×
+        (isNone (inversePositive (omegaOf own)) ≡ false))
         → (i : Inverse) → inversePositive (omegaOf own) ≡ i → B.fitOf setup parameters ≡ B.fitBy own (parameters .theta) (inversePositive (omegaOf own))
         → (omega : List (List Float)) × H2.Accepted omega (B.settings2 (B.fitOf setup parameters) p)
     accepted own v t none q fit = absurd (true-not-false (sym (ap isNone q) ∙ t .1 .1))

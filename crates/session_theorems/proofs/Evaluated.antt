@@ -17,7 +17,8 @@ use Rattle.likelihood.specs.declared.population_focei.RowTerms.{RowTerms}
 use Rattle.likelihood.specs.declared.population_focei_2d.Row2.{Row2}
 use Rattle.subject.specs.Claim.{replyRows}
 use Rattle.subject.specs.Reply.{written}
-use Rattle.subject.specs.Subject.{begin, atObservation, withTerms, addRow, withRow, addRow2, addRowAt, Evaluating, evaluating, addAt, addTo, addAfter, addObservation, addObservations, hasNonfiniteSum, finish}
+use Rattle.subject.specs.Subject.{begin, atObservation, withTerms, addRow, withRow, addRow2, addRowAt, Evaluating, evaluating, addAt, addTo, addAfter, addObservation, addObservations, hasNonfiniteSum}
+use Rattle.subject.specs.Subject.{finish}
 use Rattle.subject.specs.declared.Trial.{Trial}
 use Rattle.subject.specs.declared.Sums.{Sums}
 use Rattle.subject.specs.declared.Evaluation.{Evaluation}
@@ -120,7 +121,8 @@ module _ (trial : Trial) (reply : List ℕ) (width effects budget : ℕ) (os : L
 
   finished-fits : (e : Evaluation) → FitsRunning e → (s : Sums) → finish e ≡ Running s → FitsSums s
   unfolding finish FitsRunning
-  finished-fits (Running t) f s q = cases (λ (z : Evaluation). z ≡ Running s → FitsSums s) (hasNonfiniteSum t) (λ h w. absurd (let z : _≡_ {A = ℕ} 0 1 = cc in omega arith)) (λ h w. let d : t ≡ s = cc in subst FitsSums d f) q
+  finished-fits (Running t) f s q = cases (λ (z : Evaluation). z ≡ Running s → FitsSums s) (hasNonfiniteSum t) (λ h w. absurd (let z : _≡_ {A = ℕ} 0 1 = cc in omega arith))
+      (λ h w. let d : t ≡ s = cc in subst FitsSums d f) q
   finished-fits (Refused n) f s q = absurd (let z : _≡_ {A = ℕ} 0 1 = cc in omega arith)
   finished-fits (RefusedAt n i) f s q = absurd (let z : _≡_ {A = ℕ} 0 1 = cc in omega arith)
 
@@ -131,7 +133,16 @@ module _ (trial : Trial) (reply : List ℕ) (width effects budget : ℕ) (os : L
 -- all of them but the number of the next observation
 pub terms-finite : (s : Sums) → FitsSums s → hasNonfiniteSum s ≡ false → hasNonfiniteSum (sumsOf (termsOf s)) ≡ false
 unfolding hasNonfiniteSum sumsOf termsOf
-terms-finite s f h = simp (ofBits-toBits binary64 (s .nll) (f .nll), ofBits-toBits binary64 (s .score .first) (f .first), ofBits-toBits binary64 (s .score .second) (f .second), ofBits-toBits binary64 (s .i00) (f .i00), ofBits-toBits binary64 (s .i01) (f .i01), ofBits-toBits binary64 (s .i10) (f .i10), ofBits-toBits binary64 (s .i11) (f .i11)) h
+terms-finite s f h = simp (
+  ofBits-toBits binary64 (s .nll) (f .nll),
+  ofBits-toBits binary64 (s .score .first) (f .first),
+  ofBits-toBits binary64 (s .score .second) (f .second),
+  ofBits-toBits binary64
+      (s .i00) (f .i00),
+  ofBits-toBits binary64 (s .i01) (f .i01),
+  ofBits-toBits binary64 (s .i10) (f .i10),
+  ofBits-toBits binary64 (s .i11) (f .i11),
+) h
 
 -- three words for each observation
 pub reply-length : (width effects : ℕ) (reply : List ℕ) (os : List Observation) → length (replyRows width effects reply os) ≡ rowWords * length os

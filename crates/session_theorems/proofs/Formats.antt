@@ -34,7 +34,16 @@ zero = ofBits-fits binary64 0
 -- ---- an evaluated point
 pub kept-sums : (t : CachedTerms) → FitsSums (B.sumsOf t)
 unfolding B.sumsOf
-kept-sums t = record { nll = ofBits-fits binary64 _; first = ofBits-fits binary64 _; second = ofBits-fits binary64 _; i00 = ofBits-fits binary64 _; i01 = ofBits-fits binary64 _; i10 = ofBits-fits binary64 _; i11 = ofBits-fits binary64 _ }
+kept-sums t = record {
+  nll = ofBits-fits binary64 _;
+  first = ofBits-fits binary64 _;
+  second = ofBits-fits binary64 _;
+  i00 = ofBits-fits binary64 _;
+  i01 = ofBits-fits binary64 _;
+  i10 = ofBits-fits
+      binary64 _;
+  i11 = ofBits-fits binary64 _;
+}
 
 pub point1 : (fit : Fit) (eta : Pair) (sums : Sums) → FitsPair eta → FitsSums sums → FitsPoint (B.conditional1 fit eta sums)
 unfolding B.conditional1

@@ -36,7 +36,8 @@ use Rattle.session.specs.declared.Opening.the-variants as Opens
 use Rattle.session.specs.declared.State.{State}
 use Rattle.state_words.specs.SessionWords.{loadedState, savedState}
 use Rattle.state_words.proofs.Back.{FitsState, back}
-use Rattle.host_calls.specs.Hosting.{additiveSd, SetupBits, setupFrom, ParameterBits, parametersFrom, Out, did, told, answered, answerOf, numberOf, isUnaltered, openedTo, callOver, setupOver, openWith, withState, unknown}
+use Rattle.host_calls.specs.Hosting.{additiveSd, SetupBits, setupFrom, ParameterBits, parametersFrom, Out, did, told, answered, answerOf, numberOf, isUnaltered, openedTo, callOver, setupOver}
+use Rattle.host_calls.specs.Hosting.{openWith, withState, unknown}
 use Rattle.host_calls.specs.Hosting as H
 use Rattle.host_calls.specs.SubjectReplies.{subjectReplyOver}
 use Rattle.session_theorems.specs.Inner.{Inner, inner1, inner2, view}
@@ -46,7 +47,8 @@ use Rattle.session_theorems.specs.Runs.{Original, original1, original2, 
 use Rattle.session_theorems.specs.Setup.{Granted}
 use Rattle.session_theorems.specs.Shown.{before, Reads, reads1, reads2, Shows}
 use Rattle.session_theorems.specs.SubjectReply.{ownOf}
-use Rattle.session_theorems.specs.Host.{Lends, left, lending, all, own, rewarmed, Deed, asks, answers, answers-own, fails, warms, after, hosted, M, actOf, actsOf, lent, first, reached, Is, Told, now, Hosted, EveryHost}
+use Rattle.session_theorems.specs.Host.{Lends, left, lending, all, own, rewarmed, Deed, asks, answers, answers-own, fails, warms, after, hosted, M, actOf, actsOf, lent, first, reached, Is, Told}
+use Rattle.session_theorems.specs.Host.{now, Hosted, EveryHost}
 use Rattle.session_theorems.proofs.Accepted.{Accepts, rows-within, accepts}
 use Rattle.session_theorems.proofs.Always.{After, after-turn, after-entry, onward-keeps, loop-keeps}
 use Rattle.session_theorems.proofs.Endings.{Says}

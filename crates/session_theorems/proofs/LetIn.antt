@@ -71,32 +71,38 @@ roomy-other setup subjects total largest lent (Unsound place) = tt
 
 checks-other : (setup : Setup) (subjects : ℕ) (lent : Lent) (check : Check) (c : Counts) → NumberOther (checksOf setup subjects lent check c)
 unfolding NumberOther checksOf admitted
-checks-other setup subjects lent check (Within total largest) = both NumberOther _ (both NumberOther _ (before-19 (omega arith)) (both NumberOther _ (before-19 (omega arith)) (roomy-other setup subjects total largest lent check))) (before-19 (omega arith))
+checks-other setup subjects lent check (Within total largest) = both NumberOther _ (both NumberOther _ (before-19 (omega arith))
+    (both NumberOther _ (before-19 (omega arith)) (roomy-other setup subjects total largest lent check))) (before-19 (omega arith))
 checks-other setup subjects lent check Outside = before-19 (omega arith)
 
 -- ---- 1 to 5 with an objective's own parameters: only 2 and 3 can refuse where the setup's own pass
-module _ (setup : Setup) (parameters : Parameters) (subjects : ℕ) (lent : Lent) (o : isNoOmega (withParameters setup parameters) ≡ false) (s : isNoShape (withParameters setup parameters) ≡ false) where
-  own-room : (total largest : ℕ) (check : Check) → roomy (withParameters setup parameters) subjects total largest lent check ≡ roomy setup subjects total largest lent check
-  unfolding roomy isShort withParameters
-  own-room total largest (Sound place) = refl
-  own-room total largest (Unsound place) = refl
+module _ (setup : Setup) (parameters : Parameters) (subjects : ℕ) (lent : Lent) (o : isNoOmega (withParameters setup parameters) ≡ false) (s : isNoShape (withParameters setup parameters) ≡ false)
+  where
+    own-room : (total largest : ℕ) (check : Check) → roomy (withParameters setup parameters) subjects total largest lent check ≡ roomy setup subjects total largest lent check
+    unfolding roomy isShort withParameters
+    own-room total largest (Sound place) = refl
+    own-room total largest (Unsound place) = refl
 
-  own-admitted : (total largest : ℕ) (check : Check) → admitted setup subjects total largest lent check ≡ A.Accepted → admitted (withParameters setup parameters) subjects total largest lent check ≡ A.Accepted
-  unfolding admitted
-  own-admitted total largest check e =
-      let a = not-first (isNoOmega setup) _ (λ q. let z : _≡_ {A = ℕ} 0 1 = cc in omega arith) e in
-      let b = not-first (isNoShape setup) _ (λ q. let z : _≡_ {A = ℕ} 0 1 = cc in omega arith) (a .1) in
-      pick-no _ _ _ o ∙ pick-no _ _ _ s ∙ own-room total largest check ∙ b .1
+    own-admitted : (total largest : ℕ) (check : Check) → admitted setup subjects total largest lent check ≡ A.Accepted → admitted (withParameters setup parameters) subjects total largest lent check ≡
+        A.Accepted
+    unfolding admitted
+    own-admitted total largest check e =
+        let a = not-first (isNoOmega setup) _ (λ q. let z : _≡_ {A = ℕ} 0 1 = cc in omega arith) e in
+        let b = not-first (isNoShape setup) _ (λ q. let z : _≡_ {A = ℕ} 0 1 = cc in omega arith) (a .1) in
+        pick-no _ _ _ o ∙ pick-no _ _ _ s ∙ own-room total largest check ∙ b .1
 
-  own-checks : (check : Check) (c : Counts) → checksOf setup subjects lent check c ≡ A.Accepted → checksOf (withParameters setup parameters) subjects lent check c ≡ A.Accepted
-  unfolding checksOf withParameters
-  own-checks check (Within total largest) e =
-      cases (λ (x : Admission). x ≡ A.Accepted → checksOf (withParameters setup parameters) subjects lent check (Within total largest) ≡ A.Accepted) (isCohort (setup .effects) subjects total (lent .observations))
-      (λ t q. pick-yes _ _ _ t ∙ own-admitted total largest check q) (λ t q. absurd (let z : _≡_ {A = ℕ} 0 1 = cc in omega arith)) e
-  own-checks check Outside e = e
+    own-checks : (check : Check) (c : Counts) → checksOf setup subjects lent check c ≡ A.Accepted → checksOf (withParameters setup parameters) subjects lent check c ≡ A.Accepted
+    unfolding checksOf withParameters
+    own-checks check (Within total largest) e =
+        cases (λ (x : Admission). x ≡ A.Accepted → checksOf (withParameters setup parameters) subjects lent check (Within total largest) ≡ A.Accepted)
+        (isCohort (setup .effects) subjects total (lent .observations))
+        (λ t q. pick-yes _ _ _ t ∙ own-admitted total largest check q) (λ t q. absurd (let z : _≡_ {A = ℕ} 0 1 = cc in omega arith)) e
+    own-checks check Outside e = e
 
-module _ (setup : Setup) (counts : List ℕ) (observations : List Observation) (I : Inner) (Q : Suits I (setup .effects)) (bound : Fits (setup .«eta_bound»)) (limit : setup .«max_evaluations» < 4294967296)
-    (lent : Lent) (results : List ℕ) (many : length observations ≡ lent .observations) (long : length results ≡ lent .results) (opens : N.opens words setup counts observations lent ≡ A.Accepted) (a : Accepts setup counts lent) (room : Room (setup .k)) where
+module _ (setup : Setup) (counts : List ℕ) (observations : List Observation) (I : Inner) (Q : Suits I (setup .effects)) (bound : Fits (setup .«eta_bound»))
+    (limit : setup .«max_evaluations» < 4294967296)
+    (lent : Lent) (results : List ℕ) (many : length observations ≡ lent .observations) (long : length results ≡ lent .results) (opens : N.opens words setup counts observations lent ≡ A.Accepted)
+    (a : Accepts setup counts lent) (room : Room (setup .k)) where
   abbrev U : Trusted words (setup .k)
   U = words-trusted (setup .k) (room .some) (room .most)
 
@@ -116,8 +122,10 @@ module _ (setup : Setup) (counts : List ℕ) (observations : List Observation) (
   pub both-hold : (acts : List (Act M)) → Stands (run M (N.opened words setup counts lent results) acts) × Goes (run M (N.opened words setup counts lent results) acts)
   both-hold acts =
       run-keeps M (λ (h : Held words). Stands h × Goes h)
-      (λ h p. after-both Stands Goes _ (after-turn (I .rules) (I .claims) M Y Stands h (turns words setup counts observations I Q U bound (a .most) h (p .0))) (turns-going setup counts observations lent a h (p .1)))
-      (λ c h p. after-both Stands Goes _ (after-entry (I .rules) (I .claims) M Y Stands c h (p .0) (enters words setup counts observations I Q U bound (omega (arith, limit)) (a .some) (rows-within a) c h (p .0)))
+      (λ h p. after-both Stands Goes _ (after-turn (I .rules) (I .claims) M Y Stands h (turns words setup counts observations I Q U bound (a .most) h (p .0)))
+      (turns-going setup counts observations lent a h (p .1)))
+      (λ c h p. after-both Stands Goes _ (after-entry (I .rules) (I .claims) M Y Stands c h (p .0) (enters words setup counts observations I Q U bound (omega (arith, limit)) (a .some) (rows-within a)
+      c h (p .0)))
       (enters-going setup counts observations lent a h (p .1) c))
       (λ warm h p. (sets words setup counts observations I Q U bound limit lent results a warm h (p .0), sets-going setup counts observations lent a h (p .1) warm))
       acts (N.opened words setup counts lent results)
@@ -143,10 +151,12 @@ module _ (setup : Setup) (counts : List ℕ) (observations : List Observation) (
         pick-no _ _ _ (le-ltb _ _ few-rows) ∙ pick-yes _ _ false (lt-ltb _ _ (g .place .subject)) ∙ pick-no _ false _ (le-ltb _ _ rows-lent)
         ∙ both (λ (b : Bool). b ≡ true) (eqb (setup .effects) 2) (within2-true _ (g .place .two)) (g .place .one)
 
-    others : (parameters : Parameters) → isNoOmega (withParameters setup parameters) ≡ false → isNoShape (withParameters setup parameters) ≡ false → admission setup counts observations parameters h ≡ A.Accepted
+    others : (parameters : Parameters) → isNoOmega (withParameters setup parameters) ≡ false → isNoShape (withParameters setup parameters) ≡ false → admission setup counts observations parameters h ≡
+        A.Accepted
     unfolding N.admitted withParameters checks
     others parameters o k =
-        checks-same (withParameters setup parameters) (N.lentOf words setup n (h .whole)) lent (g .work) (g .warm) (g .results) many (kept-lent (setup .k) (room .some) (room .most) (s .count) (h .whole .kept) (s .trust)) (a .cache-lent) counts check
+        checks-same (withParameters setup parameters) (N.lentOf words setup n (h .whole)) lent (g .work) (g .warm) (g .results) many
+        (kept-lent (setup .k) (room .some) (room .most) (s .count) (h .whole .kept) (s .trust)) (a .cache-lent) counts check
         ∙ own-checks setup parameters (length counts) lent o k check (countObservations counts) opens
 
     accepted : admission setup counts observations (h .parameters) h ≡ A.Accepted
@@ -172,7 +182,8 @@ module _ (setup : Setup) (counts : List ℕ) (observations : List Observation) (
     admitted-says go l (A.Refused n) b = b
     admitted-says go l (A.Unsound place) b = before-19 (omega arith)
 
-    begun-says : (parameters : Parameters) → Says Other19 (N.whenAdmitted words setup counts h (on (N.begun words setup counts parameters (h .whole))) (admission setup counts observations parameters h))
+    begun-says : (parameters : Parameters) → Says Other19 (N.whenAdmitted words setup counts h (on (N.begun words setup counts parameters (h .whole)))
+        (admission setup counts observations parameters h))
     unfolding Says N.admitted checks
     begun-says parameters = admitted-says _ tt _ (checks-other _ (length counts) _ check (countObservations counts))
 

@@ -65,7 +65,8 @@ advance-at : (stage : Stage) (s : Settings) (x : Search) (c : Conditional) → W
 unfolding advanceAt countWithin
 advance-at Grid s x c w = cases Within (ltb (x .count) 17) (λ t. chosen-within s _ (screened-within x c (ltb-true _ _ t))) (λ t. w)
 advance-at Warm s x c w = tried-within Secant 0 x c refl
-advance-at Secant s x c w = cases Within (ltb (x .count) 15) (λ t. let l : x .count < 15 = ltb-true _ _ t in tried-within Secant (x .count + 1) x c (lt-ltb (x .count + 1) 16 (omega arith))) (λ t. tried-within Halving 0 x c refl)
+advance-at Secant s x c w = cases Within (ltb (x .count) 15) (λ t. let l : x .count < 15 = ltb-true _ _ t in tried-within Secant (x .count + 1) x c (lt-ltb (x .count + 1) 16 (omega arith)))
+    (λ t. tried-within Halving 0 x c refl)
 advance-at Halving s x c w = cases Within (ltb (x .count) 48) (λ t. let l : x .count < 48 = ltb-true _ _ t in tried-within Halving (x .count + 1) x c (lt-ltb (x .count + 1) 49 (omega arith))) (λ t. w)
 
 pub advance-within : (s : Settings) (x : Search) (c : Conditional) → Within x → Within (advance s x c)
@@ -132,7 +133,8 @@ advance-at2 Zero s x c w = between-within Start 0 c c (omega arith) tt
 advance-at2 Start s x c w = round-within s (x .seed) (w .seed) 0 (omega arith) c (x .best)
 advance-at2 Trial s x c w =
     both Within2 _
-    (cases Within2 (ltb (x .round) 47) (λ t. let l : x .round < 47 = ltb-true _ _ t in round-within s (x .seed) (w .seed) (x .round + 1) (omega arith) c (x .best)) (λ t. finish-within s (x .seed) (w .seed) c (x .best)))
+    (cases Within2 (ltb (x .round) 47) (λ t. let l : x .round < 47 = ltb-true _ _ t in round-within s (x .seed) (w .seed) (x .round + 1) (omega arith) c (x .best))
+    (λ t. finish-within s (x .seed) (w .seed) c (x .best)))
     (both Within2 _ (descend-within s (x .seed) (w .seed) (x .round) (x .reduction + 1) (w .round) (x .current) (x .best)) (finish-within s (x .seed) (w .seed) (x .current) (x .best)))
 advance-at2 Found s x c w = w
 advance-at2 (Halted n) s x c w = w

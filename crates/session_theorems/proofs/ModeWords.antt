@@ -52,7 +52,8 @@ use Rattle.session_theorems.proofs.Plain.{true-not-false}
 use Rattle.session_theorems.proofs.Results.{past-two}
 use Rattle.session_theorems.proofs.Searches.{one-not-two, wanted-one, point-one, is-two, wanted-two, point-two}
 use Rattle.session_theorems.proofs.Standing.{fit-effects}
-use Rattle.session_theorems.proofs.Trials.{Has, NthHas, nth-so, SameBlocks, Moves, Movable, Trial1, Carried1, begun1, same1, movable1, step1, end1, Trial2, Carried2, begun2, same2, movable2, step2, end2}
+use Rattle.session_theorems.proofs.Trials.{Has, NthHas, nth-so, SameBlocks, Moves, Movable, Trial1, Carried1, begun1, same1, movable1, step1, end1, Trial2, Carried2, begun2, same2, movable2}
+use Rattle.session_theorems.proofs.Trials.{step2, end2}
 
 module _ (I : Inner) (L : Reads I) where
   pub record OfMode (m : Mode) (b : I .rules .Conditional) : Type 0 where

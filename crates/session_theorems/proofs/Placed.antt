@@ -48,7 +48,8 @@ use Rattle.search.specs.declared.Wanted.{Wanted}
 use Rattle.search.specs.declared.Wanted.the-variants as Wants
 use Rattle.machine.specs.Machine.{Moved}
 use Rattle.population.specs.Kept.{Recalled, words, orderRows}
-use Rattle.population.specs.Population.{rowsOf, take as takes, answered, atPoint, Worked, nextSubject, raised, Ended, ended, closing, atMode, servedBy, served, turned, Whole, wholeOf, moved, turn, receive}
+use Rattle.population.specs.Population.{rowsOf, take as takes, answered, atPoint, Worked, nextSubject, raised, Ended, ended, closing, atMode, servedBy, served, turned, Whole, wholeOf, moved, turn}
+use Rattle.population.specs.Population.{receive}
 use Rattle.population.specs.declared.Turned.{Turned}
 use Rattle.population.specs.declared.Turned.the-variants.{On, Halt}
 use Rattle.session.specs.Session as N

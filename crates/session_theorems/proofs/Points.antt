@@ -84,7 +84,8 @@ not-nan nan h = h
 not-nan (inf s) h = h
 not-nan (fin s m e) h = h
 
-pub prior-number : (score eta omega : Float) → T (finite score) → WithinEdge eta → T (le (word 0x3eb0_0000_0000_0000) omega) → T (le omega (word 0x4130_0000_0000_0000)) → T (not (isNan (score +ᶠ eta /ᶠ omega)))
+pub prior-number : (score eta omega : Float) → T (finite score) → WithinEdge eta → T (le (word 0x3eb0_0000_0000_0000) omega) → T (le omega (word 0x4130_0000_0000_0000)) → T
+    (not (isNan (score +ᶠ eta /ᶠ omega)))
 unfolding fits
 prior-number score eta om f w low high =
     let o = in-20 om low high in

@@ -84,7 +84,8 @@ unfolding B.keyOf B.key1 B.key2
 subject-of fit subject eta = both-of (λ (k : CacheKey). k .subject ≡ subject) _ refl refl
 
 -- ---- the checks do not tell one store from the other, where the words are enough
-module _ (setup : Setup) (lent lent' : Lent) (w : lent .work ≡ lent' .work) (v : lent .warm ≡ lent' .warm) (r : lent .results ≡ lent' .results) (o : lent .observations ≡ lent' .observations) (c : 24 * setup .k ≤ lent .cache) (c' : 24 * setup .k ≤ lent' .cache) where
+module _ (setup : Setup) (lent lent' : Lent) (w : lent .work ≡ lent' .work) (v : lent .warm ≡ lent' .warm) (r : lent .results ≡ lent' .results) (o : lent .observations ≡ lent' .observations)
+    (c : 24 * setup .k ≤ lent .cache) (c' : 24 * setup .k ≤ lent' .cache) where
   short-same : (subjects total largest : ℕ) → isShort setup subjects total largest lent ≡ isShort setup subjects total largest lent'
   unfolding isShort
   short-same subjects total largest =
@@ -148,12 +149,15 @@ module _ (k : ℕ) (counts : List ℕ) where
         ap₂ (λ (a : CachedTerms) (b : List ℕ). some (record { terms = a; work = b })) t v ∙ ap (recallEntry rows work to) (sym g)
     recall-by key rows work to r lent Nothing e = ap (recallEntry rows work to) (ap (foundEntry (c .words) k) (sym e) ∙ refinement .finds (c .words) k (c .order) l st key)
 
-    recall-same : (key : CacheKey) (rows : ℕ) (work : List ℕ) (to : ℕ) → rows ≡ rowsOf counts (key .subject) → to + rowWords * rows ≤ length work → words .recall c k key rows work to ≡ entries .recall l k key rows work to
+    recall-same : (key : CacheKey) (rows : ℕ) (work : List ℕ) (to : ℕ) → rows ≡ rowsOf counts (key .subject) → to + rowWords * rows ≤ length work → words .recall c k key rows work to ≡ entries .recall
+        l k key rows work to
     recall-same key rows work to r lent = recall-by key rows work to r lent (find (c .words) k (c .order) key) refl
 
     -- and what is kept of an evaluation
-    keep-same : (key : CacheKey) (terms : CachedTerms) (rows : ℕ) (work : List ℕ) (from : ℕ) → rows ≡ rowsOf counts (key .subject) → 1 ≤ rows → from + rowWords * rows ≤ length work → c .order .next < half → lookup key l ≡ none
-        → let d = words .keep c k key terms rows work from in let m = entries .keep l k key terms rows work from in (Stands (d .words) k (d .order) m × Every OwnRows m) × (words .rows d ≡ entries .rows m)
+    keep-same : (key : CacheKey) (terms : CachedTerms) (rows : ℕ) (work : List ℕ) (from : ℕ) → rows ≡ rowsOf counts (key .subject) → 1 ≤ rows → from + rowWords * rows ≤ length work → c .order .next <
+        half → lookup key l ≡ none
+        → let d = words .keep c k key terms rows work from in let m = entries .keep l k key terms rows work from in (Stands (d .words) k (d .order) m × Every OwnRows m) ×
+        (words .rows d ≡ entries .rows m)
     unfolding appended orderRows
     keep-same key terms rows work from r one lent low absent =
         let x : Evaluated = record { key = key; terms = terms; n = rows; rows = work; from = from } in
@@ -164,8 +168,11 @@ module _ (k : ℕ) (counts : List ℕ) where
         let p = refinement .passes (c .words) k (c .order) x big in
         let m = pick-yes (ltb k rows) l (dropTo (k - rows) l ++ (entryFor x ∷ [])) (lt-ltb k rows big) in
         let s : Stands (d .words) k (d .order) l = subst (λ (z : Cache). Stands (z .words) k (z .order) l) (sym p) st in
-        let n = refinement .rows (d .words) k (d .order) l s in
-        ((subst (Stands (d .words) k (d .order)) (sym m) s, subst (Every OwnRows) (sym m) own), (let z : d .order .«next_row» - d .order .«first_row» ≡ cachedRows l = omega (arith, n) in z) ∙ ap cachedRows (sym m)))
+        let n = refinement .rows (d .words) k (d .order) l s in (
+          (subst (Stands (d .words) k (d .order)) (sym m) s, subst (Every OwnRows) (sym m) own),
+          (let z : d .order .«next_row» - d .order .«first_row» ≡ cachedRows l = omega (arith, n) in z) ∙ ap
+              cachedRows (sym m),
+        ))
         (λ (small : rows ≤ k).
         let m = pick-no (ltb k rows) l (dropTo (k - rows) l ++ (entryFor x ∷ [])) (le-ltb k rows small) in
         let s = refinement .keeps (c .words) k (c .order) l st x lone small low absent in
@@ -175,7 +182,8 @@ module _ (k : ℕ) (counts : List ℕ) where
         ))
         (split k rows)
 
-module _ (setup : Setup) (counts : List ℕ) (observations : List Observation) (I : Inner) (Q : Suits I (setup .effects)) (bound : Fits (setup .«eta_bound»)) (limit : setup .«max_evaluations» < 4294967296)
+module _ (setup : Setup) (counts : List ℕ) (observations : List Observation) (I : Inner) (Q : Suits I (setup .effects)) (bound : Fits (setup .«eta_bound»))
+    (limit : setup .«max_evaluations» < 4294967296)
     (lent : Lent) (a : Accepts setup counts lent) (room : Room (setup .k)) where
   abbrev U : Trusted words (setup .k)
   U = words-trusted (setup .k) (room .some) (room .most)
@@ -195,7 +203,8 @@ module _ (setup : Setup) (counts : List ℕ) (observations : List Observation) (
   abbrev Pair' : Moved (Held words) Step → Moved (Held entries) Step → Type 0
   Pair' = Both (setup .k) counts
 
-  module _ (parameters : Parameters) (p : Progress) (tally : Tally) (c : Cache) (l : List Entry) (work warm results : List ℕ) (st : Stands (c .words) (setup .k) (c .order) l) (own : Every (OwnRows (setup .k) counts) l) where
+  module _ (parameters : Parameters) (p : Progress) (tally : Tally) (c : Cache) (l : List Entry) (work warm results : List ℕ) (st : Stands (c .words) (setup .k) (c .order) l)
+      (own : Every (OwnRows (setup .k) counts) l) where
     abbrev h : Held words
     h = held words parameters (wholeOf words p tally c work warm results)
 
@@ -216,7 +225,8 @@ module _ (setup : Setup) (counts : List ℕ) (observations : List Observation) (
       lent-rows = subst (λ (n : ℕ). n ≤ length work) (sym (block-end rows (rows-within a (p .subject) (s .subject) .1))) (s .roomy (p .subject) (s .subject))
 
       recalls : (eta : Pair) → words .recall c (fit .k) (B.keyOf fit (p .subject) eta) rows work (block rows 3) ≡ entries .recall l (fit .k) (B.keyOf fit (p .subject) eta) rows work (block rows 3)
-      recalls eta = subst (λ (k : ℕ). words .recall c k (B.keyOf fit (p .subject) eta) rows work (block rows 3) ≡ entries .recall l k (B.keyOf fit (p .subject) eta) rows work (block rows 3)) (sym (fit-k setup parameters))
+      recalls eta = subst (λ (k : ℕ). words .recall c k (B.keyOf fit (p .subject) eta) rows work (block rows 3) ≡ entries .recall l k (B.keyOf fit (p .subject) eta) rows work (block rows 3))
+          (sym (fit-k setup parameters))
           (recall-same (setup .k) counts room c l st own (B.keyOf fit (p .subject) eta) rows work (block rows 3) (ap (rowsOf counts) (sym (subject-of fit (p .subject) eta))) lent-rows)
 
       served-by : (v : Wanted) → servedBy words fit counts p tally c work warm results v ≡ servedBy entries fit counts p tally l work warm results v
@@ -234,7 +244,10 @@ module _ (setup : Setup) (counts : List ℕ) (observations : List Observation) (
       unfolding N.turnHeld turn turned served
       turn-both =
           let v = B.wantedBy fit p in
-          subst (λ (e : Ended). Pair' (N.heldBy words setup counts parameters (moved words tally c (pick (isOver (servedBy words fit counts p tally c work warm results v .turned)) (zeros (length (servedBy words fit counts p tally c work warm results v .work))) (servedBy words fit counts p tally c work warm results v .work)) (servedBy words fit counts p tally c work warm results v .warm) (servedBy words fit counts p tally c work warm results v .results) (servedBy words fit counts p tally c work warm results v .turned)))
+          subst (λ (e : Ended). Pair' (N.heldBy words setup counts parameters (moved words tally c (pick (isOver (servedBy words fit counts p tally c work warm results v .turned))
+          (zeros (length (servedBy words fit counts p tally c work warm results v .work))) (servedBy words fit counts p tally c work warm results v .work))
+          (servedBy words fit counts p tally c work warm results v .warm) (servedBy words fit counts p tally c work warm results v .results)
+          (servedBy words fit counts p tally c work warm results v .turned)))
           (N.heldBy entries setup counts parameters (moved entries tally l (pick (isOver (e .turned)) (zeros (length (e .work))) (e .work)) (e .warm) (e .results) (e .turned))))
           (served-by v) (moves _ _ _ _)
 
@@ -242,11 +255,14 @@ module _ (setup : Setup) (counts : List ℕ) (observations : List Observation) (
       unaltered : (number : ℕ) (place : Place) → Pair' (N.unaltered words setup counts number place h) (N.unaltered entries setup counts number place g)
       unaltered number place = both-halt (link p tally work warm results)
 
-      admits : (q : Parameters) → N.admitted words setup counts (length observations) (N.allChecked setup counts observations) q (h .whole) ≡ N.admitted entries setup counts (length observations) (N.allChecked setup counts observations) q (g .whole)
+      admits : (q : Parameters) → N.admitted words setup counts (length observations) (N.allChecked setup counts observations) q (h .whole) ≡ N.admitted entries setup counts (length observations)
+          (N.allChecked setup counts observations) q (g .whole)
       unfolding N.admitted withParameters
-      admits q = checks-same (withParameters setup q) (N.lentOf words setup (length observations) (h .whole)) (N.lentOf entries setup (length observations) (g .whole)) refl refl refl refl (st .good .long) (omega arith) counts _
+      admits q = checks-same (withParameters setup q) (N.lentOf words setup (length observations) (h .whole)) (N.lentOf entries setup (length observations) (g .whole)) refl refl refl refl
+          (st .good .long) (omega arith) counts _
 
-      when-admitted : (x : Moved (Held words) Step) (y : Moved (Held entries) Step) → Pair' x y → (m : Admission) → Pair' (N.whenAdmitted words setup counts h x m) (N.whenAdmitted entries setup counts g y m)
+      when-admitted : (x : Moved (Held words) Step) (y : Moved (Held entries) Step) → Pair' x y → (m : Admission) → Pair' (N.whenAdmitted words setup counts h x m)
+          (N.whenAdmitted entries setup counts g y m)
       unfolding N.whenAdmitted
       when-admitted x y b A.Accepted = b
       when-admitted x y b (A.Refused n) = unaltered n _
@@ -257,23 +273,29 @@ module _ (setup : Setup) (counts : List ℕ) (observations : List Observation) (
       over number place = both-halt (link (B.idle p) tally (zeros (length work)) warm results)
 
       admitted-both : (q : Parameters) (x : Moved (Held words) Step) (y : Moved (Held entries) Step) → Pair' x y
-          → Pair' (N.whenAdmitted words setup counts h x (N.admitted words setup counts (length observations) (N.allChecked setup counts observations) q (h .whole))) (N.whenAdmitted entries setup counts g y (N.admitted entries setup counts (length observations) (N.allChecked setup counts observations) q (g .whole)))
-      admitted-both q x y b = subst (λ (m : Admission). Pair' (N.whenAdmitted words setup counts h x (N.admitted words setup counts (length observations) (N.allChecked setup counts observations) q (h .whole))) (N.whenAdmitted entries setup counts g y m)) (admits q) (when-admitted x y b _)
+          → Pair' (N.whenAdmitted words setup counts h x (N.admitted words setup counts (length observations) (N.allChecked setup counts observations) q (h .whole)))
+          (N.whenAdmitted entries setup counts g y (N.admitted entries setup counts (length observations) (N.allChecked setup counts observations) q (g .whole)))
+      admitted-both q x y b = subst (λ (m : Admission). Pair' (N.whenAdmitted words setup counts h x (N.admitted words setup counts (length observations) (N.allChecked setup counts observations) q
+          (h .whole))) (N.whenAdmitted entries setup counts g y m)) (admits q) (when-admitted x y b _)
 
-      objective-both : (q : Parameters) → Pair' (N.enterObjective words setup counts (length observations) (N.allChecked setup counts observations) q h) (N.enterObjective entries setup counts (length observations) (N.allChecked setup counts observations) q g)
+      objective-both : (q : Parameters) → Pair' (N.enterObjective words setup counts (length observations) (N.allChecked setup counts observations) q h)
+          (N.enterObjective entries setup counts (length observations) (N.allChecked setup counts observations) q g)
       unfolding N.enterObjective N.isStanding N.begun
       objective-both q =
           pick-both (setup .k) counts (p .awaits) (unaltered 19 _)
           (pick-both (setup .k) counts _ (admitted-both q _ _ (both-on (record { is = alike q _ tally c l work warm results st; own = own }))) (unaltered 19 _))
 
-      at-wanted : (x : Pair → Moved (Held words) Step) (y : Pair → Moved (Held entries) Step) (v : Wanted) → ((eta : Pair) → v ≡ Wants.Point eta → Pair' (x eta) (y eta)) → Pair' (N.atWanted words setup counts (length observations) (N.allChecked setup counts observations) h x v) (N.atWanted entries setup counts (length observations) (N.allChecked setup counts observations) g y v)
+      at-wanted : (x : Pair → Moved (Held words) Step) (y : Pair → Moved (Held entries) Step) (v : Wanted) → ((eta : Pair) → v ≡ Wants.Point eta → Pair' (x eta) (y eta)) → Pair'
+          (N.atWanted words setup counts (length observations) (N.allChecked setup counts observations) h x v) (N.atWanted entries setup counts (length observations)
+          (N.allChecked setup counts observations) g y v)
       unfolding N.atWanted
       at-wanted x y (Wants.Point eta) f = admitted-both parameters (x eta) (y eta) (f eta refl)
       at-wanted x y Wants.Mode f = unaltered 19 _
       at-wanted x y (Wants.Refused n) f = unaltered 19 _
 
       when-awaited : (x : Pair → Moved (Held words) Step) (y : Pair → Moved (Held entries) Step) → (p .awaits ≡ true → (eta : Pair) → B.wantedBy fit p ≡ Wants.Point eta → Pair' (x eta) (y eta))
-          → Pair' (N.whenAwaited words setup counts (length observations) (N.allChecked setup counts observations) h x) (N.whenAwaited entries setup counts (length observations) (N.allChecked setup counts observations) g y)
+          → Pair' (N.whenAwaited words setup counts (length observations) (N.allChecked setup counts observations) h x)
+          (N.whenAwaited entries setup counts (length observations) (N.allChecked setup counts observations) g y)
       unfolding N.whenAwaited N.isStanding
       when-awaited x y f =
           pick-when (setup .k) counts (p .awaits) (λ t. pick-both (setup .k) counts _ (at-wanted x y (B.wantedBy fit p) (f t)) (unaltered 19 _)) (unaltered 19 _)
@@ -312,12 +334,15 @@ module _ (setup : Setup) (counts : List ℕ) (observations : List Observation) (
         dE k sums = entries .keep l k (B.keyOf fit (p .subject) eta) (B.termsOf sums) rows (ended' .work) (block rows 3)
 
         kept-link : (sums : Sums) (q : Progress) (x y z : List ℕ)
-            → Link (held words parameters (wholeOf words q (tallyOf (words .rows (dW (setup .k) sums))) (dW (setup .k) sums) x y z)) (held entries parameters (wholeOf entries q (tallyOf (entries .rows (dE (setup .k) sums))) (dE (setup .k) sums) x y z))
+            → Link (held words parameters (wholeOf words q (tallyOf (words .rows (dW (setup .k) sums))) (dW (setup .k) sums) x y z))
+            (held entries parameters (wholeOf entries q (tallyOf (entries .rows (dE (setup .k) sums))) (dE (setup .k) sums) x y z))
         kept-link sums q x y z =
-            let k = keep-same (setup .k) counts room c l st own (B.keyOf fit (p .subject) eta) (B.termsOf sums) rows (ended' .work) (block rows 3) (ap (rowsOf counts) (sym (subject-of fit (p .subject) eta))) (rows-within a (p .subject) (s .subject) .0)
+            let k = keep-same (setup .k) counts room c l st own (B.keyOf fit (p .subject) eta) (B.termsOf sums) rows (ended' .work) (block rows 3)
+            (ap (rowsOf counts) (sym (subject-of fit (p .subject) eta))) (rows-within a (p .subject) (s .subject) .0)
             (subst (λ (n : ℕ). block rows 3 + rowWords * rows ≤ n) (sym long) lent-rows) low absent in
             record {
-              is = subst (λ (n : ℕ). Alike (setup .k) (held words parameters (wholeOf words q (tallyOf (words .rows (dW (setup .k) sums))) (dW (setup .k) sums) x y z)) (held entries parameters (wholeOf entries q (tallyOf n) (dE (setup .k) sums) x y z)))
+              is = subst (λ (n : ℕ). Alike (setup .k) (held words parameters (wholeOf words q (tallyOf (words .rows (dW (setup .k) sums))) (dW (setup .k) sums) x y z))
+                  (held entries parameters (wholeOf entries q (tallyOf n) (dE (setup .k) sums) x y z)))
                   (k .1) (alike parameters q (tallyOf (words .rows (dW (setup .k) sums))) (dW (setup .k) sums) (dE (setup .k) sums) x y z (k .0 .0));
               own = k .0 .1;
             }
@@ -327,7 +352,8 @@ module _ (setup : Setup) (counts : List ℕ) (observations : List Observation) (
         received sums =
             let q = B.advanceBy fit p eta sums .progress in
             let x = moveRows rows (B.advanceBy fit p eta sums .sources) (ended' .work) in
-            both-on (subst (λ (k : ℕ). Link (held words parameters (wholeOf words q (tallyOf (words .rows (dW k sums))) (dW k sums) x warm results)) (held entries parameters (wholeOf entries q (tallyOf (entries .rows (dE k sums))) (dE k sums) x warm results)))
+            both-on (subst (λ (k : ℕ). Link (held words parameters (wholeOf words q (tallyOf (words .rows (dW k sums))) (dW k sums) x warm results))
+            (held entries parameters (wholeOf entries q (tallyOf (entries .rows (dE k sums))) (dE k sums) x warm results)))
             (sym (fit-k setup parameters)) (kept-link sums q x warm results))
 
         by-end : (x : Evaluation) → Pair' (N.replied words setup counts fit eta h (ended' .work) x) (N.replied entries setup counts fit eta g (ended' .work) x)
@@ -354,13 +380,15 @@ module _ (setup : Setup) (counts : List ℕ) (observations : List Observation) (
   turn-of : (h : Held words) (g : Held entries) → Standing' h → Link h g → Pair' (N.turnHeld words setup counts h) (N.turnHeld entries setup counts g)
   turn-of h g s i = by-alike h g (i .is) (i .own) s
     where
-      by-alike : (h : Held words) (g : Held entries) → Alike (setup .k) h g → Every (OwnRows (setup .k) counts) (g .whole .kept) → Standing' h → Pair' (N.turnHeld words setup counts h) (N.turnHeld entries setup counts g)
+      by-alike : (h : Held words) (g : Held entries) → Alike (setup .k) h g → Every (OwnRows (setup .k) counts) (g .whole .kept) → Standing' h → Pair' (N.turnHeld words setup counts h)
+          (N.turnHeld entries setup counts g)
       by-alike h g (alike parameters p tally c l work warm results st) own s = turn-both parameters p tally c l work warm results st own s
 
   enter-of : (x : Call) (h : Held words) (g : Held entries) → Standing' h → Link h g → Pair' (N.enter words setup counts observations x h) (N.enter entries setup counts observations x g)
   enter-of x h g s i = by-alike h g (i .is) (i .own) s
     where
-      by-alike : (h : Held words) (g : Held entries) → Alike (setup .k) h g → Every (OwnRows (setup .k) counts) (g .whole .kept) → Standing' h → Pair' (N.enter words setup counts observations x h) (N.enter entries setup counts observations x g)
+      by-alike : (h : Held words) (g : Held entries) → Alike (setup .k) h g → Every (OwnRows (setup .k) counts) (g .whole .kept) → Standing' h → Pair' (N.enter words setup counts observations x h)
+          (N.enter entries setup counts observations x g)
       by-alike h g (alike parameters p tally c l work warm results st) own s = enter-both parameters p tally c l work warm results st own s x
 
   onward-both : {m : Moved (Held words) Step} {n : Moved (Held entries) Step} (f : Held words → Ran (Held words) Step) (f' : Held entries → Ran (Held entries) Step) → Pair' m n → After Standing' m
@@ -374,9 +402,11 @@ module _ (setup : Setup) (counts : List ℕ) (observations : List Observation) (
   loop-both zero h g s i = record { answer = refl; linked = i; stands = s }
   loop-both (suc n) h g s i = onward-both _ _ (turn-of h g s i) (after-turn (I .rules) (I .claims) M Y Standing' h (turns words setup counts observations I Q U bound (a .most) h s)) (loop-both n)
 
-  call-both : (x : Call) (h : Held words) (g : Held entries) → Standing' h → Link h g → BothRan (call (session words setup counts observations) x h) (call (session entries setup counts observations) x g)
+  call-both : (x : Call) (h : Held words) (g : Held entries) → Standing' h → Link h g → BothRan (call (session words setup counts observations) x h)
+      (call (session entries setup counts observations) x g)
   unfolding call
-  call-both x h g s i = onward-both _ _ (enter-of x h g s i) (after-entry (I .rules) (I .claims) M Y Standing' x h s (enters words setup counts observations I Q U bound (omega (arith, limit)) (a .some) (rows-within a) x h s)) (loop-both (N.fuel))
+  call-both x h g s i = onward-both _ _ (enter-of x h g s i) (after-entry (I .rules) (I .claims) M Y Standing' x h s
+      (enters words setup counts observations I Q U bound (omega (arith, limit)) (a .some) (rows-within a) x h s)) (loop-both (N.fuel))
 
   -- the host sets the warm starts
   set-both : (warm : List ℕ) (h : Held words) (g : Held entries) → Link h g → Link (N.setWarm words setup counts warm h) (N.setWarm entries setup counts warm g)
@@ -389,7 +419,8 @@ module _ (setup : Setup) (counts : List ℕ) (observations : List Observation) (
           by-cases true = unfold pick in p
           by-cases false = unfold pick in q
 
-      by-alike : (h : Held words) (g : Held entries) → Alike (setup .k) h g → Every (OwnRows (setup .k) counts) (g .whole .kept) → Link (N.setWarm words setup counts warm h) (N.setWarm entries setup counts warm g)
+      by-alike : (h : Held words) (g : Held entries) → Alike (setup .k) h g → Every (OwnRows (setup .k) counts) (g .whole .kept) → Link (N.setWarm words setup counts warm h)
+          (N.setWarm entries setup counts warm g)
       by-alike h g (alike parameters p tally c l work old results st) own = unfold N.setWarm in
           pick-link _ (record { is = alike parameters p tally c l work warm results st; own = own }) (record { is = alike parameters p tally c l work old results st; own = own })
 
@@ -402,7 +433,8 @@ module _ (setup : Setup) (counts : List ℕ) (observations : List Observation) (
       alike-awaits : (h : Held words) (g : Held entries) → Alike (setup .k) h g → h .whole .progress .awaits ≡ g .whole .progress .awaits
       alike-awaits h g (alike parameters p tally c l work old results st) = refl
 
-      by-awaits : (b d : Bool) → b ≡ d → Standing' (pick b h (N.setWarm words setup counts warm h)) × Link (pick b h (N.setWarm words setup counts warm h)) (pick d g (N.setWarm entries setup counts warm g))
+      by-awaits : (b d : Bool) → b ≡ d → Standing' (pick b h (N.setWarm words setup counts warm h)) × Link (pick b h (N.setWarm words setup counts warm h))
+          (pick d g (N.setWarm entries setup counts warm g))
       by-awaits true true e = unfold pick in (s, i)
       by-awaits false false e = unfold pick in (sets words setup counts observations I Q U bound limit lent results a warm h s, set-both warm h g i)
       by-awaits true false e = absurd (subst T e tt)
@@ -410,7 +442,8 @@ module _ (setup : Setup) (counts : List ℕ) (observations : List Observation) (
 
   run-both : (results : List ℕ) (deeds : List Deed) (h : Held words) (g : Held entries) → Standing' h → Link h g
       → Standing' (run (session words setup counts observations) h (actsOf words setup counts observations deeds))
-      × Link (run (session words setup counts observations) h (actsOf words setup counts observations deeds)) (run (session entries setup counts observations) g (actsOf entries setup counts observations deeds))
+      × Link (run (session words setup counts observations) h (actsOf words setup counts observations deeds)) (run (session entries setup counts observations) g
+      (actsOf entries setup counts observations deeds))
   unfolding run
   run-both results [] h g s i = (s, i)
   run-both results (does x ∷ ds) h g s i = let b = call-both x h g s i in run-both results ds _ _ (b .stands) (b .linked)

@@ -51,10 +51,12 @@ use Rattle.host_calls.specs.Hosting as H
 use Rattle.host_calls.specs.Hosting.{Out, out, did, unknown, withState, answered, placeWords, isUnaltered, finishWith, setupOver, callOver}
 use Rattle.host_calls.specs.declared.AnswerWords.{AnswerWords}
 use Rattle.host_calls.specs.SubjectReplies.{subjectChecked, admitSubjectWith, subjectReplyOver}
-use Rattle.session_theorems.specs.Refusals.{Exported, opens, calls, replies, Lending, does, AltersNothing, EndsObjective, Carries, Awaits, OutOfTurn, EveryRefusal, SixOnlyAtTheLimit, ZerosAfterAnEnd, NeverSpent, ForAllWords}
+use Rattle.session_theorems.specs.Refusals.{Exported, opens, calls, replies, Lending, does, AltersNothing, EndsObjective, Carries, Awaits, OutOfTurn, EveryRefusal, SixOnlyAtTheLimit}
+use Rattle.session_theorems.specs.Refusals.{ZerosAfterAnEnd, NeverSpent, ForAllWords}
 use Rattle.session_theorems.proofs.Accepted.{is-cohort}
 use Rattle.session_theorems.proofs.Endings.{Tells, Says, Going, never-spent}
-use Rattle.session_theorems.proofs.Entered.{Judged, counts-judged, one, unheard, late, stood, Done, Enters, Stood, wantedAt, done, unspent, admits, replies as goes-on, enters, Ending, Answers-with}
+use Rattle.session_theorems.proofs.Entered.{Judged, counts-judged, one, unheard, late, stood, Done, Enters, Stood, wantedAt, done, unspent, admits, replies as goes-on, enters, Ending}
+use Rattle.session_theorems.proofs.Entered.{Answers-with}
 use Rattle.session_theorems.proofs.Evaluated.{work-length}
 use Rattle.session_theorems.proofs.Remaining.{lifts, placed}
 

@@ -37,8 +37,10 @@ module _ (R : Rules) where
   not-between (x ∷ xs) n (inr w) = let a = n .1 in let b = w .1 in omega (arith, a, b)
 
 module _ (R : Rules) (K : Claims R) (P : Proved R K) (M : Machine) (Y : View R M) (Sound : M .State → Type 0) (W : Lawful R K M Y Sound)
-    (inside : (s : M .State) → Sound s → Y .subject s < Y .subjects) (E : M .State → Type 0) (keeps : (s : M .State) → E s → After E (M .turn s)) (G : M .Answer → Type 0) (says : (s : M .State) → E s → Says G (M .turn s)) where
-  module _ (k : M .State → Outcome M) (l : M .State → List _) (go : (t : M .State) (x : Searched R) (xs : List (Searched R)) → Sound t → E t → Goes R x → G (k t .answer) ⊎ Newest R (read R (x ∷ xs) (l t)))
+    (inside : (s : M .State) → Sound s → Y .subject s < Y .subjects) (E : M .State → Type 0) (keeps : (s : M .State) → E s → After E (M .turn s)) (G : M .Answer → Type 0)
+    (says : (s : M .State) → E s → Says G (M .turn s)) where
+  module _ (k : M .State → Outcome M) (l : M .State → List _) (go : (t : M .State) (x : Searched R) (xs : List (Searched R)) → Sound t → E t → Goes R x → G (k t .answer) ⊎ Newest R
+      (read R (x ∷ xs) (l t)))
       (s : M .State) (x : Searched R) (xs : List (Searched R)) (g : Goes R x) where
     turned : {m : Move M} → Turn R K M Y Sound s m → After E m → Says G m → G (onward m k .answer) ⊎ Newest R (read R (x ∷ xs) (turn-log R M Y s m ++ goes-on m l))
     unfolding After Says points read onward goes-on turn-log
@@ -63,7 +65,8 @@ module _ (R : Rules) (K : Claims R) (P : Proved R K) (M : Machine) (Y : View R M
 
   -- ---- a call, after the searches xs
   module _ (c : M .Call) (s : M .State) (xs : List (Searched R)) (waits : M .awaits s ≡ true → Waits R xs) where
-    entered : {m : Move M} → Enters R K M Y Sound c s m → After E m → Says G m → (Newest R (read R xs (enter-log R M Y c s m ++ goes-on m (λ t. loop-log R M Y (M .fuel) t))) → ⊥) → G (onward m (λ t. requests M t) .answer)
+    entered : {m : Move M} → Enters R K M Y Sound c s m → After E m → Says G m → (Newest R (read R xs (enter-log R M Y c s m ++ goes-on m (λ t. loop-log R M Y (M .fuel) t))) → ⊥) → G
+        (onward m (λ t. requests M t) .answer)
     unfolding After Says points onward goes-on enter-log read
     entered (same e) i w never = w
     entered (begins {t} e b) i w never = ⊎-elim (λ g. g) (λ n. absurd (never (rw e n))) (loops (M .fuel) t (begun R (Y .subject t) (Y .settings t) (Y .evaluations t)) xs (b .sound) i (refl, refl))
@@ -74,7 +77,8 @@ module _ (R : Rules) (K : Claims R) (P : Proved R K) (M : Machine) (Y : View R M
   abbrev one-more : List (Act M) → M .Call → List (Act M)
   one-more acts c = acts ++ (calls c ∷ [])
 
-  log-more : (acts : List (Act M)) (c : M .Call) (s : M .State) (xs : List (Searched R)) → read R xs (log R M Y s (one-more acts c)) ≡ read R (read R xs (log R M Y s acts)) (call-log R M Y c (run M s acts))
+  log-more : (acts : List (Act M)) (c : M .Call) (s : M .State) (xs : List (Searched R)) → read R xs (log R M Y s (one-more acts c)) ≡ read R (read R xs (log R M Y s acts))
+      (call-log R M Y c (run M s acts))
   unfolding run log read
   log-more [] c s xs = ap (read R xs) (append-nil (call-log R M Y c s))
   log-more (calls d ∷ acts) c s xs =
@@ -91,11 +95,13 @@ module _ (R : Rules) (K : Claims R) (P : Proved R K) (M : Machine) (Y : View R M
       by false q = inl (e q)
 
   -- whatever is true of every answer of an entry or a turn is true of a call's
-  pub answers : (s₀ : M .State) → Sound s₀ → M .awaits s₀ ≡ false → Y .evaluations s₀ ≡ 0 → (acts : List (Act M)) (c : M .Call) → After E (M .enter c (run M s₀ acts)) → Says G (M .enter c (run M s₀ acts)) → G (call M c (run M s₀ acts) .answer)
+  pub answers : (s₀ : M .State) → Sound s₀ → M .awaits s₀ ≡ false → Y .evaluations s₀ ≡ 0 → (acts : List (Act M)) (c : M .Call) → After E (M .enter c (run M s₀ acts)) → Says G
+      (M .enter c (run M s₀ acts)) → G (call M c (run M s₀ acts) .answer)
   unfolding call call-log
   answers s₀ so idle none-yet acts c i w =
       let s = run M s₀ acts in
-      let sound : Sound s = run-keeps M Sound (λ t h. after-turn R K M Y Sound t (W .turns t h (inside t h))) (λ d t h. after-entry R K M Y Sound d t h (W .enters d t h)) (W .writes-sound) acts s₀ so in
+      let sound : Sound s = run-keeps M Sound (λ t h. after-turn R K M Y Sound t (W .turns t h (inside t h))) (λ d t h. after-entry R K M Y Sound d t h (W .enters d t h)) (W .writes-sound) acts s₀ so
+      in
       let before = demand3 R K P M Y Sound W s₀ so idle none-yet acts in
       let after = demand3 R K P M Y Sound W s₀ so idle none-yet (one-more acts c) in
       let more = between (run M s₀ (one-more acts c)) _ (after .idle) (after .waits) in

@@ -58,7 +58,8 @@ pub record Suits (I : Inner) (effects : ℕ) : Type 1 where
       → I .searchOf (B.advanceBy fit p eta sums .progress) ≡ I .rules .advance (I .settingsOf fit p) (I .searchOf p) (I .conditionalOf fit eta sums)
   -- finite sums at a point that passed 7 answer what was asked
   pub answers : (fit : Fit) (p : Progress) (eta : Pair) (sums : Sums) → fit .effects ≡ effects → I .claims .Domain (I .settingsOf fit p)
-      → B.wantedBy fit p ≡ Wants.Point eta → Passed eta effects → hasNonfiniteSum sums ≡ false → I .rules .Answers (I .rules .request (I .settingsOf fit p) (I .searchOf p)) (I .conditionalOf fit eta sums)
+      → B.wantedBy fit p ≡ Wants.Point eta → Passed eta effects → hasNonfiniteSum sums ≡ false → I .rules .Answers (I .rules .request (I .settingsOf fit p) (I .searchOf p))
+      (I .conditionalOf fit eta sums)
   -- parameters that passed the checks give settings of the domain
   pub domain : (setup : Setup) (parameters : Parameters) (p : Progress) → setup .effects ≡ effects → Fits (setup .«eta_bound») → isNoOmega (withParameters setup parameters) ≡ false
       → isNoShape (withParameters setup parameters) ≡ false → FitsBoth (p .warm) → I .claims .Domain (I .settingsOf (B.fitOf setup parameters) p)
@@ -228,7 +229,8 @@ suits2 = record {
   pointed-wait = λ p individual h. h;
   pointed-idle = λ p h. h;
   pointed-end = λ p ofv squares h. h;
-  pointed-on = λ fit p eta sums e f h. subst (λ (a : Advanced). TrialFits (a .progress .«search_2d»)) (sym (pick-yes _ _ _ (is-two fit e))) (advance-fits (B.settings2 fit p) f (p .«search_2d») (B.conditional2 eta sums) h);
+  pointed-on = λ fit p eta sums e f h. subst (λ (a : Advanced). TrialFits (a .progress .«search_2d»)) (sym (pick-yes _ _ _ (is-two fit e)))
+      (advance-fits (B.settings2 fit p) f (p .«search_2d») (B.conditional2 eta sums) h);
   points = λ fit p eta e f w h q. point2-fits (B.settings2 fit p) f (p .«search_2d») eta h w (point-two (R2.request (B.settings2 fit p) (p .«search_2d»)) eta (sym (wanted-two fit e p) ∙ q));
   proved = proved2;
   enough = λ n h. omega (arith, h);

@@ -51,7 +51,8 @@ same-setup S setup counts observations = cases (λ (x : _). record {
   «max_evaluations» = setup .«max_evaluations»;
 } ≡ setup) (eqb (setup .effects) 1) (λ t. refl) (λ t. refl)
 
-module _ (S : Store) (setup : Setup) (counts : List ℕ) (observations : List Observation) (I : Inner) (Q : Suits I (setup .effects)) (U : Trusted S (setup .k)) (bound : Fits (setup .«eta_bound»)) (limit : setup .«max_evaluations» < 4294967296)
+module _ (S : Store) (setup : Setup) (counts : List ℕ) (observations : List Observation) (I : Inner) (Q : Suits I (setup .effects)) (U : Trusted S (setup .k)) (bound : Fits (setup .«eta_bound»))
+    (limit : setup .«max_evaluations» < 4294967296)
     (lent : Lent) (results : List ℕ) (a : Accepts setup counts lent) where
   abbrev M : Machine
   M = session S setup counts observations

@@ -111,7 +111,8 @@ module _ (S : Store) (setup : Setup) (counts : List ℕ) (observations : List Ob
 
   -- an idle state with the same kept evaluations, whose search may be another
   pub still : (h : Held S) → Standing h → (p : Progress) (tally : Tally) (work warm results : List ℕ) → p .subject < length counts → p .awaits ≡ false → FitsBoth (p .warm) → Q .Pointed p
-      → h .whole .tally .calls .0 ≤ tally .calls .0 → tally .calls .0 ≤ setup .«max_evaluations» → AsLong (h .whole .work) work → Standing (held S (h .parameters) (wholeOf S p tally (h .whole .kept) work warm results))
+      → h .whole .tally .calls .0 ≤ tally .calls .0 → tally .calls .0 ≤ setup .«max_evaluations» → AsLong (h .whole .work) work → Standing
+      (held S (h .parameters) (wholeOf S p tally (h .whole .kept) work warm results))
   still h s p tally work warm results inside idle fit pointed more most long = record {
     subject = inside;
     roomy = λ i l. subst (λ (n : ℕ). 12 * rowsOf counts i ≤ n) (sym long) (s .roomy i l);

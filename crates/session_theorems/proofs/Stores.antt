@@ -39,7 +39,8 @@ pub record Trusted (S : Store) (k : ℕ) : Type 1 where
   pub Holds : ℕ → S .Kept → Type 0
   pub opens : (n : ℕ) → 24 * k ≤ n → Holds 0 (S .cleared n)
   pub wider : (n : ℕ) (c : S .Kept) → Holds n c → Holds (suc n) c
-  pub recalls : (n : ℕ) (c : S .Kept) → Holds n c → (key : CacheKey) (rows : ℕ) (work : List ℕ) (to : ℕ) (r : Recalled) → S .recall c k key rows work to ≡ some r → Fine key (r .terms) × AsLong work (r .work)
+  pub recalls : (n : ℕ) (c : S .Kept) → Holds n c → (key : CacheKey) (rows : ℕ) (work : List ℕ) (to : ℕ) (r : Recalled) → S .recall c k key rows work to ≡ some r → Fine key (r .terms) × AsLong work
+      (r .work)
   pub keeps : (n : ℕ) (c : S .Kept) → Holds n c → n < 4294967295 → (key : CacheKey) (terms : CachedTerms) (rows : ℕ) (work : List ℕ) (from : ℕ) (seen : List ℕ) (to : ℕ)
       → S .recall c k key rows seen to ≡ none → Fine key terms → 1 ≤ rows → from + rowWords * rows ≤ length work → Holds (suc n) (S .keep c k key terms rows work from)
 

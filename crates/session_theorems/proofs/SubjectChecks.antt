@@ -64,7 +64,8 @@ module _ (width : ℕ) (counts : List ℕ) where
   part n (suc m) (o ∷ os) s = part n m os (s .1)
 
   -- wherever the check of the part begins
-  pub part-sound : (os : List Observation) (p q from : Position) (n m : ℕ) → checkObservations width counts os (Sound p) ≡ Sound q → IsSound (checkObservations width counts (take n (drop m os)) (Sound from))
+  pub part-sound : (os : List Observation) (p q from : Position) (n m : ℕ) → checkObservations width counts os (Sound p) ≡ Sound q → IsSound
+      (checkObservations width counts (take n (drop m os)) (Sound from))
   part-sound os p q from n m e = passes (take n (drop m os)) from (part n m os (sounds os p q e))
 
 -- ---- 1 and 5, for a subject's count in place of all
@@ -79,7 +80,8 @@ cohort-of effects subjects total observations count own e c =
 
 module _ (setup : Setup) (subjects total largest count : ℕ) (lent lent′ : Lent) (h : count ≤ largest) (k : count ≤ total) where
   -- the same words are lent
-  room-of : lent′ .work ≡ lent .work → lent′ .cache ≡ lent .cache → lent′ .warm ≡ lent .warm → lent′ .results ≡ lent .results → isShort setup subjects total largest lent ≡ false → false ≡ isShort setup subjects count count lent′
+  room-of : lent′ .work ≡ lent .work → lent′ .cache ≡ lent .cache → lent′ .warm ≡ lent .warm → lent′ .results ≡ lent .results → isShort setup subjects total largest lent ≡ false → false ≡ isShort
+      setup subjects count count lent′
   unfolding isShort
   room-of ew ec ea er e =
       let w = not-first (ltb (lent .work) (12 * largest)) _ true-not-false e in
@@ -113,7 +115,8 @@ module _ (setup : Setup) (counts : List ℕ) (lent lent′ : Lent) (check : Chec
   by-check total largest (Sound place) q =
       (record { at = place; is = refl }, not-first (isShort setup (length counts) total largest lent) A.Accepted (λ p. let z : _≡_ {A = ℕ} 0 1 = cc in omega arith) q .0)
 
-  by-cohort : (total largest : ℕ) → countObservations counts ≡ Within total largest → isCohort (setup .effects) (length counts) total (lent .observations) ≡ true → admitted setup (length counts) total largest lent check ≡ A.Accepted → Passed
+  by-cohort : (total largest : ℕ) → countObservations counts ≡ Within total largest → isCohort (setup .effects) (length counts) total (lent .observations) ≡ true → admitted setup (length counts) total
+      largest lent check ≡ A.Accepted → Passed
   unfolding admitted
   by-cohort total largest c h e =
       let o = not-first (isNoOmega setup) _ (λ q. let z : _≡_ {A = ℕ} 0 1 = cc in omega arith) e in

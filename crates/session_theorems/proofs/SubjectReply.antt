@@ -68,7 +68,8 @@ module _ (setup : Setup) (counts : List ℕ) (n : ℕ) (tally : Tally) (p : Prog
       sym (no _ (kept .0) (yes _ (inside .0) (no _ (le-ltb _ _ low) (sym (among .1)))))
 
 -- the point that is awaited is the same
-same-point : (setup : Setup) (counts : List ℕ) (n m : ℕ) (s : State) (tally : Tally) → isStanding setup counts n tally (s .progress) ≡ true → isStanding setup counts m tally (s .progress) ≡ true → awaitedPoint setup counts n s tally ≡ awaitedPoint setup counts m s tally
+same-point : (setup : Setup) (counts : List ℕ) (n m : ℕ) (s : State) (tally : Tally) → isStanding setup counts n tally (s .progress) ≡ true → isStanding setup counts m tally (s .progress) ≡ true →
+    awaitedPoint setup counts n s tally ≡ awaitedPoint setup counts m s tally
 unfolding awaitedPoint
 same-point setup counts n m s tally a b =
     let wanted = wantedBy (fitOf setup (s .parameters)) (s .progress) in
@@ -76,8 +77,10 @@ same-point setup counts n m s tally a b =
     ap (λ (w : Wanted). pick (s .progress .awaits) w (Wants.Refused 19)) (at _ a ∙ sym (at _ b))
 
 -- ---- the whole of it
-module _ (setup : Setup) (counts : List ℕ) (observations : List Observation) (tally : Tally) (state answer cache work warm results : List ℕ) (said : List ℕ) (s : State) (stands : isStanding setup counts (length observations) tally (s .progress) ≡ true)
-    (accepted : checks (withParameters setup (s .parameters)) counts (lentBy (length observations) (length cache) (length work) (length warm) (length results)) (allChecked setup counts observations) ≡ A.Accepted) where
+module _ (setup : Setup) (counts : List ℕ) (observations : List Observation) (tally : Tally) (state answer cache work warm results : List ℕ) (said : List ℕ) (s : State)
+    (stands : isStanding setup counts (length observations) tally (s .progress) ≡ true)
+    (accepted : checks (withParameters setup (s .parameters)) counts (lentBy (length observations) (length cache) (length work) (length warm) (length results)) (allChecked setup counts observations) ≡
+    A.Accepted) where
   abbrev own : List Observation
   own = ownOf counts observations s
 
@@ -122,11 +125,14 @@ module _ (setup : Setup) (counts : List ℕ) (observations : List Observation) (
       own-sound (omega (arith, rows-are, inside .1, total-is)) (sym rows-are ∙ sym own-length) refl refl refl refl
 
   -- so the same is awaited
-  same-awaited : subjectAwaited setup counts (lent (length own)) (subjectChecked setup counts own state) s tally ≡ admitAwaited setup counts (lent (length observations)) (allChecked setup counts observations) s tally
+  same-awaited : subjectAwaited setup counts (lent (length own)) (subjectChecked setup counts own state) s tally ≡ admitAwaited setup counts (lent (length observations))
+      (allChecked setup counts observations) s tally
   unfolding subjectAwaited
   same-awaited =
-      let most : length observations ≤ mostRows = let n = count-in set counts (lent (length observations)) (lent (length own)) (allChecked setup counts observations) all subject (inside .0) in omega (arith, n .3, total-is) in
-      (λ i. awaitedFor ((sym own-accepted ∙ sym accepted) i) (same-point setup counts mostRows (length observations) s tally (stands-for-most setup counts (length observations) tally (s .progress) stands most) stands i))
+      let most : length observations ≤ mostRows = let n = count-in set counts (lent (length observations)) (lent (length own)) (allChecked setup counts observations) all subject (inside .0) in omega
+      (arith, n .3, total-is) in
+      (λ i. awaitedFor ((sym own-accepted ∙ sym accepted) i) (same-point setup counts mostRows (length observations) s tally
+      (stands-for-most setup counts (length observations) tally (s .progress) stands most) stands i))
       ∙ whole-awaited setup counts (lent (length observations)) (allChecked setup counts observations) s tally
 
   abbrev trial : Trial
@@ -148,7 +154,8 @@ module _ (setup : Setup) (counts : List ℕ) (observations : List Observation) (
       let n : smaller (s .progress .first + rows) (length observations) - s .progress .first ≡ rows = omega (arith, inside .1) in
       ap (λ (m : ℕ). take m (drop (s .progress .first) observations)) n
 
-  same-end : (w : Awaited) (v : Admission) → finishes own (admittedOver setup trial said w 0 (length own) v) ≡ finishes observations (admittedOver setup trial said w (s .progress .first) (smaller (s .progress .first + rows) (length observations)) v)
+  same-end : (w : Awaited) (v : Admission) → finishes own (admittedOver setup trial said w 0 (length own) v) ≡ finishes observations
+      (admittedOver setup trial said w (s .progress .first) (smaller (s .progress .first + rows) (length observations)) v)
   unfolding admittedOver
   same-end w A.Accepted =
       let after : List Observation → Evaluating = λ os. addObservations trial said os (evaluating (begin said (setup .width) (setup .effects) (setup .«output_budget»)) work) in
@@ -157,9 +164,11 @@ module _ (setup : Setup) (counts : List ℕ) (observations : List Observation) (
   same-end w (A.Unsound at) = refl
 
   -- with all observations lent it is the call of the session
-  long : (w : Awaited) (v : Admission) → length (evaluates observations (admittedOver setup trial said w (s .progress .first) (smaller (s .progress .first + rows) (length observations)) v) .work) ≡ length work
+  long : (w : Awaited) (v : Admission) → length (evaluates observations (admittedOver setup trial said w (s .progress .first) (smaller (s .progress .first + rows) (length observations)) v) .work) ≡
+      length work
   unfolding admittedOver
-  long w A.Accepted = work-length trial said (setup .width) (setup .effects) (setup .«output_budget») (take (smaller (s .progress .first + rows) (length observations) - s .progress .first) (drop (s .progress .first) observations)) work
+  long w A.Accepted = work-length trial said (setup .width) (setup .effects) (setup .«output_budget») (take (smaller (s .progress .first + rows) (length observations) - s .progress .first)
+      (drop (s .progress .first) observations)) work
   long w (A.Refused number) = refl
   long w (A.Unsound at) = refl
 
@@ -180,11 +189,13 @@ module _ (setup : Setup) (counts : List ℕ) (observations : List Observation) (
         let at = ap (λ (v : Awaited). finishes own (admittedOver setup trial said v 0 (length own) (v .admission))) same-awaited in
         let e = evaluates observations whole in
         loaded ∙ at ∙ same-end w (w .admission) ∙ ap (finishes observations) whole-is
-        ∙ reply-over setup counts observations tally state answer cache work warm results said (e .evaluation) (e .work) (subst (λ (a : Admitted). length (evaluates observations a .work) ≡ length work) whole-is (long w (w .admission))) (allChecked setup counts observations) refl refl
+        ∙ reply-over setup counts observations tally state answer cache work warm results said (e .evaluation) (e .work)
+        (subst (λ (a : Admitted). length (evaluates observations a .work) ≡ length work) whole-is (long w (w .admission))) (allChecked setup counts observations) refl refl
         (ap (admitWith setup counts (lent (length observations)) (allChecked setup counts observations) tally said) (sym loads)) refl refl
 
 pub every-subject-reply : EverySubjectReply
-every-subject-reply setup counts observations tally state answer cache work warm results said s loads stands accepted = subject-reply setup counts observations tally state answer cache work warm results said s stands accepted loads
+every-subject-reply setup counts observations tally state answer cache work warm results said s loads stands accepted = subject-reply setup counts observations tally state answer cache work warm
+    results said s stands accepted loads
 
 -- wherever a session stands, the positions are right and 1 to 5 pass
 pub in-every-session : InEverySession

@@ -45,7 +45,8 @@ use Rattle.machine.specs.Observed.{View, wantedAt}
 use Rattle.machine.specs.Observed as Observed
 use Rattle.machine.specs.Rules.{point, mode}
 use Rattle.population.specs.Kept.{Recalled, Store}
-use Rattle.population.specs.Population.{rowsOf, warmOf, take, answered, atPoint, Worked, nextSubject, raised, Ended, ended, closing, atMode, servedBy, served, isOver, turned, Whole, wholeOf, moved, turn}
+use Rattle.population.specs.Population.{rowsOf, warmOf, take, answered, atPoint, Worked, nextSubject, raised, Ended, ended, closing, atMode, servedBy, served, isOver, turned, Whole, wholeOf, moved}
+use Rattle.population.specs.Population.{turn}
 use Rattle.population.specs.declared.Turned.{Turned}
 use Rattle.population.specs.declared.Turned.the-variants.{On, Halt}
 use Rattle.session.specs.Session.{Held, held, heldBy, turnHeld, session}
@@ -59,13 +60,22 @@ use Rattle.session_theorems.proofs.Stores.{Fine, Trusted}
 
 -- ---- the bits of a point tell it
 pub key-fine : (fit : Fit) (subject : ℕ) (eta : Pair) (effects : ℕ) → fit .effects ≡ effects → FitsBoth eta
-    → (WithinEdge (word (B.keyOf fit subject eta .eta0)) → WithinEdge (word (B.keyOf fit subject eta .eta1)) → Passed eta effects) × (Passed eta effects → WithinEdge (word (B.keyOf fit subject eta .eta0)) × WithinEdge (word (B.keyOf fit subject eta .eta1)))
+    → (WithinEdge (word (B.keyOf fit subject eta .eta0)) → WithinEdge (word (B.keyOf fit subject eta .eta1)) → Passed eta effects) ×
+    (Passed eta effects → WithinEdge (word (B.keyOf fit subject eta .eta0)) × WithinEdge (word (B.keyOf fit subject eta .eta1)))
 unfolding B.keyOf B.key1 B.key2
 key-fine fit subject eta effects e f =
     let one : word (toBits binary64 (eta .first)) ≡ eta .first = ofBits-toBits binary64 (eta .first) (f .first) in
     let two : word (toBits binary64 (eta .second)) ≡ eta .second = ofBits-toBits binary64 (eta .second) (f .second) in
-    cases (λ (k : CacheKey). (WithinEdge (word (k .eta0)) → WithinEdge (word (k .eta1)) → Passed eta effects) × (Passed eta effects → WithinEdge (word (k .eta0)) × WithinEdge (word (k .eta1)))) (eqb (fit .effects) 2)
-    (λ q. (λ a b. record { first = subst WithinEdge one a; second = λ k. subst WithinEdge two b }, λ p. (subst WithinEdge (sym one) (p .first), subst WithinEdge (sym two) (p .second (sym e ∙ is-two (fit .effects) q)))))
+    cases (λ (k : CacheKey). (WithinEdge (word (k .eta0)) → WithinEdge (word (k .eta1)) → Passed eta effects) × (Passed eta effects → WithinEdge (word (k .eta0)) × WithinEdge (word (k .eta1))))
+    (eqb (fit .effects) 2)
+    (λ q. (
+      λ a b. record { first = subst WithinEdge one a; second = λ k. subst WithinEdge two b },
+      λ p. (
+        subst WithinEdge (sym one) (p .first),
+        subst WithinEdge (sym two)
+            (p .second (sym e ∙ is-two (fit .effects) q)),
+      ),
+    ))
     (λ q. (λ a b. record { first = subst WithinEdge one a; second = λ k. absurd (subst T (sym (eq-eqb _ _ (e ∙ k)) ∙ q) tt) }, λ p. (subst WithinEdge (sym one) (p .first), zero-in-16)))
   where
     is-two : (n : ℕ) → eqb n 2 ≡ true → n ≡ 2
@@ -95,7 +105,8 @@ seven theta eta effects n =
     is-given : (v : Pair) → Only (given v)
     is-given v e = let z : _≡_ {A = ℕ} 0 1 = cc in absurd (omega (arith, z))
 
-module _ (S : Store) (setup : Setup) (counts : List ℕ) (observations : List Observation) (I : Inner) (Q : Suits I (setup .effects)) (U : Trusted S (setup .k)) (bound : Fits (setup .«eta_bound»)) (most-subjects : length counts ≤ 4096) where
+module _ (S : Store) (setup : Setup) (counts : List ℕ) (observations : List Observation) (I : Inner) (Q : Suits I (setup .effects)) (U : Trusted S (setup .k)) (bound : Fits (setup .«eta_bound»))
+    (most-subjects : length counts ≤ 4096) where
   abbrev M : Machine
   M = session S setup counts observations
 
@@ -148,15 +159,18 @@ module _ (S : Store) (setup : Setup) (counts : List ℕ) (observations : List Ob
 
     -- ---- a refusal or the end of the objective
     over : (q : Progress) (tally : Tally) (work warm results : List ℕ) → q .subject ≡ p .subject → q .awaits ≡ false → q .warm ≡ p .warm → Q .Pointed q → w .tally .calls .0 ≤ tally .calls .0
-        → tally .calls .0 ≤ setup .«max_evaluations» → AsLong (w .work) work → Over (I .rules) (I .claims) M Y Stands (tally .calls .0) (held S (h .parameters) (wholeOf S q tally (w .kept) (zeros (length work)) warm results))
+        → tally .calls .0 ≤ setup .«max_evaluations» → AsLong (w .work) work → Over (I .rules) (I .claims) M Y Stands (tally .calls .0)
+        (held S (h .parameters) (wholeOf S q tally (w .kept) (zeros (length work)) warm results))
     over q tally work warm results same idle warmth pointed more most long = record {
-      sound = still S setup counts observations I Q U h s q tally (zeros (length work)) warm results (subst (λ (i : ℕ). i < length counts) (sym same) (s .subject)) idle (subst FitsBoth (sym warmth) (s .warm-fits)) pointed more most (zeros-length (length work) ∙ long);
+      sound = still S setup counts observations I Q U h s q tally (zeros (length work)) warm results (subst (λ (i : ℕ). i < length counts) (sym same) (s .subject)) idle
+          (subst FitsBoth (sym warmth) (s .warm-fits)) pointed more most (zeros-length (length work) ∙ long);
       idle = idle;
       tally = refl;
     }
 
     refused-over : (tally : Tally) (number : ℕ) (place : Place) (work warm results : List ℕ) → w .tally .calls .0 ≤ tally .calls .0 → tally .calls .0 ≤ setup .«max_evaluations» → AsLong (w .work) work
-        → let x = B.refusedBy p tally number place in Over (I .rules) (I .claims) M Y Stands (tally .calls .0) (held S (h .parameters) (wholeOf S (x .progress) (x .tally) (w .kept) (pick (B.isOver (x .step)) (zeros (length work)) work) warm results))
+        → let x = B.refusedBy p tally number place in Over (I .rules) (I .claims) M Y Stands (tally .calls .0) (held S (h .parameters)
+        (wholeOf S (x .progress) (x .tally) (w .kept) (pick (B.isOver (x .step)) (zeros (length work)) work) warm results))
     unfolding B.refusedBy B.idle B.withSearch B.isOver pick
     refused-over tally number place work warm results more most long = over (B.idle p) tally work warm results refl refl refl idle-pointed more most long
       where
@@ -170,7 +184,8 @@ module _ (S : Store) (setup : Setup) (counts : List ℕ) (observations : List Ob
     -- a refusal, by the law that it comes under; n evaluations are in the tally then
     refuses-with : (tally : Tally) (number : ℕ) (place : Place) (work warm results : List ℕ) (n : ℕ) → tally .calls .0 ≡ n
         → ((a : Step) (t : Held S) → Y .means a ≡ Observed.refused number → Over (I .rules) (I .claims) M Y Stands n t → Goes h (halt a t))
-        → w .tally .calls .0 ≤ tally .calls .0 → tally .calls .0 ≤ setup .«max_evaluations» → AsLong (w .work) work → Goes h (closeTurn (ended (Halt (B.refusedBy p tally number place)) work warm results))
+        → w .tally .calls .0 ≤ tally .calls .0 → tally .calls .0 ≤ setup .«max_evaluations» → AsLong (w .work) work → Goes h
+        (closeTurn (ended (Halt (B.refusedBy p tally number place)) work warm results))
     refuses-with tally number place work warm results n e law more most long =
         let x = B.refusedBy p tally number place in
         let t = held S (h .parameters) (wholeOf S (x .progress) (x .tally) (w .kept) (pick (B.isOver (x .step)) (zeros (length work)) work) warm results) in
@@ -196,7 +211,8 @@ module _ (S : Store) (setup : Setup) (counts : List ℕ) (observations : List Ob
             ∙ ap (λ (o : Option Recalled). I .conditionalOf fit eta (recalledSums o)) q
 
         found : Fine (B.keyOf fit (p .subject) eta) (r .terms) × AsLong (w .work) (r .work)
-        found = U .recalls (s .count) (w .kept) (s .trust) (B.keyOf fit (p .subject) eta) rows (w .work) (block rows 3) r (subst (λ (k : ℕ). S .recall (w .kept) k (B.keyOf fit (p .subject) eta) rows (w .work) (block rows 3) ≡ some r) (fit-k setup (h .parameters)) q)
+        found = U .recalls (s .count) (w .kept) (s .trust) (B.keyOf fit (p .subject) eta) rows (w .work) (block rows 3) r
+            (subst (λ (k : ℕ). S .recall (w .kept) k (B.keyOf fit (p .subject) eta) rows (w .work) (block rows 3) ≡ some r) (fit-k setup (h .parameters)) q)
 
         passed : Passed eta (setup .effects)
         passed = key-fine fit (p .subject) eta (setup .effects) effects-are eta-fits .0 (found .0 .first) (found .0 .second)
@@ -254,13 +270,15 @@ module _ (S : Store) (setup : Setup) (counts : List ℕ) (observations : List Ob
         unfolding B.askFor B.counted B.isOver pick
         by-values l (given v) d = subst (Goes h) (sym (halts (B.askFor p (B.counted (w .tally)) eta (given v)) (w .work) (w .warm) (w .results))) (asks v l d)
         by-values l (refused n) d =
-            refuses-with (B.counted (w .tally)) n (At.Subject (p .subject)) (w .work) (w .warm) (w .results) (suc (w .tally .calls .0)) (omega arith) (λ a t m o. wild point-is m (seven (fit .theta) eta (fit .effects) n d) o) (omega arith) (omega (arith, l)) refl
+            refuses-with (B.counted (w .tally)) n (At.Subject (p .subject)) (w .work) (w .warm) (w .results) (suc (w .tally .calls .0)) (omega arith)
+            (λ a t m o. wild point-is m (seven (fit .theta) eta (fit .effects) n d) o) (omega arith) (omega (arith, l)) refl
 
         by-limit : Goes h (closeTurn (ended (Halt (B.ask fit p (w .tally) eta)) (w .work) (w .warm) (w .results)))
         unfolding B.ask
         by-limit = cases (λ (x : Halted). Goes h (closeTurn (ended (Halt x) (w .work) (w .warm) (w .results)))) (ltb (w .tally .calls .0) (fit .«max_evaluations»))
             (λ l. by-values (subst (λ (m : ℕ). w .tally .calls .0 < m) (fit-most setup (h .parameters)) (ltb-true _ _ l)) (individualValues (fit .theta) eta (fit .effects)) refl)
-            (λ l. refuses-with (w .tally) 6 (At.Subject (p .subject)) (w .work) (w .warm) (w .results) (w .tally .calls .0) refl (λ a t m o. short point-is m (omega arith, omega arith) o) (omega arith) (s .limit) refl)
+            (λ l. refuses-with (w .tally) 6 (At.Subject (p .subject)) (w .work) (w .warm) (w .results) (w .tally .calls .0) refl (λ a t m o. short point-is m (omega arith, omega arith) o)
+            (omega arith) (s .limit) refl)
 
       by-recall : (o : Option Recalled) → recallOf S setup counts observations I Q U h eta ≡ o
           → Goes h (closeTurn (ended (answered fit rows p (w .tally) eta (w .work) o .value) (answered fit rows p (w .tally) eta (w .work) o .work) (w .warm) (w .results)))
@@ -285,14 +303,16 @@ module _ (S : Store) (setup : Setup) (counts : List ℕ) (observations : List Ob
         raised-is = mod-eq-of-lt (omega (arith, s .subject, most-subjects)) ∙ omega arith
 
         begins : (first : ℕ) (ofv squares : Float) → ltb subject (length counts) ≡ true
-            → Goes h (on (held S (h .parameters) (wholeOf S (B.beginSubject subject first (warmOf warm (fit .effects) subject) ofv squares) (w .tally) (w .kept) (zeros (length (w .work))) warm results)))
+            → Goes h (on (held S (h .parameters) (wholeOf S (B.beginSubject subject first (warmOf warm (fit .effects) subject) ofv squares) (w .tally) (w .kept) (zeros (length (w .work))) warm
+            results)))
         unfolding B.beginSubject
         begins first ofv squares l =
             let f = warm-of-fits warm (fit .effects) subject in
             let q = B.beginSubject subject first (warmOf warm (fit .effects) subject) ofv squares in
             let inside : subject < length counts = ltb-true _ _ l in
             next mode-is (record {
-              sound = still S setup counts observations I Q U h s q (w .tally) (zeros (length (w .work))) warm results inside refl f (Q .pointed-start subject first _ ofv squares) (omega arith) (s .limit) (zeros-length _);
+              sound = still S setup counts observations I Q U h s q (w .tally) (zeros (length (w .work))) warm results inside refl f (Q .pointed-start subject first _ ofv squares) (omega arith)
+                  (s .limit) (zeros-length _);
               domain = Q .domain setup (h .parameters) q refl bound (s .omega-in) (s .shape-in) f;
               subject = raised-is;
               within = subst (λ (i : ℕ). i < length counts) raised-is inside;
@@ -321,7 +341,8 @@ module _ (S : Store) (setup : Setup) (counts : List ℕ) (observations : List Ob
 
       by-closed : (c : Closed) → Goes h (closeTurn (closing fit counts p (w .tally) rows (w .work) (w .warm) (w .results) c))
       unfolding closing
-      by-closed NotPositive = refuses-with (w .tally) 16 (At.Subject (p .subject)) (w .work) (w .warm) (w .results) (w .tally .calls .0) refl (λ a t n o. barred mode-is n o) (omega arith) (s .limit) refl
+      by-closed NotPositive = refuses-with (w .tally) 16 (At.Subject (p .subject)) (w .work) (w .warm) (w .results) (w .tally .calls .0) refl (λ a t n o. barred mode-is n o) (omega arith) (s .limit)
+          refl
       by-closed (Positive m) = cases (λ (x : Ended). Goes h (closeTurn x)) (isSameGrid (w .work) rows) (λ g. next-or-end m _ _)
           (λ g. refuses-with (w .tally) 17 (At.Subject (p .subject)) (w .work) _ (w .results) (w .tally .calls .0) refl (λ a t n o. barred mode-is n o) (omega arith) (s .limit) refl)
 
@@ -331,7 +352,8 @@ module _ (S : Store) (setup : Setup) (counts : List ℕ) (observations : List Ob
 
     at-refusal : (n : ℕ) → B.wantedBy fit p ≡ Wants.Refused n → Goes h (closeTurn (servedBy S fit counts p (w .tally) (w .kept) (w .work) (w .warm) (w .results) (Wants.Refused n)))
     unfolding servedBy
-    at-refusal n e = refuses-with (w .tally) n (At.Subject (p .subject)) (w .work) (w .warm) (w .results) (w .tally .calls .0) refl (λ a t m o. fails (wants-is (Wants.Refused n) e) m o) (omega arith) (s .limit) refl
+    at-refusal n e = refuses-with (w .tally) n (At.Subject (p .subject)) (w .work) (w .warm) (w .results) (w .tally .calls .0) refl (λ a t m o. fails (wants-is (Wants.Refused n) e) m o) (omega arith)
+        (s .limit) refl
 
     -- ---- every request
     by-wanted : (v : Wanted) → B.wantedBy fit p ≡ v → Goes h (closeTurn (servedBy S fit counts p (w .tally) (w .kept) (w .work) (w .warm) (w .results) v))

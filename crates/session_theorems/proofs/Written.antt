@@ -56,7 +56,8 @@ use Rattle.machine.specs.Machine.{Moved, on, Machine, Act}
 use Rattle.machine.specs.Observed.{View, wantedAt}
 use Rattle.machine.specs.Rules.{Trial, point, mode}
 use Rattle.population.specs.Kept.{Recalled, words}
-use Rattle.population.specs.Population.{rowsOf, warmOf, warmStored, take as takes, answered, Worked, nextSubject, raised, Ended, ended, closing, atMode, atPoint, servedBy, served, isOver, turned, Whole, wholeOf, moved, turn, receive}
+use Rattle.population.specs.Population.{rowsOf, warmOf, warmStored, take as takes, answered, Worked, nextSubject, raised, Ended, ended, closing, atMode, atPoint, servedBy, served, isOver, turned}
+use Rattle.population.specs.Population.{Whole, wholeOf, moved, turn, receive}
 use Rattle.population.specs.declared.Turned.{Turned}
 use Rattle.population.specs.declared.Turned.the-variants.{On, Halt}
 use Rattle.session.specs.Session as N
@@ -694,7 +695,11 @@ module _ (setup : Setup) (counts : List ℕ) (observations : List Observation) (
 for-words : (setup : Setup) (counts : List ℕ) (observations : List Observation) (I : Inner) (L : Reads I) → Suits I (setup .effects) → Tells I L (setup .effects) → Shows setup counts observations I L
 for-words setup counts observations I L Q X lent results b o acts =
     let a = accepts setup counts lent (N.allChecked setup counts observations) (b .passes) in
-    holds setup counts observations I Q L X (b .bound) (b .limit) lent results (b .many) (b .long) a (record { some = some-room setup (a .shape-in); most = shape-low {b = false} setup (sym (a .shape-in)) refl }) o acts
+    holds setup counts observations I Q L X (b .bound) (b .limit) lent results (b .many) (b .long) a (record {
+      some = some-room setup (a .shape-in);
+      most = shape-low {b = false} setup
+          (sym (a .shape-in)) refl;
+    }) o acts
 
 pub every-word : EveryWord
 every-word setup counts observations = (

@@ -19,7 +19,8 @@ use Rattle.search.specs.declared.Place.the-variants.{Subject}
 use Rattle.search.specs.declared.Step.the-variants.{Refused}
 use Rattle.machine.specs.Machine.{on, call, Act, run}
 use Rattle.population.specs.Kept.{words}
-use Rattle.session.specs.Session.{Held, Call, objective, reply, failure, isStanding, whenAdmitted, begun, over, admitted, allChecked, enterObjective, enterReply, enterFailure, answered, session, opened}
+use Rattle.session.specs.Session.{Held, Call, objective, reply, failure, isStanding, whenAdmitted, begun, over, admitted, allChecked}
+use Rattle.session.specs.Session.{enterObjective, enterReply, enterFailure, answered, session, opened}
 use Rattle.session_theorems.specs.Inner.{pointWanted}
 use Rattle.session_theorems.specs.Setup.{Granted}
 

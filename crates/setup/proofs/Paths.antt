@@ -29,7 +29,8 @@ use Rattle.setup.specs.declared.Counts.{Counts}
 use Rattle.setup.specs.declared.Counts.the-variants.{Within, Outside}
 use Rattle.setup.specs.declared.Admission.{Admission}
 use Rattle.setup.specs.declared.Admission.the-variants.{Accepted, Refused, Unsound}
-use Rattle.setup.specs.Admission.{isBeyond, larger, countFrom, countObservations, isCohort, isNoVariance, omegaOf, isNone, isNoOmega, isNoOverride, isNoTolerance, isNoShape, isShort, roomy, admitted, checksOf, checks, withParameters}
+use Rattle.setup.specs.Admission.{isBeyond, larger, countFrom, countObservations, isCohort, isNoVariance, omegaOf, isNone, isNoOmega, isNoOverride, isNoTolerance, isNoShape, isShort, roomy}
+use Rattle.setup.specs.Admission.{admitted, checksOf, checks, withParameters}
 
 -- ---- a range
 module _ (x low high : Float) where
@@ -64,7 +65,8 @@ module _ (counts : List ℕ) (total largest i : ℕ) where
     counts-too-many d l = no _ (ne-eqb _ _ d) (yes _ (lt-ltb _ _ l) refl) ∙ here
 
     -- m is the largest so far
-    pub counts-on : {m : ℕ} → (getD counts i 0 ≡ 0 → ⊥) → getD counts i 0 ≤ mostRows - total → m ≡ larger largest (getD counts i 0) → countFrom (total + getD counts i 0) m (drop (i + 1) counts) ≡ countFrom total largest (drop i counts)
+    pub counts-on : {m : ℕ} → (getD counts i 0 ≡ 0 → ⊥) → getD counts i 0 ≤ mostRows - total → m ≡ larger largest (getD counts i 0) → countFrom (total + getD counts i 0) m (drop (i + 1) counts) ≡
+        countFrom total largest (drop i counts)
     unfolding countFrom
     counts-on d l e =
         no _ (ne-eqb _ _ d) (no _ (le-ltb _ _ l) (λ j. countFrom (total + getD counts i 0) (e j) (drop (add-one i j) counts))) ∙ here

@@ -30,7 +30,8 @@ use Rattle.subject.specs.declared.AdditiveSd.{AdditiveSd}
 use Rattle.subject.specs.declared.AdditiveSd.the-variants.{Own, Override}
 use Rattle.search.specs.Subjects.{hasAdditive, additiveWord}
 use Rattle.session.specs.declared.State.{State}
-use Rattle.state_words.specs.SessionWords.{bits, flag, stateWords, putFrom, savedState, objectiveWords, progressWords, orderWords, at, pairAt, additiveAt, parametersAt, progressAt, orderAt, stateAt, withBoth, withSearch, withSearches, loadedState}
+use Rattle.state_words.specs.SessionWords.{bits, flag, stateWords, putFrom, savedState, objectiveWords, progressWords, orderWords, at, pairAt, additiveAt, parametersAt, progressAt, orderAt}
+use Rattle.state_words.specs.SessionWords.{stateAt, withBoth, withSearch, withSearches, loadedState}
 
 -- ---- where the words go
 shift : (i : ℕ) (l : List ℕ) (x : ℕ) (w : List ℕ) → putFrom (suc i) l (x ∷ w) ≡ x ∷ putFrom i l w

@@ -77,7 +77,8 @@ module _ (from : ℕ) (values words : List ℕ) (i : ℕ) where
   unfolding putFrom
   put-end h = ap (λ (l : List ℕ). putFrom (from + i) l words) (sym (drop-of-length-le values h))
 
-  pub put-step : {words' : List ℕ} → i < length values → words' ≡ set words (from + i) (getD values i 0) → putFrom (from + (i + 1)) (drop (i + 1) values) words' ≡ putFrom (from + i) (drop i values) words
+  pub put-step : {words' : List ℕ} → i < length values → words' ≡ set words (from + i) (getD values i 0) → putFrom (from + (i + 1)) (drop (i + 1) values) words' ≡ putFrom (from + i) (drop i values)
+      words
   unfolding putFrom
   put-step h r =
       let p : from + (i + 1) ≡ from + i + 1 = omega arith in

@@ -9,7 +9,9 @@ ghost use mathlib.Core.Path.{_≡_};
 ghost use Prim.Native.Nat.{_+_, _-_, _≤_, _<_};
 ghost use lib.ListN.{length};
 ghost use Rattle.cache.specs.Kept.{wordsFrom};
-ghost use Rattle.state_words.specs.SessionWords.{isZero, pairAt, additiveAt, orderAt, parametersAt, progressAt, stateAt, withSearch, loadedState, answer, flag, objectiveWords, progressWords, orderWords, putFrom, savedState};
+ghost use Rattle.state_words.specs.SessionWords.{isZero, pairAt, additiveAt, orderAt, parametersAt, progressAt, stateAt, withSearch};
+ghost use Rattle.state_words.specs.SessionWords.{loadedState, answer, flag, objectiveWords, progressWords, orderWords, putFrom};
+ghost use Rattle.state_words.specs.SessionWords.{savedState};
 ghost use Rattle.state_words.specs.SearchWords as one;
 ghost use Rattle.state_words.specs.SearchWords2 as two;
 

@@ -18,7 +18,8 @@ use Rattle.likelihood.specs.RowTerms.{rowTerms, finiteTerms}
 use Rattle.likelihood.specs.declared.population_focei.Observation.{Observation}
 use Rattle.subject.specs.Claim.{replyRows, EveryEvaluation}
 use Rattle.subject.specs.Reply.{rowLength, rowAt, column, side, predictionRow, written}
-use Rattle.subject.specs.Subject.{next, begin, atObservation, withTerms, addRow, withRow, addRow2, addRowAt, Evaluating, evaluating, addAt, addTo, addAfter, addObservation, addObservations, hasNonfiniteSum, finish}
+use Rattle.subject.specs.Subject.{next, begin, atObservation, withTerms, addRow, withRow, addRow2, addRowAt, Evaluating, evaluating, addAt, addTo, addAfter, addObservation, addObservations}
+use Rattle.subject.specs.Subject.{hasNonfiniteSum, finish}
 use Rattle.subject.specs.declared.Trial.{Trial}
 use Rattle.subject.specs.declared.Sums.{Sums}
 use Rattle.subject.specs.declared.Evaluation.{Evaluation}
@@ -221,8 +222,10 @@ module _ (trial : Trial) (reply : List ℕ) (n : ℕ) (few : n < 2 ^ 64) where
   HasRows k os = (e : Evaluation) (work : List ℕ) → Good k e → k + length os ≡ n → trial .block + rowWords * n ≤ length work → Ends os (evaluating e work)
       → Rows k os (addObservations trial reply os (evaluating e work) .work)
 
-  with-one : (k : ℕ) (o : Observation) (os : List Observation) → HasRows (k + 1) os → (sums : Sums) (work : List ℕ) → sums .observation ≡ k → k + length (o ∷ os) ≡ n → trial .block + rowWords * n ≤ length work
-      → (r : RowAt) → ((p : ℕ) → r ≡ Word p → p ≡ o .row * rowLength (trial .width) (trial .effects)) → Ends os (addAt sums o trial reply work r) → Rows k (o ∷ os) (addObservations trial reply os (addAt sums o trial reply work r) .work)
+  with-one : (k : ℕ) (o : Observation) (os : List Observation) → HasRows (k + 1) os → (sums : Sums) (work : List ℕ) → sums .observation ≡ k → k + length (o ∷ os) ≡ n → trial .block + rowWords * n ≤
+      length work
+      → (r : RowAt) → ((p : ℕ) → r ≡ Word p → p ≡ o .row * rowLength (trial .width) (trial .effects)) → Ends os (addAt sums o trial reply work r) → Rows k (o ∷ os)
+      (addObservations trial reply os (addAt sums o trial reply work r) .work)
   unfolding addAt
   with-one k o os rest sums work at e room Missing is r = absurd (not-refused-at os 10 (sums .observation) work r)
   with-one k o os rest sums work at e room (Word p) is r =
@@ -233,16 +236,19 @@ module _ (trial : Trial) (reply : List ℕ) (n : ℕ) (few : n < 2 ^ 64) where
       let a = all (k + 1) os (evaluating (addRowAt sums o trial reply p) v) good (omega (arith, e)) in
       let end = addObservations trial reply os (evaluating (addRowAt sums o trial reply p) v) .work in
       let fits : trial .block + rowWords * k + 3 ≤ length work = omega (arith, e, room) in
-      let stays : (j : ℕ) → j < trial .block + rowWords * (k + 1) → getD end j 0 ≡ getD (written (trial .block) k row work) j 0 = λ j l. a .same j (inl l) ∙ ap (λ (w : List ℕ). getD w j 0) same-place in
+      let stays : (j : ℕ) → j < trial .block + rowWords * (k + 1) → getD end j 0 ≡ getD (written (trial .block) k row work) j 0 = λ j l. a .same j (inl l) ∙ ap (λ (w : List ℕ). getD w j 0) same-place
+      in
       with-row k o os p end (is p refl) (stays (trial .block + rowWords * k) (omega arith) ∙ has-prediction (trial .block) k row work fits)
-      (stays (trial .block + rowWords * k + 1) (omega arith) ∙ has-time (trial .block) k row work fits) (stays (trial .block + rowWords * k + 2) (omega arith) ∙ has-side (trial .block) k row work fits)
+      (stays (trial .block + rowWords * k + 1) (omega arith) ∙ has-time (trial .block) k row work fits) (stays (trial .block + rowWords * k + 2) (omega arith) ∙ has-side (trial .block) k row work
+      fits)
       (rest (addRowAt sums o trial reply p) v good (omega (arith, e)) (subst (λ (m : ℕ). trial .block + rowWords * n ≤ m) (sym (written-length (trial .block) (sums .observation) row work)) room) r)
 
   has-rows : (k : ℕ) (os : List Observation) → HasRows k os
   unfolding Good addObservation addAfter addTo
   has-rows k [] e work g s room r = λ j l. absurd (omega (arith, l))
   has-rows k (o ∷ os) (Running sums) work g s room r =
-      with-one k o os (has-rows (k + 1) os) sums work g s room (rowAt reply (trial .width) (trial .effects) (o .output) (o .row)) (λ p q. row-is (trial .width) (trial .effects) (o .output) (o .row) p q) r
+      with-one k o os (has-rows (k + 1) os) sums work g s room (rowAt reply (trial .width) (trial .effects) (o .output) (o .row))
+      (λ p q. row-is (trial .width) (trial .effects) (o .output) (o .row) p q) r
   has-rows k (o ∷ os) (Refused m) work g s room r = absurd (not-refused (o ∷ os) m work r)
   has-rows k (o ∷ os) (RefusedAt m i) work g s room r = absurd (not-refused-at (o ∷ os) m i work r)
 
@@ -261,13 +267,15 @@ still-running (RefusedAt n i) s q = let z : _≡_ {A = ℕ} 0 1 = cc in absurd (
 
 plain-numbers : (k : ℕ) (e : Evaluation) (n : ℕ) → Good k e → finish e ≡ Refused n → (n ≡ 8) ⊎ ((n ≡ 9) ⊎ (n ≡ 12))
 unfolding finish Good
-plain-numbers k (Running t) n g q = cases (λ (z : Evaluation). z ≡ Refused n → (n ≡ 8) ⊎ ((n ≡ 9) ⊎ (n ≡ 12))) (hasNonfiniteSum t) (λ h w. inr (inr cc)) (λ h w. let z : _≡_ {A = ℕ} 0 1 = cc in absurd (omega arith)) q
+plain-numbers k (Running t) n g q = cases (λ (z : Evaluation). z ≡ Refused n → (n ≡ 8) ⊎ ((n ≡ 9) ⊎ (n ≡ 12))) (hasNonfiniteSum t) (λ h w. inr (inr cc))
+    (λ h w. let z : _≡_ {A = ℕ} 0 1 = cc in absurd (omega arith)) q
 plain-numbers k (Refused m) n g q = ⊎-elim (λ (h : m ≡ 8). inl cc) (λ (h : m ≡ 9). inr (inl cc)) g
 plain-numbers k (RefusedAt m i) n g q = let z : _≡_ {A = ℕ} 0 1 = cc in absurd (omega arith)
 
 row-numbers : (k : ℕ) (e : Evaluation) (n i : ℕ) → Good k e → finish e ≡ RefusedAt n i → Row n × (i < k)
 unfolding finish Good
-row-numbers k (Running t) n i g q = cases (λ (z : Evaluation). z ≡ RefusedAt n i → Row n × (i < k)) (hasNonfiniteSum t) (λ h w. let z : _≡_ {A = ℕ} 0 1 = cc in absurd (omega arith)) (λ h w. let z : _≡_ {A = ℕ} 0 1 = cc in absurd (omega arith)) q
+row-numbers k (Running t) n i g q = cases (λ (z : Evaluation). z ≡ RefusedAt n i → Row n × (i < k)) (hasNonfiniteSum t) (λ h w. let z : _≡_ {A = ℕ} 0 1 = cc in absurd (omega arith))
+    (λ h w. let z : _≡_ {A = ℕ} 0 1 = cc in absurd (omega arith)) q
 row-numbers k (Refused m) n i g q = let z : _≡_ {A = ℕ} 0 1 = cc in absurd (omega arith)
 row-numbers k (RefusedAt m j) n i g q = let a : m ≡ n = cc in let b : j ≡ i = cc in (subst Row a (g .0), subst (λ (t : ℕ). t < k) b (g .1))
 
@@ -280,7 +288,8 @@ evaluates trial budget reply observations work few =
       sums = λ s q. finite-sums _ s q;
       numbers = λ n q. plain-numbers _ _ n (a .good) q;
       places = λ n i q. row-numbers _ _ n i (a .good) q;
-      rows = λ s q room j l. ap (λ (m : ℕ). getD (addObservations trial reply observations (evaluating begun work) .work) (m + j) 0) (let i : trial .block ≡ trial .block + rowWords * 0 = omega arith in i)
+      rows = λ s q room j l. ap (λ (m : ℕ). getD (addObservations trial reply observations (evaluating begun work) .work) (m + j) 0)
+          (let i : trial .block ≡ trial .block + rowWords * 0 = omega arith in i)
           ∙ has-rows trial reply (length observations) few 0 observations begun work good (omega arith) room (still-running _ s q) j l;
       around = λ j out. a .same j (⊎-elim (λ (m : j < trial .block). inl (omega arith)) (λ (m : trial .block + rowWords * length observations ≤ j). inr m) out);
     }

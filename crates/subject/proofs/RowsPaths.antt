@@ -58,7 +58,10 @@ module _ (reply : List ℕ) (width effects output row : ℕ) where
   row-says {at = at} e t =
       let Says : RowAt → Type 0 = λ z. z ≡ Word at → (at ≤ length reply) × (output < width) in
       cases Says (ltb output width)
-      (λ h. cases Says (ltb row (rows reply width effects)) (λ l q. (let z : row * rowLength width effects ≡ at = cc in subst (λ (n : ℕ). n ≤ length reply) z (row-within _ _ _ (ltb-true _ _ l)), ltb-true _ _ h)) (λ l q. never q))
+      (λ h. cases Says (ltb row (rows reply width effects)) (λ l q. (
+        let z : row * rowLength width effects ≡ at = cc in subst (λ (n : ℕ). n ≤ length reply) z (row-within _ _ _ (ltb-true _ _ l)),
+        ltb-true _ _ h,
+      )) (λ l q. never q))
       (λ h q. never q) (sym e ∙ t)
 
 -- what is kept of a row; s is the side's word
@@ -85,38 +88,44 @@ module _ (block observation : ℕ) (row : PredictionRow) (work : List ℕ) where
       ∙ ap (λ (w : List ℕ). set w (at + 2) (row .side)) (set-out work (at + 1) (row .time) (omega arith))
       ∙ set-out work (at + 2) (row .side) (omega arith))
 
-  pub row-written : {w1 w2 w3 : List ℕ} → let at = block + rowWords * observation in w1 ≡ set work at (row .prediction) → w2 ≡ set w1 (at + 1) (row .time) → w3 ≡ set w2 (at + 2) (row .side) → w3 ≡ written block observation row work
+  pub row-written : {w1 w2 w3 : List ℕ} → let at = block + rowWords * observation in w1 ≡ set work at (row .prediction) → w2 ≡ set w1 (at + 1) (row .time) → w3 ≡ set w2 (at + 2) (row .side) → w3 ≡
+      written block observation row work
   unfolding written
   row-written e1 e2 e3 =
       let at = block + rowWords * observation in
       e3 ∙ ap (λ (w : List ℕ). set w (at + 2) (row .side)) (e2 ∙ ap (λ (w : List ℕ). set w (at + 1) (row .time)) e1)
 
 -- ---- the row at `at`; w is the prediction's word, f the prediction, g and g2 its derivatives by the first and the second eta
-module _ (sums : Sums) (observation : Observation) (trial : Trial) (reply : List ℕ) (at : ℕ) {w : ℕ} {f g : Float} (ew : w ≡ column reply at (trial .width) 0 (observation .output)) (ef : f ≡ word w) (eg : g ≡ fEta reply at (trial .width) 1 (observation .output) (trial .individual .first)) where
+module _ (sums : Sums) (observation : Observation) (trial : Trial) (reply : List ℕ) (at : ℕ) {w : ℕ} {f g : Float} (ew : w ≡ column reply at (trial .width) 0 (observation .output)) (ef : f ≡ word w)
+    (eg : g ≡ fEta reply at (trial .width) 1 (observation .output) (trial .individual .first)) where
   prediction-is : f ≡ word (column reply at (trial .width) 0 (observation .output))
   prediction-is = ef ∙ ap (λ (x : ℕ). word x) ew
 
-  pub one-effect : {additive : Float} {z : Evaluation} → (trial .effects ≡ 2 → ⊥) → additive ≡ additiveOf (trial .«additive_sd») observation → z ≡ addRow sums observation f g additive → z ≡ addRowAt sums observation trial reply at
+  pub one-effect : {additive : Float} {z : Evaluation} → (trial .effects ≡ 2 → ⊥) → additive ≡ additiveOf (trial .«additive_sd») observation → z ≡ addRow sums observation f g additive → z ≡ addRowAt
+      sums observation trial reply at
   unfolding addRowAt
   one-effect h ea q = no _ (ne-eqb _ _ h) (q ∙ (λ i. addRow sums observation (prediction-is i) (eg i) (ea i)))
 
-  pub two-effects : {g2 : Float} {z : Evaluation} → trial .effects ≡ 2 → g2 ≡ fEta reply at (trial .width) 2 (observation .output) (trial .individual .second) → z ≡ addRow2 sums observation f (pair g g2) → z ≡ addRowAt sums observation trial reply at
+  pub two-effects : {g2 : Float} {z : Evaluation} → trial .effects ≡ 2 → g2 ≡ fEta reply at (trial .width) 2 (observation .output) (trial .individual .second) → z ≡ addRow2 sums observation f
+      (pair g g2) → z ≡ addRowAt sums observation trial reply at
   unfolding addRowAt
   two-effects h e2 q = yes _ (eq-eqb _ _ h) (q ∙ (λ i. addRow2 sums observation (prediction-is i) (pair (eg i) (e2 i))))
 
 -- ---- an observation, where the sums so far are given; r is what `row_at` answered, w the words afterwards
-module _ (sums : Sums) (observation : Observation) (trial : Trial) (reply work : List ℕ) {r : RowAt} (e : r ≡ rowAt reply (trial .width) (trial .effects) (observation .output) (observation .row)) where
-  looked-up : {variant : RowAt} {z : Evaluating} → r ≡ variant → z ≡ addAt sums observation trial reply work variant → z ≡ addTo sums observation trial reply work
-  unfolding addTo
-  looked-up t q = q ∙ ap (addAt sums observation trial reply work) (sym t ∙ e)
+module _ (sums : Sums) (observation : Observation) (trial : Trial) (reply work : List ℕ) {r : RowAt} (e : r ≡ rowAt reply (trial .width) (trial .effects) (observation .output) (observation .row))
+  where
+    looked-up : {variant : RowAt} {z : Evaluating} → r ≡ variant → z ≡ addAt sums observation trial reply work variant → z ≡ addTo sums observation trial reply work
+    unfolding addTo
+    looked-up t q = q ∙ ap (addAt sums observation trial reply work) (sym t ∙ e)
 
-  pub row-missing : r ≡ Missing → evaluating (RefusedAt 10 (sums .observation)) work ≡ addTo sums observation trial reply work
-  unfolding addAt
-  row-missing t = looked-up t refl
+    pub row-missing : r ≡ Missing → evaluating (RefusedAt 10 (sums .observation)) work ≡ addTo sums observation trial reply work
+    unfolding addAt
+    row-missing t = looked-up t refl
 
-  pub row-taken : {at : ℕ} {row : PredictionRow} {w : List ℕ} {z : Evaluation} → r ≡ Word at → row ≡ predictionRow reply at (trial .width) (observation .output) → w ≡ written (trial .block) (sums .observation) row work → z ≡ addRowAt sums observation trial reply at → evaluating z w ≡ addTo sums observation trial reply work
-  unfolding addAt
-  row-taken t p q a = looked-up t (λ i. evaluating (a i) ((q ∙ ap (λ (x : PredictionRow). written (trial .block) (sums .observation) x work) p) i))
+    pub row-taken : {at : ℕ} {row : PredictionRow} {w : List ℕ} {z : Evaluation} → r ≡ Word at → row ≡ predictionRow reply at (trial .width) (observation .output) → w ≡ written (trial .block)
+        (sums .observation) row work → z ≡ addRowAt sums observation trial reply at → evaluating z w ≡ addTo sums observation trial reply work
+    unfolding addAt
+    row-taken t p q a = looked-up t (λ i. evaluating (a i) ((q ∙ ap (λ (x : PredictionRow). written (trial .block) (sums .observation) x work) p) i))
 
 -- ---- an observation after an evaluation x
 module _ (trial : Trial) (reply : List ℕ) (observation : Observation) {x : Evaluation} (work : List ℕ) where

@@ -43,11 +43,13 @@ module _ (sums : Sums) (observation : Observation) (prediction f-eta additive : 
 
 -- ---- two effects; r is what `row_variance` answered, row the scaled row, z the sums afterwards
 module _ (sums : Sums) (observation : Observation) (prediction : Float) (f-eta : List Float) {r : RowVariance} (e : answerRow2 r ≡ rowVariance observation prediction f-eta) where
-  added2 : {variant : RowVariance} {z : Evaluation} → r ≡ variant → z ≡ atObservation (sums .observation) (through (λ R. withRow sums (scaledRow observation prediction f-eta R) f-eta) (answerRow2 variant)) → z ≡ addRow2 sums observation prediction f-eta
+  added2 : {variant : RowVariance} {z : Evaluation} → r ≡ variant → z ≡ atObservation (sums .observation) (through (λ R. withRow sums (scaledRow observation prediction f-eta R) f-eta)
+      (answerRow2 variant)) → z ≡ addRow2 sums observation prediction f-eta
   unfolding addRow2
   added2 t q = q ∙ ap (λ (a : Answer Float). atObservation (sums .observation) (through (λ R. withRow sums (scaledRow observation prediction f-eta R) f-eta) a)) (sym (ap answerRow2 t) ∙ e)
 
-  pub row-added : {R : Float} {row : Row2} {z : Sums} → r ≡ ValidVariance R → row ≡ scaledRow observation prediction f-eta R → z ≡ withRow sums row f-eta → Running z ≡ addRow2 sums observation prediction f-eta
+  pub row-added : {R : Float} {row : Row2} {z : Sums} → r ≡ ValidVariance R → row ≡ scaledRow observation prediction f-eta R → z ≡ withRow sums row f-eta → Running z ≡ addRow2 sums observation
+      prediction f-eta
   unfolding answerRow2 through atObservation
   row-added t p q = added2 t (ap Running (q ∙ ap (λ (x : Row2). withRow sums x f-eta) p))
 
@@ -56,12 +58,14 @@ module _ (sums : Sums) (observation : Observation) (prediction : Float) (f-eta :
   no-variance2 t = added2 t refl
 
 -- ---- the observations one after the other: those before number k, then number k
-pub one-added : (trial : Trial) (reply : List ℕ) (os : List Observation) (x : Evaluating) (k : ℕ) → k < length os → addObservations trial reply (take (suc k) os) x ≡ addObservation trial reply (getD os k noObservation) (addObservations trial reply (take k os) x)
+pub one-added : (trial : Trial) (reply : List ℕ) (os : List Observation) (x : Evaluating) (k : ℕ) → k < length os → addObservations trial reply (take (suc k) os) x ≡ addObservation trial reply
+    (getD os k noObservation) (addObservations trial reply (take k os) x)
 one-added trial reply [] x k l = absurd (not-suc-le-zero l)
 one-added trial reply (o ∷ os) x zero l = refl
 one-added trial reply (o ∷ os) x (suc k) l = one-added trial reply os (addObservation trial reply o x) k (le-of-suc-le-suc l)
 
-pub one-checked : (width : ℕ) (counts : List ℕ) (os : List Observation) (x : Check) (k : ℕ) → k < length os → checkObservations width counts (take (suc k) os) x ≡ checkObservation width counts (getD os k noObservation) (checkObservations width counts (take k os) x)
+pub one-checked : (width : ℕ) (counts : List ℕ) (os : List Observation) (x : Check) (k : ℕ) → k < length os → checkObservations width counts (take (suc k) os) x ≡ checkObservation width counts
+    (getD os k noObservation) (checkObservations width counts (take k os) x)
 one-checked width counts [] x k l = absurd (not-suc-le-zero l)
 one-checked width counts (o ∷ os) x zero l = refl
 one-checked width counts (o ∷ os) x (suc k) l = one-checked width counts os (checkObservation width counts o x) k (le-of-suc-le-suc l)

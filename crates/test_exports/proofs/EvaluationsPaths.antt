@@ -19,17 +19,19 @@ use Rattle.subject.specs.declared.Check.the-variants.{Sound, Unsound}
 use Rattle.test_exports.specs.Evaluations.{pairOf, floatsOf, sumsWritten, Answered, answered, told, toldCheck}
 
 -- ---- individual values; p and q are what the code has made of the lent arrays, r what `individual_values` answered
-module _ (theta eta : List Float) (effects : ℕ) (old : List Float) {p q : Pair} {r : IndividualValues} (ep : p ≡ pairOf theta) (eq : q ≡ pairOf eta) (er : answer r ≡ individualValues p q effects) where
-  values : {variant : IndividualValues} → r ≡ variant → answer variant ≡ individualValues (pairOf theta) (pairOf eta) effects
-  values t = sym (ap answer t) ∙ er ∙ (λ i. individualValues (ep i) (eq i) effects)
+module _ (theta eta : List Float) (effects : ℕ) (old : List Float) {p q : Pair} {r : IndividualValues} (ep : p ≡ pairOf theta) (eq : q ≡ pairOf eta) (er : answer r ≡ individualValues p q effects)
+  where
+    values : {variant : IndividualValues} → r ≡ variant → answer variant ≡ individualValues (pairOf theta) (pairOf eta) effects
+    values t = sym (ap answer t) ∙ er ∙ (λ i. individualValues (ep i) (eq i) effects)
 
-  pub values-written : {x : Pair} → r ≡ Valid x → (0 ≡ numberOf (individualValues (pairOf theta) (pairOf eta) effects)) × (pair (x .first) (x .second) ≡ orOld old (floatsOf (individualValues (pairOf theta) (pairOf eta) effects)))
-  unfolding answer numberOf orOld floatsOf through
-  values-written t = let a = values t in (ap numberOf a, ap (λ (z : Answer Pair). orOld old (floatsOf z)) a)
+    pub values-written : {x : Pair} → r ≡ Valid x → (0 ≡ numberOf (individualValues (pairOf theta) (pairOf eta) effects)) ×
+        (pair (x .first) (x .second) ≡ orOld old (floatsOf (individualValues (pairOf theta) (pairOf eta) effects)))
+    unfolding answer numberOf orOld floatsOf through
+    values-written t = let a = values t in (ap numberOf a, ap (λ (z : Answer Pair). orOld old (floatsOf z)) a)
 
-  pub no-values : r ≡ Invalid → (7 ≡ numberOf (individualValues (pairOf theta) (pairOf eta) effects)) × (old ≡ orOld old (floatsOf (individualValues (pairOf theta) (pairOf eta) effects)))
-  unfolding answer numberOf orOld floatsOf through
-  no-values t = let a = values t in (ap numberOf a, ap (λ (z : Answer Pair). orOld old (floatsOf z)) a)
+    pub no-values : r ≡ Invalid → (7 ≡ numberOf (individualValues (pairOf theta) (pairOf eta) effects)) × (old ≡ orOld old (floatsOf (individualValues (pairOf theta) (pairOf eta) effects)))
+    unfolding answer numberOf orOld floatsOf through
+    no-values t = let a = values t in (ap numberOf a, ap (λ (z : Answer Pair). orOld old (floatsOf z)) a)
 
 -- ---- one word more is written: v are the words before, and w after it
 pub stored : {v v' w : List ℕ} {x x' : ℕ} (i : ℕ) → v ≡ v' → x ≡ x' → w ≡ set v i x → w ≡ set v' i x'

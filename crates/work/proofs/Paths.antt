@@ -62,7 +62,8 @@ module _ (rows from to : ℕ) (w : List ℕ) where
   unfolding copyBlock
   copies d e f g q = no _ (ne-eqb _ _ d) (q ∙ (λ i. copyWords (e i) (f i) (g i) w))
 
-pub moves : {w₁ w₂ w₃ : List ℕ} (rows : ℕ) (s : Sources) (w : List ℕ) → w₁ ≡ copyBlock rows (s .population) 0 w → w₂ ≡ copyBlock rows (s .best) 1 w₁ → w₃ ≡ copyBlock rows (s .latest) 2 w₂ → w₃ ≡ moveRows rows s w
+pub moves : {w₁ w₂ w₃ : List ℕ} (rows : ℕ) (s : Sources) (w : List ℕ) → w₁ ≡ copyBlock rows (s .population) 0 w → w₂ ≡ copyBlock rows (s .best) 1 w₁ → w₃ ≡ copyBlock rows (s .latest) 2 w₂ → w₃ ≡
+    moveRows rows s w
 unfolding moveRows
 moves rows s w e f g = g ∙ ap (copyBlock rows (s .latest) 2) (f ∙ ap (copyBlock rows (s .best) 1) e)
 

@@ -46,6 +46,7 @@ module _ (at : ℕ) (work : List ℕ) (rows n i : ℕ) (w : List ℕ) where
       ap (fittedFrom (n - (i + 1)) at work rows (i + 1)) (f ∙ (λ d. set ((e ∙ ap (set w (at + 2 * i)) x-is) d) (at + 2 * i + 1) (y-is d)))
       ∙ ap (λ (m : ℕ). fittedFrom m at work rows i w) (one-more n i h)
 
-pub fitted : {n at : ℕ} {w' : List ℕ} (subjects first : ℕ) (work : List ℕ) (rows : ℕ) (w : List ℕ) → n ≡ smaller rows mostRows → at ≡ fittedAt subjects first → w' ≡ fittedFrom n at work rows 0 w → w' ≡ fittedWritten subjects first work rows w
+pub fitted : {n at : ℕ} {w' : List ℕ} (subjects first : ℕ) (work : List ℕ) (rows : ℕ) (w : List ℕ) → n ≡ smaller rows mostRows → at ≡ fittedAt subjects first → w' ≡ fittedFrom n at work rows 0 w → w'
+    ≡ fittedWritten subjects first work rows w
 unfolding fittedWritten
 fitted subjects first work rows w e f q = q ∙ (λ i. fittedFrom (e i) (f i) work rows 0 w)

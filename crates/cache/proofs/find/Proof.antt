@@ -30,7 +30,8 @@ returns-3 c =
     let head = asked .before .before in
     let claimed = head .before .before .before in
     let room = claimed .before .before .before in
-    find-walks _ _ _ _ (room .before .is-room .ensures) (room .if1 .taken) (claimed .before .before .less .ensures) (claimed .if3 .left) (head .before .before .hash .ensures) (head .before .head-of .ensures)
+    find-walks _ _ _ _ (room .before .is-room .ensures) (room .if1 .taken) (claimed .before .before .less .ensures) (claimed .if3 .left) (head .before .before .hash .ensures)
+    (head .before .head-of .ensures)
     (head .read .ensures) (asked .before .has-bit .ensures) (asked .if4 .taken) (c .before .number .ensures) (c .walk .ensures)
 
 returns-4 : tie.Need-returns-4

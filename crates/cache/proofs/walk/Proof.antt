@@ -45,7 +45,8 @@ loop-again c =
     let r = c .before in
     let test = r .before .before in
     let turn = test .before .before .before in
-    walk-on _ _ _ _ _ _ _ (test .before .before .if1 .left) (turn .loop-test .taken) (test .before .is-at .ensures) (test .if2 .left) (rw (r .before .modulo2 .ensures) at (r .read .ensures)) (c .number .ensures)
+    walk-on _ _ _ _ _ _ _ (test .before .before .if1 .left) (turn .loop-test .taken) (test .before .is-at .ensures) (test .if2 .left) (rw (r .before .modulo2 .ensures) at (r .read .ensures))
+    (c .number .ensures)
     ∙ turn .before .loop .inv
 
 returns-3 : tie.Need-returns-3 Inv-loop μ-loop

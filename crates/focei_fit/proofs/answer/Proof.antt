@@ -43,7 +43,14 @@ same-length-5 : tie.Need-same-length-5
 same-length-5 c = search needs
 
 returns : tie.Need-returns
-returns c = let d = c .before .before .before .before .before .before .before .before .before .before .before .before .before .before .before .before .before .before .before .before .before .before .before .before .before .before .before .before .before .before .before in let a = d .args in answers (a .counts .now) (a .observations .now) (heldOf (a .at .state) (a .at .tally) (a .cache .now) (a .work .now) (a .warm .now) (a .results .now)) (a .input .now) (a .individual) (c .before .before .before .before .before .before .before .before .before .before .before .before .before .before .settings .ensures) (c .before .before .before .before .before .before .before .before .before .before .before .before .before .before .before .before .before .before .before .rows-of .ensures) (whole-reply (a .input .now) (a .reply .now) (a .at .state .progress .first) (c .before .before .before .before .before .before .before .before .before .before .before .before .before .before .before .before .before .before .before .rows-of .result) (a .individual .first) (d .pre .0) (d .pre .1) (c .before .before .before .before .before .before .before .before .before .before .before .before .before .before .before .before .before .reply .ensures)) (c .before .before .before .before .before .before .before .before .reply3 .ensures)
+returns c = let d = c .before .before .before .before .before .before .before .before .before .before .before .before .before .before .before .before .before .before .before .before .before .before
+    .before .before .before .before .before .before .before .before .before in let a = d .args in answers (a .counts .now) (a .observations .now)
+    (heldOf (a .at .state) (a .at .tally) (a .cache .now) (a .work .now) (a .warm .now) (a .results .now)) (a .input .now) (a .individual)
+    (c .before .before .before .before .before .before .before .before .before .before .before .before .before .before .settings .ensures)
+    (c .before .before .before .before .before .before .before .before .before .before .before .before .before .before .before .before .before .before .before .rows-of .ensures)
+    (whole-reply (a .input .now) (a .reply .now) (a .at .state .progress .first) (c .before .before .before .before .before .before .before .before .before .before .before .before .before .before
+    .before .before .before .before .before .rows-of .result) (a .individual .first) (d .pre .0) (d .pre .1) (c .before .before .before .before .before .before .before .before .before .before .before
+    .before .before .before .before .before .before .reply .ensures)) (c .before .before .before .before .before .before .before .before .reply3 .ensures)
 
 pub answer-spec : {M : Type 1} → statement M
 answer-spec =

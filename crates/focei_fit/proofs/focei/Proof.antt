@@ -25,7 +25,8 @@ same-length : tie.Need-same-length
 same-length c = search needs
 
 returns : tie.Need-returns
-returns c = is-cohort _ _ (c .before .before .before .before .before .before .before .cohort-of .ensures) (c .before .before .before .before .before .subjects .given .1) (c .before .before .lend .ensures)
+returns c = is-cohort _ _ (c .before .before .before .before .before .before .before .cohort-of .ensures) (c .before .before .before .before .before .subjects .given .1)
+    (c .before .before .lend .ensures)
 
 same-length-2 : tie.Need-same-length-2
 same-length-2 c = search needs

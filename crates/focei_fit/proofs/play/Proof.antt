@@ -11,7 +11,9 @@ use Rattle.focei_fit.proofs.play.Statement.{statement}
 use Rattle.focei_fit.proofs.play.Tie as tie
 
 abbrev Inv-loop : tie.InvT-loop
-Inv-loop input observations counts reply₀ cache₀ work₀ warm₀ results₀ at₀ left₀ reply cache work warm results at left = (Output.play input counts observations left (called at cache work warm results) ≡ Output.play input counts observations 10001 (called at₀ cache₀ work₀ warm₀ results₀)) × (length reply ≡ length reply₀) × (length cache ≡ length cache₀) × (length work ≡ length work₀) × (length warm ≡ length warm₀) × (length results ≡ length results₀)
+Inv-loop input observations counts reply₀ cache₀ work₀ warm₀ results₀ at₀ left₀ reply cache work warm results at left =
+    (Output.play input counts observations left (called at cache work warm results) ≡ Output.play input counts observations 10001 (called at₀ cache₀ work₀ warm₀ results₀)) ×
+    (length reply ≡ length reply₀) × (length cache ≡ length cache₀) × (length work ≡ length work₀) × (length warm ≡ length warm₀) × (length results ≡ length results₀)
 
 abbrev μ-loop : tie.MeasureT-loop
 μ-loop input observations counts reply₀ cache₀ work₀ warm₀ results₀ at₀ left₀ reply cache work warm results at left = left
@@ -23,7 +25,8 @@ enum-known-step : tie.Need-enum-known-step Inv-loop μ-loop
 enum-known-step c = search needs
 
 answer-requires : tie.Need-answer-requires Inv-loop μ-loop
-answer-requires c κs = let same = c .before .before .before .before .before .before .before .before .before .loop .inv .1 in let asked = c .before .before .before .before .before .before .before .before .before .before .before .before .before .before .before .before .before .before .pre in (asked .0, omega arith)
+answer-requires c κs = let same = c .before .before .before .before .before .before .before .before .before .loop .inv .1 in let asked = c .before .before .before .before .before .before .before
+    .before .before .before .before .before .before .before .before .before .before .before .pre in (asked .0, omega arith)
 
 enum-told : tie.Need-enum-told Inv-loop μ-loop
 enum-told c = search needs
@@ -44,7 +47,8 @@ same-length-5 : tie.Need-same-length-5 Inv-loop μ-loop
 same-length-5 c = c .before .before .before .loop .inv .5
 
 returns : tie.Need-returns Inv-loop μ-loop
-returns c = let a = c .before .before .before .before .before .before .before .before .before .before .before .before .args in let l = c .before .before .before .loop in play-finished (a .input .now) (a .counts .now) (a .observations .now) (l .left) (called (l .at) (l .cache) (l .work) (l .warm) (l .results)) (c .before .before .loop-test .taken) (c .enum-told .given .1) ∙ l .inv .0
+returns c = let a = c .before .before .before .before .before .before .before .before .before .before .before .before .args in let l = c .before .before .before .loop in play-finished (a .input .now)
+    (a .counts .now) (a .observations .now) (l .left) (called (l .at) (l .cache) (l .work) (l .warm) (l .results)) (c .before .before .loop-test .taken) (c .enum-told .given .1) ∙ l .inv .0
 
 enum-told-2 : tie.Need-enum-told-2 Inv-loop μ-loop
 enum-told-2 c = search needs
@@ -65,7 +69,8 @@ same-length-10 : tie.Need-same-length-10 Inv-loop μ-loop
 same-length-10 c = c .before .before .before .loop .inv .5
 
 returns-2 : tie.Need-returns-2 Inv-loop μ-loop
-returns-2 c = let a = c .before .before .before .before .before .before .before .before .before .before .before .before .args in let l = c .before .before .before .loop in play-refused (a .input .now) (a .counts .now) (a .observations .now) (l .left) (called (l .at) (l .cache) (l .work) (l .warm) (l .results)) (c .before .before .loop-test .taken) (c .enum-told2 .given .1) ∙ l .inv .0
+returns-2 c = let a = c .before .before .before .before .before .before .before .before .before .before .before .before .args in let l = c .before .before .before .loop in play-refused (a .input .now)
+    (a .counts .now) (a .observations .now) (l .left) (called (l .at) (l .cache) (l .work) (l .warm) (l .results)) (c .before .before .loop-test .taken) (c .enum-told2 .given .1) ∙ l .inv .0
 
 sub-left : tie.Need-sub-left Inv-loop μ-loop
 sub-left c = search needs
@@ -74,7 +79,20 @@ loop-less : tie.Need-loop-less Inv-loop μ-loop
 loop-less c = search needs
 
 loop-again : tie.Need-loop-again Inv-loop μ-loop
-loop-again c = let a = c .before .before .before .before .before .before .before .before .before .before .before .before .before .before .before .before .before .before .before .before .before .before .before .before .before .before .before .before .before .args in let l = c .before .before .before .before .before .before .before .before .before .before .before .before .before .before .before .before .before .before .before .before .loop in let kept = c .before .before .before .before .before .before .before .before .before .before .answer .kept in (play-asked (a .input .now) (a .counts .now) (a .observations .now) (l .left) (called (l .at) (l .cache) (l .work) (l .warm) (l .results)) (c .before .before .before .before .before .before .before .before .before .before .before .before .before .before .before .before .before .before .before .loop-test .taken) (c .before .before .before .before .before .before .before .before .before .before .before .before .before .before .before .before .before .step .given .1) (c .before .before .before .before .before .before .before .before .before .before .answer .ensures) ∙ l .inv .0, kept .1 .1 .1 .1 .1 .0 ∙ l .inv .1, kept .1 .1 .1 .1 .1 .1 .0 ∙ l .inv .2, kept .1 .1 .1 .1 .1 .1 .1 .0 ∙ l .inv .3, kept .1 .1 .1 .1 .1 .1 .1 .1 .0 ∙ l .inv .4, kept .1 .1 .1 .1 .1 .1 .1 .1 .1 .0 ∙ l .inv .5)
+loop-again c = let a = c .before .before .before .before .before .before .before .before .before .before .before .before .before .before .before .before .before .before .before .before .before .before
+    .before .before .before .before .before .before .before .args in let l = c .before .before .before .before .before .before .before .before .before .before .before .before .before .before .before
+    .before .before .before .before .before .loop in let kept = c .before .before .before .before .before .before .before .before .before .before .answer .kept in (
+      play-asked (a .input .now) (a .counts .now) (a .observations .now) (l .left) (called (l .at) (l .cache) (l .work) (l .warm) (l .results))
+          (c .before .before .before .before .before .before .before .before .before .before .before .before .before .before .before .before .before .before .before .loop-test .taken)
+          (c .before .before .before .before .before .before .before .before .before .before .before .before .before .before .before .before .before .step .given .1)
+          (c .before .before .before .before .before .before .before .before .before .before .answer .ensures) ∙ l .inv .0,
+      kept .1 .1 .1 .1 .1 .0 ∙ l .inv .1,
+      kept .1 .1 .1 .1 .1 .1 .0 ∙ l .inv .2,
+      kept .1
+          .1 .1 .1 .1 .1 .1 .0 ∙ l .inv .3,
+      kept .1 .1 .1 .1 .1 .1 .1 .1 .0 ∙ l .inv .4,
+      kept .1 .1 .1 .1 .1 .1 .1 .1 .1 .0 ∙ l .inv .5,
+    )
 
 same-length-11 : tie.Need-same-length-11 Inv-loop μ-loop
 same-length-11 c = c .before .loop .inv .1
@@ -92,7 +110,8 @@ same-length-15 : tie.Need-same-length-15 Inv-loop μ-loop
 same-length-15 c = c .before .loop .inv .5
 
 returns-3 : tie.Need-returns-3 Inv-loop μ-loop
-returns-3 c = let a = c .before .before .before .before .before .before .before .before .before .before .args in let l = c .before .loop in play-none (a .input .now) (a .counts .now) (a .observations .now) (l .left) (called (l .at) (l .cache) (l .work) (l .warm) (l .results)) (c .loop-test .left) ∙ l .inv .0
+returns-3 c = let a = c .before .before .before .before .before .before .before .before .before .before .args in let l = c .before .loop in play-none (a .input .now) (a .counts .now)
+    (a .observations .now) (l .left) (called (l .at) (l .cache) (l .work) (l .warm) (l .results)) (c .loop-test .left) ∙ l .inv .0
 
 pub play-spec : {M : Type 1} → statement M
 play-spec =

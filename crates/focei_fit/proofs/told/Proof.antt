@@ -38,7 +38,8 @@ same-length-2 : tie.Need-same-length-2
 same-length-2 c = search needs
 
 returns-2 : tie.Need-returns-2
-returns-2 c = told-finished _ _ _ _ _ _ (c .before .before .before .before .before .before .step .given .1) (c .before .before .before .before .shrinkage .ensures) (c .before .before .finished .ensures)
+returns-2 c = told-finished _ _ _ _ _ _ (c .before .before .before .before .before .before .step .given .1) (c .before .before .before .before .shrinkage .ensures)
+    (c .before .before .finished .ensures)
 
 same-length-3 : tie.Need-same-length-3
 same-length-3 c = search needs

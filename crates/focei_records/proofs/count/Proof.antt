@@ -32,7 +32,12 @@ loop-less : tie.Need-loop-less Inv-loop μ-loop
 loop-less c = search needs
 
 loop-again : tie.Need-loop-again Inv-loop μ-loop
-loop-again c = (⊎-elim (λ w. count-hit _ _ _ _ _ (c .before .before .loop-test .taken) (c .before .subject-at .ensures .0) (w .0 .taken) (w .1)) (λ w. count-miss _ _ _ _ _ (c .before .before .loop-test .taken) (c .before .subject-at .ensures .0) (w .0 .left) (w .1)) (c .if1 .came) ∙ c .before .before .before .loop .inv .0, ⊎-elim (λ w. omega arith) (λ w. omega arith) (c .if1 .came))
+loop-again c = (
+  ⊎-elim (λ w. count-hit _ _ _ _ _ (c .before .before .loop-test .taken) (c .before .subject-at .ensures .0) (w .0 .taken) (w .1))
+      (λ w. count-miss _ _ _ _ _ (c .before .before .loop-test .taken) (c .before .subject-at .ensures .0) (w .0 .left) (w .1)) (c .if1 .came) ∙ c .before .before .before .loop .inv .0,
+  ⊎-elim
+      (λ w. omega arith) (λ w. omega arith) (c .if1 .came),
+)
 
 returns : tie.Need-returns Inv-loop μ-loop
 returns c = count-end _ _ _ _ _ (c .loop-test .left) ∙ c .before .loop .inv .0

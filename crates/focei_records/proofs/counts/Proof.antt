@@ -12,7 +12,8 @@ use Rattle.focei_records.proofs.counts.Statement.{statement}
 use Rattle.focei_records.proofs.counts.Tie as tie
 
 abbrev Inv-loop : tie.InvT-loop
-Inv-loop input subjects out₀ records end₀ subject₀ out end subject = (write (countsFrom (subjects - subject) input subject) (written end out) ≡ write (countsFrom subjects input 0) (written 0 out₀)) × (length out ≡ length out₀)
+Inv-loop input subjects out₀ records end₀ subject₀ out end subject = (write (countsFrom (subjects - subject) input subject) (written end out) ≡ write (countsFrom subjects input 0) (written 0 out₀)) ×
+    (length out ≡ length out₀)
 
 abbrev μ-loop : tie.MeasureT-loop
 μ-loop input subjects out₀ records end₀ subject₀ out end subject = subjects - subject
@@ -33,7 +34,11 @@ loop-less : tie.Need-loop-less Inv-loop μ-loop
 loop-less c = search needs
 
 loop-again : tie.Need-loop-again Inv-loop μ-loop
-loop-again c = (counts-step _ _ _ _ (c .before .before .before .before .before .loop-test .taken) (c .before .before .before .count .ensures) (c .before .before .word .ensures) ∙ c .before .before .before .before .before .before .loop .inv .0, c .before .before .word .kept .0 ∙ c .before .before .before .before .before .before .loop .inv .1)
+loop-again c = (
+  counts-step _ _ _ _ (c .before .before .before .before .before .loop-test .taken) (c .before .before .before .count .ensures) (c .before .before .word .ensures) ∙ c .before .before
+      .before .before .before .before .loop .inv .0,
+  c .before .before .word .kept .0 ∙ c .before .before .before .before .before .before .loop .inv .1,
+)
 
 same-length : tie.Need-same-length Inv-loop μ-loop
 same-length c = c .before .loop .inv .1

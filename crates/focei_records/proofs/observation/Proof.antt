@@ -36,10 +36,19 @@ word-requires-5 : tie.Need-word-requires-5
 word-requires-5 c κs = search needs
 
 same-length : tie.Need-same-length
-same-length c = c .before .before .word5 .kept .0 ∙ c .before .before .before .before .before .before .before .word4 .kept .0 ∙ c .before .before .before .before .before .before .before .before .before .before .before .before .word3 .kept .0 ∙ c .before .before .before .before .before .before .before .before .before .before .before .before .before .before .before .before .before .word2 .kept .0 ∙ c .before .before .before .before .before .before .before .before .before .before .before .before .before .before .before .before .before .before .before .before .before .word .kept .0
+same-length c = c .before .before .word5 .kept .0 ∙ c .before .before .before .before .before .before .before .word4 .kept .0 ∙ c .before .before .before .before .before .before .before .before
+    .before .before .before .before .word3 .kept .0 ∙ c .before .before .before .before .before .before .before .before .before .before .before .before .before .before .before .before .before .word2
+    .kept .0 ∙ c .before .before .before .before .before .before .before .before .before .before .before .before .before .before .before .before .before .before .before .before .before .word .kept .0
 
 returns : tie.Need-returns
-returns c = observed _ _ _ (c .before .before .before .before .before .before .before .before .before .before .before .before .before .before .before .before .before .before .before .before .before .before .before .before .subject-at .ensures .0) (c .before .before .before .before .before .before .before .before .before .before .before .before .before .before .before .before .before .before .before .before .before .before .before .count .ensures) (c .before .before .before .before .before .before .before .before .before .before .before .before .before .before .before .before .before .before .before .before .before .word .ensures) (c .before .before .before .before .before .before .before .before .before .before .before .before .before .before .before .before .before .word2 .ensures) (c .before .before .before .before .before .before .before .before .before .before .before .before .before .float-at .ensures) (c .before .before .before .before .before .before .before .before .before .before .before .before .word3 .ensures) (c .before .before .before .before .before .before .before .before .float-at2 .ensures) (c .before .before .before .before .before .before .before .word4 .ensures) (c .before .before .before .float-at3 .ensures) (c .before .before .word5 .ensures)
+returns c = observed _ _ _ (c .before .before .before .before .before .before .before .before .before .before .before .before .before .before .before .before .before .before .before .before .before
+    .before .before .before .subject-at .ensures .0) (c .before .before .before .before .before .before .before .before .before .before .before .before .before .before .before .before .before .before
+    .before .before .before .before .before .count .ensures) (c .before .before .before .before .before .before .before .before .before .before .before .before .before .before .before .before .before
+    .before .before .before .before .word .ensures) (c .before .before .before .before .before .before .before .before .before .before .before .before .before .before .before .before .before .word2
+    .ensures) (c .before .before .before .before .before .before .before .before .before .before .before .before .before .float-at .ensures)
+    (c .before .before .before .before .before .before .before .before .before .before .before .before .word3 .ensures)
+    (c .before .before .before .before .before .before .before .before .float-at2 .ensures) (c .before .before .before .before .before .before .before .word4 .ensures)
+    (c .before .before .before .float-at3 .ensures) (c .before .before .word5 .ensures)
 
 pub observation-spec : {M : Type 1} → statement M
 observation-spec =

@@ -12,7 +12,8 @@ use Rattle.focei_records.proofs.observations.Statement.{statement}
 use Rattle.focei_records.proofs.observations.Tie as tie
 
 abbrev Inv-loop : tie.InvT-loop
-Inv-loop input out₀ records end₀ i₀ out end i = (write (observationsFrom (records - i) input i) (written end out) ≡ write (observationsFrom records input 0) (written 0 out₀)) × (length out ≡ length out₀)
+Inv-loop input out₀ records end₀ i₀ out end i = (write (observationsFrom (records - i) input i) (written end out) ≡ write (observationsFrom records input 0) (written 0 out₀)) ×
+    (length out ≡ length out₀)
 
 abbrev μ-loop : tie.MeasureT-loop
 μ-loop input out₀ records end₀ i₀ out end i = records - i
@@ -30,7 +31,11 @@ loop-less : tie.Need-loop-less Inv-loop μ-loop
 loop-less c = search needs
 
 loop-again : tie.Need-loop-again Inv-loop μ-loop
-loop-again c = (observations-step _ _ _ _ (c .before .before .before .before .loop-test .taken) (c .before .before .observation .ensures) ∙ c .before .before .before .before .before .loop .inv .0, c .before .before .observation .kept .1 .1 .0 ∙ c .before .before .before .before .before .loop .inv .1)
+loop-again c = (
+  observations-step _ _ _ _ (c .before .before .before .before .loop-test .taken) (c .before .before .observation .ensures) ∙ c .before .before .before .before .before .loop .inv .0,
+  c
+      .before .before .observation .kept .1 .1 .0 ∙ c .before .before .before .before .before .loop .inv .1,
+)
 
 same-length : tie.Need-same-length Inv-loop μ-loop
 same-length c = c .before .loop .inv .1

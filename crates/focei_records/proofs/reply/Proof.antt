@@ -9,7 +9,8 @@ use Rattle.focei_records.proofs.reply.Statement.{statement}
 use Rattle.focei_records.proofs.reply.Tie as tie
 
 abbrev Inv-loop : tie.InvT-loop
-Inv-loop input first rows individual out₀ records end₀ i₀ left₀ out end i left = (write (repliedFrom left input individual i) (written end out) ≡ write (repliedFrom rows input individual first) (written 0 out₀)) × (length out ≡ length out₀)
+Inv-loop input first rows individual out₀ records end₀ i₀ left₀ out end i left = (write (repliedFrom left input individual i) (written end out) ≡ write (repliedFrom rows input individual first)
+    (written 0 out₀)) × (length out ≡ length out₀)
 
 abbrev μ-loop : tie.MeasureT-loop
 μ-loop input first rows individual out₀ records end₀ i₀ left₀ out end i left = left
@@ -36,7 +37,11 @@ loop-less : tie.Need-loop-less Inv-loop μ-loop
 loop-less c = search needs
 
 loop-again : tie.Need-loop-again Inv-loop μ-loop
-loop-again c = (reply-step _ _ _ _ _ (c .before .before .before .before .before .loop-test .taken) (c .before .before .before .before .if1 .left) (c .before .before .row .ensures) ∙ c .before .before .before .before .before .before .loop .inv .0, c .before .before .row .kept .1 .1 .1 .0 ∙ c .before .before .before .before .before .before .loop .inv .1)
+loop-again c = (
+  reply-step _ _ _ _ _ (c .before .before .before .before .before .loop-test .taken) (c .before .before .before .before .if1 .left) (c .before .before .row .ensures) ∙ c .before .before
+      .before .before .before .before .loop .inv .0,
+  c .before .before .row .kept .1 .1 .1 .0 ∙ c .before .before .before .before .before .before .loop .inv .1,
+)
 
 same-length-2 : tie.Need-same-length-2 Inv-loop μ-loop
 same-length-2 c = c .before .loop .inv .1

@@ -36,10 +36,18 @@ word-requires-4 : tie.Need-word-requires-4
 word-requires-4 c κs = search needs
 
 same-length : tie.Need-same-length
-same-length c = c .before .before .word4 .kept .0 ∙ c .before .before .before .before .before .before .before .word3 .kept .0 ∙ c .before .before .before .before .before .before .before .before .before .before .before .before .word2 .kept .0 ∙ c .before .before .before .before .before .before .before .before .before .before .before .before .before .before .before .before .word .kept .0
+same-length c = c .before .before .word4 .kept .0 ∙ c .before .before .before .before .before .before .before .word3 .kept .0 ∙ c .before .before .before .before .before .before .before .before
+    .before .before .before .before .word2 .kept .0 ∙ c .before .before .before .before .before .before .before .before .before .before .before .before .before .before .before .before .word .kept .0
 
 returns : tie.Need-returns
-returns c = simulated _ _ _ _ (c .before .before .before .before .before .before .before .before .before .before .before .before .before .before .before .before .before .before .before .before .before .float-at .ensures) (c .before .before .before .before .before .before .before .before .before .before .before .before .before .before .before .before .before .before .before .before .from-word .ensures) (c .before .before .before .before .before .before .before .before .before .before .before .before .before .before .before .before .before .before .before .float-at2 .ensures) (c .before .before .before .before .before .before .before .before .before .before .before .before .before .before .before .before .before .before .from-word2 .ensures) (c .before .before .before .before .before .before .before .before .before .before .before .before .before .before .before .before .word .ensures) (c .before .before .before .before .before .before .before .before .before .before .before .before .word2 .ensures) (c .before .before .before .before .before .before .before .before .to-word .ensures) (c .before .before .before .before .before .before .before .word3 .ensures) (c .before .before .before .to-word2 .ensures) (c .before .before .word4 .ensures)
+returns c = simulated _ _ _ _ (c .before .before .before .before .before .before .before .before .before .before .before .before .before .before .before .before .before .before .before .before .before
+    .float-at .ensures) (c .before .before .before .before .before .before .before .before .before .before .before .before .before .before .before .before .before .before .before .before .from-word
+    .ensures) (c .before .before .before .before .before .before .before .before .before .before .before .before .before .before .before .before .before .before .before .float-at2 .ensures)
+    (c .before .before .before .before .before .before .before .before .before .before .before .before .before .before .before .before .before .before .from-word2 .ensures)
+    (c .before .before .before .before .before .before .before .before .before .before .before .before .before .before .before .before .word .ensures)
+    (c .before .before .before .before .before .before .before .before .before .before .before .before .word2 .ensures)
+    (c .before .before .before .before .before .before .before .before .to-word .ensures) (c .before .before .before .before .before .before .before .word3 .ensures)
+    (c .before .before .before .to-word2 .ensures) (c .before .before .word4 .ensures)
 
 pub row-spec : {M : Type 1} → statement M
 row-spec =

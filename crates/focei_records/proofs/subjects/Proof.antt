@@ -35,7 +35,8 @@ add-if3 : tie.Need-add-if3 Inv-loop μ-loop
 add-if3 c = search needs
 
 returns-2 : tie.Need-returns-2 Inv-loop μ-loop
-returns-2 c = stray-subject _ _ _ _ (c .before .before .before .before .before .loop-test .taken) (c .before .before .before .before .reserved-at .ensures) (c .before .before .before .if1 .left) (c .before .before .subject-at .ensures .0) (c .before .if2 .left) (c .if3 .taken) ∙ c .before .before .before .before .before .before .loop .inv .0
+returns-2 c = stray-subject _ _ _ _ (c .before .before .before .before .before .loop-test .taken) (c .before .before .before .before .reserved-at .ensures) (c .before .before .before .if1 .left)
+    (c .before .before .subject-at .ensures .0) (c .before .if2 .left) (c .if3 .taken) ∙ c .before .before .before .before .before .before .loop .inv .0
 
 add-i : tie.Need-add-i Inv-loop μ-loop
 add-i c = search needs
@@ -44,7 +45,13 @@ loop-less : tie.Need-loop-less Inv-loop μ-loop
 loop-less c = search needs
 
 loop-again : tie.Need-loop-again Inv-loop μ-loop
-loop-again c = (⊎-elim (λ w. next-subject _ _ _ _ (c .before .before .before .before .loop-test .taken) (c .before .before .before .reserved-at .ensures) (c .before .before .if1 .left) (c .before .subject-at .ensures .0) (w .0 .taken) (w .1)) (λ w. same-subject _ _ _ _ (c .before .before .before .before .loop-test .taken) (c .before .before .before .reserved-at .ensures) (c .before .before .if1 .left) (c .before .subject-at .ensures .0) (w .0 .left) (w .1 .left) (w .2)) (c .if2 .came) ∙ c .before .before .before .before .before .loop .inv .0, ⊎-elim (λ w. omega arith) (λ w. omega arith) (c .if2 .came))
+loop-again c = (
+  ⊎-elim (λ w. next-subject _ _ _ _ (c .before .before .before .before .loop-test .taken) (c .before .before .before .reserved-at .ensures) (c .before .before .if1 .left)
+      (c .before .subject-at .ensures .0) (w .0 .taken) (w .1)) (λ w. same-subject _ _ _ _ (c .before .before .before .before .loop-test .taken) (c .before .before .before .reserved-at .ensures)
+      (c .before .before .if1 .left) (c .before .subject-at .ensures .0) (w .0 .left) (w .1 .left) (w .2)) (c .if2 .came) ∙ c .before .before .before .before .before .loop .inv .0,
+  ⊎-elim
+      (λ w. omega arith) (λ w. omega arith) (c .if2 .came),
+)
 
 returns-3 : tie.Need-returns-3 Inv-loop μ-loop
 returns-3 c = cohort-end _ _ _ _ (c .loop-test .left) ∙ c .before .loop .inv .0

@@ -69,7 +69,8 @@ digits-returns-2 : (t : ℕ) → digits-lts.Need-returns-2 (
   digits-below t,
   digits.Post,
 ) (digits-at t) digits.Post
-digits-returns-2 t c = one-digit _ _ _ (c .before .before .before .before .before .before .if1 .left) (c .before .before .before .before .before .if2 .taken) (c .before .before .before .glyph .ensures) (c .before .before .byte .ensures)
+digits-returns-2 t c = one-digit _ _ _ (c .before .before .before .before .before .before .if1 .left) (c .before .before .before .before .before .if2 .taken)
+    (c .before .before .before .glyph .ensures) (c .before .before .byte .ensures)
 
 digits-sub-digits : (t : ℕ) → digits-lts.Need-sub-digits (
   glyph-reads.Asked,
@@ -129,7 +130,9 @@ digits-returns-3 : (t : ℕ) → digits-lts.Need-returns-3 (
   digits-below t,
   digits.Post,
 ) (digits-at t) digits.Post
-digits-returns-3 t c = more-digits _ _ _ (c .before .before .before .before .before .before .before .before .before .before .if1 .left) (c .before .before .before .before .before .before .before .before .before .if2 .left) (c .before .before .before .before .before .before .before .digits .ensures) (c .before .before .before .glyph2 .ensures) (c .before .before .byte2 .ensures)
+digits-returns-3 t c = more-digits _ _ _ (c .before .before .before .before .before .before .before .before .before .before .if1 .left)
+    (c .before .before .before .before .before .before .before .before .before .if2 .left) (c .before .before .before .before .before .before .before .digits .ensures)
+    (c .before .before .before .glyph2 .ensures) (c .before .before .byte2 .ensures)
 
 pub +digits-spec : {M : Type 1} → statement M
 +digits-spec = close μ-digits λ t. digits-lts.spec (

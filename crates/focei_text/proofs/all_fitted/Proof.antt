@@ -12,7 +12,8 @@ use Rattle.focei_text.proofs.all_fitted.Statement.{statement}
 use Rattle.focei_text.proofs.all_fitted.Tie as tie
 
 abbrev Inv-loop : tie.InvT-loop
-Inv-loop out₀ at subjects counts results end₀ subject₀ word₀ out end subject word = (write (allFitted (subjects - subject) subject word counts results) (written end out) ≡ write (allFitted subjects 0 (3 * subjects) counts results) (written at out₀)) × (length out ≡ length out₀) × (word ≤ 12288 + 200000 * subject)
+Inv-loop out₀ at subjects counts results end₀ subject₀ word₀ out end subject word = (write (allFitted (subjects - subject) subject word counts results) (written end out) ≡ write
+    (allFitted subjects 0 (3 * subjects) counts results) (written at out₀)) × (length out ≡ length out₀) × (word ≤ 12288 + 200000 * subject)
 
 abbrev μ-loop : tie.MeasureT-loop
 μ-loop out₀ at subjects counts results end₀ subject₀ word₀ out end subject word = subjects - subject
@@ -42,7 +43,13 @@ loop-less : tie.Need-loop-less Inv-loop μ-loop
 loop-less c = search needs
 
 loop-again : tie.Need-loop-again Inv-loop μ-loop
-loop-again c = let low = few-rows _ _ (c .before .before .before .before .rows-of .ensures) in (all-step _ _ _ _ _ _ (c .before .before .before .before .before .loop-test .taken) (c .before .before .before .before .rows-of .ensures) (c .before .before .fitted-lines .ensures) ∙ c .before .before .before .before .before .before .loop .inv .0, c .before .before .fitted-lines .kept .0 ∙ c .before .before .before .before .before .before .loop .inv .1, omega arith)
+loop-again c = let low = few-rows _ _ (c .before .before .before .before .rows-of .ensures) in (
+  all-step _ _ _ _ _ _ (c .before .before .before .before .before .loop-test .taken)
+      (c .before .before .before .before .rows-of .ensures) (c .before .before .fitted-lines .ensures) ∙ c .before .before .before .before .before .before .loop .inv .0,
+  c .before .before .fitted-lines
+      .kept .0 ∙ c .before .before .before .before .before .before .loop .inv .1,
+  omega arith,
+)
 
 same-length : tie.Need-same-length Inv-loop μ-loop
 same-length c = c .before .loop .inv .1

@@ -21,10 +21,14 @@ shrinkage-line-requires : tie.Need-shrinkage-line-requires
 shrinkage-line-requires c κs = search needs
 
 same-length : tie.Need-same-length
-same-length c = c .before .before .shrinkage-line .kept .0 ∙ c .before .before .before .before .before .before .all-fitted .kept .0 ∙ c .before .before .before .before .before .before .before .before .before .before .subject-lines .kept .0 ∙ c .before .before .before .before .before .before .before .before .before .before .before .before .before .before .objective-line .kept .0
+same-length c = c .before .before .shrinkage-line .kept .0 ∙ c .before .before .before .before .before .before .all-fitted .kept .0 ∙ c .before .before .before .before .before .before .before .before
+    .before .before .subject-lines .kept .0 ∙ c .before .before .before .before .before .before .before .before .before .before .before .before .before .before .objective-line .kept .0
 
 returns : tie.Need-returns
-returns c = all-told _ _ _ _ _ _ (c .before .before .before .before .before .before .before .before .before .before .before .before .before .before .before .before .subjects-of .ensures) (c .before .before .before .before .before .before .before .before .before .before .before .before .before .before .objective-line .ensures) (c .before .before .before .before .before .before .before .before .before .before .subject-lines .ensures) (c .before .before .before .before .before .before .all-fitted .ensures) (c .before .before .shrinkage-line .ensures)
+returns c = all-told _ _ _ _ _ _ (c .before .before .before .before .before .before .before .before .before .before .before .before .before .before .before .before .subjects-of .ensures)
+    (c .before .before .before .before .before .before .before .before .before .before .before .before .before .before .objective-line .ensures)
+    (c .before .before .before .before .before .before .before .before .before .before .subject-lines .ensures) (c .before .before .before .before .before .before .all-fitted .ensures)
+    (c .before .before .shrinkage-line .ensures)
 
 pub finished-spec : {M : Type 1} → statement M
 finished-spec =

@@ -24,10 +24,17 @@ byte-requires-2 : tie.Need-byte-requires-2
 byte-requires-2 c κs = search needs
 
 same-length : tie.Need-same-length
-same-length c = c .before .before .byte2 .kept .0 ∙ c .before .before .before .before .before .before .hexadecimal-field2 .kept .0 ∙ c .before .before .before .before .before .before .before .before .before .before .hexadecimal-field .kept .0 ∙ c .before .before .before .before .before .before .before .before .before .before .before .before .before .before .decimal-field2 .kept .0 ∙ c .before .before .before .before .before .before .before .before .before .before .before .before .before .before .before .before .before .before .decimal-field .kept .0 ∙ c .before .before .before .before .before .before .before .before .before .before .before .before .before .before .before .before .before .before .before .before .before .before .byte .kept .0
+same-length c = c .before .before .byte2 .kept .0 ∙ c .before .before .before .before .before .before .hexadecimal-field2 .kept .0 ∙ c .before .before .before .before .before .before .before .before
+    .before .before .hexadecimal-field .kept .0 ∙ c .before .before .before .before .before .before .before .before .before .before .before .before .before .before .decimal-field2 .kept .0 ∙ c .before
+    .before .before .before .before .before .before .before .before .before .before .before .before .before .before .before .before .before .decimal-field .kept .0 ∙ c .before .before .before .before
+    .before .before .before .before .before .before .before .before .before .before .before .before .before .before .before .before .before .before .byte .kept .0
 
 returns : tie.Need-returns
-returns c = fitted-told _ _ _ _ _ (c .before .before .before .before .before .before .before .before .before .before .before .before .before .before .before .before .before .before .before .before .before .before .byte .ensures) (c .before .before .before .before .before .before .before .before .before .before .before .before .before .before .before .before .before .before .decimal-field .ensures) (c .before .before .before .before .before .before .before .before .before .before .before .before .before .before .decimal-field2 .ensures) (c .before .before .before .before .before .before .before .before .before .before .hexadecimal-field .ensures) (c .before .before .before .before .before .before .hexadecimal-field2 .ensures) (c .before .before .byte2 .ensures)
+returns c = fitted-told _ _ _ _ _ (c .before .before .before .before .before .before .before .before .before .before .before .before .before .before .before .before .before .before .before .before
+    .before .before .byte .ensures) (c .before .before .before .before .before .before .before .before .before .before .before .before .before .before .before .before .before .before .decimal-field
+    .ensures) (c .before .before .before .before .before .before .before .before .before .before .before .before .before .before .decimal-field2 .ensures)
+    (c .before .before .before .before .before .before .before .before .before .before .hexadecimal-field .ensures) (c .before .before .before .before .before .before .hexadecimal-field2 .ensures)
+    (c .before .before .byte2 .ensures)
 
 pub fitted-line-spec : {M : Type 1} → statement M
 fitted-line-spec =

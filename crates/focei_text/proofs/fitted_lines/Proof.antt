@@ -12,7 +12,8 @@ use Rattle.focei_text.proofs.fitted_lines.Statement.{statement}
 use Rattle.focei_text.proofs.fitted_lines.Tie as tie
 
 abbrev Inv-loop : tie.InvT-loop
-Inv-loop out₀ at rows subject first results end₀ i₀ word₀ out end i word = (write (fittedLines (rows - i) subject i word results) (written end out) ≡ write (fittedLines rows subject 0 first results) (written at out₀)) × (length out ≡ length out₀) × (word ≡ first + 2 * i)
+Inv-loop out₀ at rows subject first results end₀ i₀ word₀ out end i word = (write (fittedLines (rows - i) subject i word results) (written end out) ≡ write (fittedLines rows subject 0 first results)
+    (written at out₀)) × (length out ≡ length out₀) × (word ≡ first + 2 * i)
 
 abbrev μ-loop : tie.MeasureT-loop
 μ-loop out₀ at rows subject first results end₀ i₀ word₀ out end i word = rows - i
@@ -42,7 +43,13 @@ loop-less : tie.Need-loop-less Inv-loop μ-loop
 loop-less c = search needs
 
 loop-again : tie.Need-loop-again Inv-loop μ-loop
-loop-again c = (fitted-step _ _ _ _ _ _ (c .before .before .before .before .before .before .loop-test .taken) (c .before .before .before .before .before .read .ensures) (c .before .before .before .before .read2 .ensures) (c .before .before .fitted-line .ensures) ∙ c .before .before .before .before .before .before .before .loop .inv .0, c .before .before .fitted-line .kept .0 ∙ c .before .before .before .before .before .before .before .loop .inv .1, omega arith)
+loop-again c = (
+  fitted-step _ _ _ _ _ _ (c .before .before .before .before .before .before .loop-test .taken) (c .before .before .before .before .before .read .ensures)
+      (c .before .before .before .before .read2 .ensures) (c .before .before .fitted-line .ensures) ∙ c .before .before .before .before .before .before .before .loop .inv .0,
+  c .before .before
+      .fitted-line .kept .0 ∙ c .before .before .before .before .before .before .before .loop .inv .1,
+  omega arith,
+)
 
 same-length : tie.Need-same-length Inv-loop μ-loop
 same-length c = c .before .loop .inv .1

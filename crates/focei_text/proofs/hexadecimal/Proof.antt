@@ -12,7 +12,8 @@ use Rattle.focei_text.proofs.hexadecimal.Statement.{statement}
 use Rattle.focei_text.proofs.hexadecimal.Tie as tie
 
 abbrev Inv-loop : tie.InvT-loop
-Inv-loop out₀ at value end₀ rest₀ left₀ out end rest left = (write (hexFrom left rest) (written end out) ≡ write (hexFrom 16 value) (written at out₀)) × (length out ≡ length out₀) × (rest ≤ 18446744073709551615)
+Inv-loop out₀ at value end₀ rest₀ left₀ out end rest left = (write (hexFrom left rest) (written end out) ≡ write (hexFrom 16 value) (written at out₀)) × (length out ≡ length out₀) ×
+    (rest ≤ 18446744073709551615)
 
 abbrev μ-loop : tie.MeasureT-loop
 μ-loop out₀ at value end₀ rest₀ left₀ out end rest left = left
@@ -36,7 +37,12 @@ loop-less : tie.Need-loop-less Inv-loop μ-loop
 loop-less c = search needs
 
 loop-again : tie.Need-loop-again Inv-loop μ-loop
-loop-again c = (hex-step _ _ _ (c .before .before .before .before .before .loop-test .taken) (c .before .before .before .glyph .ensures) (c .before .before .byte .ensures) ∙ c .before .before .before .before .before .before .loop .inv .0, c .before .before .byte .kept .0 ∙ c .before .before .before .before .before .before .loop .inv .1, omega arith)
+loop-again c = (
+  hex-step _ _ _ (c .before .before .before .before .before .loop-test .taken) (c .before .before .before .glyph .ensures) (c .before .before .byte .ensures) ∙ c .before .before .before
+      .before .before .before .loop .inv .0,
+  c .before .before .byte .kept .0 ∙ c .before .before .before .before .before .before .loop .inv .1,
+  omega arith,
+)
 
 same-length : tie.Need-same-length Inv-loop μ-loop
 same-length c = c .before .loop .inv .1

@@ -21,10 +21,15 @@ byte-requires-2 : tie.Need-byte-requires-2
 byte-requires-2 c κs = search needs
 
 same-length : tie.Need-same-length
-same-length c = c .before .before .byte2 .kept .0 ∙ c .before .before .before .before .before .before .observation-field .kept .0 ∙ c .before .before .before .before .before .before .before .before .before .before .subject-field .kept .0 ∙ c .before .before .before .before .before .before .before .before .before .before .before .before .before .before .decimal-field .kept .0 ∙ c .before .before .before .before .before .before .before .before .before .before .before .before .before .before .before .before .before .before .byte .kept .0
+same-length c = c .before .before .byte2 .kept .0 ∙ c .before .before .before .before .before .before .observation-field .kept .0 ∙ c .before .before .before .before .before .before .before .before
+    .before .before .subject-field .kept .0 ∙ c .before .before .before .before .before .before .before .before .before .before .before .before .before .before .decimal-field .kept .0 ∙ c .before
+    .before .before .before .before .before .before .before .before .before .before .before .before .before .before .before .before .before .byte .kept .0
 
 returns : tie.Need-returns
-returns c = refuses _ _ _ (c .before .before .before .before .before .before .before .before .before .before .before .before .before .before .before .before .before .before .byte .ensures) (c .before .before .before .before .before .before .before .before .before .before .before .before .before .before .decimal-field .ensures) (c .before .before .before .before .before .before .before .before .before .before .subject-field .ensures) (c .before .before .before .before .before .before .observation-field .ensures) (c .before .before .byte2 .ensures)
+returns c = refuses _ _ _ (c .before .before .before .before .before .before .before .before .before .before .before .before .before .before .before .before .before .before .byte .ensures)
+    (c .before .before .before .before .before .before .before .before .before .before .before .before .before .before .decimal-field .ensures)
+    (c .before .before .before .before .before .before .before .before .before .before .subject-field .ensures) (c .before .before .before .before .before .before .observation-field .ensures)
+    (c .before .before .byte2 .ensures)
 
 pub refused-spec : {M : Type 1} → statement M
 refused-spec =

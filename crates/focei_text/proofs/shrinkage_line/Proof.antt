@@ -20,7 +20,8 @@ same-length : tie.Need-same-length
 same-length c = search needs
 
 returns : tie.Need-returns
-returns c = shrinkage-told _ _ (c .before .before .before .before .before .before .before .before .before .before .before .byte .ensures) (c .before .before .before .before .before .before .before .to-word .ensures) (c .before .before .before .before .before .before .hexadecimal-field .ensures) (c .before .before .byte2 .ensures)
+returns c = shrinkage-told _ _ (c .before .before .before .before .before .before .before .before .before .before .before .byte .ensures)
+    (c .before .before .before .before .before .before .before .to-word .ensures) (c .before .before .before .before .before .before .hexadecimal-field .ensures) (c .before .before .byte2 .ensures)
 
 pub shrinkage-line-spec : {M : Type 1} → statement M
 shrinkage-line-spec =

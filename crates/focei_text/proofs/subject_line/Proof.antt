@@ -18,10 +18,13 @@ byte-requires-2 : tie.Need-byte-requires-2
 byte-requires-2 c κs = search needs
 
 same-length : tie.Need-same-length
-same-length c = c .before .before .byte2 .kept .0 ∙ c .before .before .before .before .before .before .hexadecimal-field .kept .0 ∙ c .before .before .before .before .before .before .before .before .before .before .decimal-field .kept .0 ∙ c .before .before .before .before .before .before .before .before .before .before .before .before .before .before .byte .kept .0
+same-length c = c .before .before .byte2 .kept .0 ∙ c .before .before .before .before .before .before .hexadecimal-field .kept .0 ∙ c .before .before .before .before .before .before .before .before
+    .before .before .decimal-field .kept .0 ∙ c .before .before .before .before .before .before .before .before .before .before .before .before .before .before .byte .kept .0
 
 returns : tie.Need-returns
-returns c = subject-told _ _ _ (c .before .before .before .before .before .before .before .before .before .before .before .before .before .before .byte .ensures) (c .before .before .before .before .before .before .before .before .before .before .decimal-field .ensures) (c .before .before .before .before .before .before .hexadecimal-field .ensures) (c .before .before .byte2 .ensures)
+returns c = subject-told _ _ _ (c .before .before .before .before .before .before .before .before .before .before .before .before .before .before .byte .ensures)
+    (c .before .before .before .before .before .before .before .before .before .before .decimal-field .ensures) (c .before .before .before .before .before .before .hexadecimal-field .ensures)
+    (c .before .before .byte2 .ensures)
 
 pub subject-line-spec : {M : Type 1} → statement M
 subject-line-spec =

@@ -11,7 +11,8 @@ use Rattle.focei_text.proofs.subject_lines.Statement.{statement}
 use Rattle.focei_text.proofs.subject_lines.Tie as tie
 
 abbrev Inv-loop : tie.InvT-loop
-Inv-loop out₀ at subjects results end₀ subject₀ out end subject = (write (subjectLines (subjects - subject) subject results) (written end out) ≡ write (subjectLines subjects 0 results) (written at out₀)) × (length out ≡ length out₀)
+Inv-loop out₀ at subjects results end₀ subject₀ out end subject = (write (subjectLines (subjects - subject) subject results) (written end out) ≡ write (subjectLines subjects 0 results)
+    (written at out₀)) × (length out ≡ length out₀)
 
 abbrev μ-loop : tie.MeasureT-loop
 μ-loop out₀ at subjects results end₀ subject₀ out end subject = subjects - subject
@@ -35,7 +36,11 @@ loop-less : tie.Need-loop-less Inv-loop μ-loop
 loop-less c = search needs
 
 loop-again : tie.Need-loop-again Inv-loop μ-loop
-loop-again c = (subjects-step _ _ _ _ (c .before .before .before .before .before .loop-test .taken) (c .before .before .before .read .ensures) (c .before .before .subject-line .ensures) ∙ c .before .before .before .before .before .before .loop .inv .0, c .before .before .subject-line .kept .0 ∙ c .before .before .before .before .before .before .loop .inv .1)
+loop-again c = (
+  subjects-step _ _ _ _ (c .before .before .before .before .before .loop-test .taken) (c .before .before .before .read .ensures) (c .before .before .subject-line .ensures) ∙ c .before
+      .before .before .before .before .before .loop .inv .0,
+  c .before .before .subject-line .kept .0 ∙ c .before .before .before .before .before .before .loop .inv .1,
+)
 
 same-length : tie.Need-same-length Inv-loop μ-loop
 same-length c = c .before .loop .inv .1

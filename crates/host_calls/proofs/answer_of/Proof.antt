@@ -15,7 +15,8 @@ enum-known-step-3 : tie.Need-enum-known-step-3
 enum-known-step-3 c = search needs
 
 returns : tie.Need-returns
-returns c = asked-words (c .before .before .before .before .before .step .given .1) (c .before .before .before .to-word .ensures) (c .before .before .to-word2 .ensures) (c .before .to-word3 .ensures) (c .to-word4 .ensures)
+returns c = asked-words (c .before .before .before .before .before .step .given .1) (c .before .before .before .to-word .ensures) (c .before .before .to-word2 .ensures) (c .before .to-word3 .ensures)
+    (c .to-word4 .ensures)
 
 returns-2 : tie.Need-returns-2
 returns-2 c = finished-words (c .before .before .step2 .given .1) (c .to-word5 .ensures)

@@ -11,7 +11,11 @@ same-length : tie.Need-same-length
 same-length c = search needs
 
 returns : tie.Need-returns
-returns c = (refl, c .before .before .write-answer .ensures ∙ ap (λ (a : AnswerWords). answered a (c .before .before .before .before .before .before .args .answer .now)) (c .before .before .before .before .place-words .ensures))
+returns c = (
+  refl,
+  c .before .before .write-answer .ensures ∙ ap (λ (a : AnswerWords). answered a (c .before .before .before .before .before .before .args .answer .now))
+      (c .before .before .before .before .place-words .ensures),
+)
 
 pub no-state-spec : {M : Type 1} → statement M
 no-state-spec = tie.close (tie.spec free free same-length returns)

@@ -21,10 +21,13 @@ same-length-3 : tie.Need-same-length-3
 same-length-3 c = search needs
 
 returns : tie.Need-returns
-returns c = let d = c .before .before .before .before .before .before .before .before .before .before .before .before .before .before in opens-told (d .args .begun) (d .args .state .now) (d .args .answer .now) (c .before .before .before .before .before .before .before .before .before .opening .given .1) (c .before .before .before .before .before .before .write-answer .ensures) (c .before .before .save .ensures)
+returns c = let d = c .before .before .before .before .before .before .before .before .before .before .before .before .before .before in opens-told (d .args .begun) (d .args .state .now)
+    (d .args .answer .now) (c .before .before .before .before .before .before .before .before .before .opening .given .1) (c .before .before .before .before .before .before .write-answer .ensures)
+    (c .before .before .save .ensures)
 
 returns-2 : tie.Need-returns-2
-returns-2 c = let d = c .before .before .before .before .before .before .before .before .before .before .before in refused-told (d .args .begun) (d .args .state .now) (d .args .answer .now) (c .before .before .before .before .before .before .opening2 .given .1) (c .before .before .before .before .place-words .ensures) (c .before .before .write-answer2 .ensures)
+returns-2 c = let d = c .before .before .before .before .before .before .before .before .before .before .before in refused-told (d .args .begun) (d .args .state .now) (d .args .answer .now)
+    (c .before .before .before .before .before .before .opening2 .given .1) (c .before .before .before .before .place-words .ensures) (c .before .before .write-answer2 .ensures)
 
 pub opened-spec : {M : Type 1} → statement M
 opened-spec = tie.close (tie.spec enum-known-opening free free enum-known-opening-2 free free same-length same-length-2 returns same-length-3 returns-2)

@@ -6,7 +6,20 @@ use Rattle.host_calls.proofs.setup_of.Statement.{statement}
 use Rattle.host_calls.proofs.setup_of.Tie as tie
 
 returns : tie.Need-returns
-returns c = (setup-made _ (c .additive-sd .ensures), setup-handed _ (record { o00 = search needs; o01 = search needs; o10 = search needs; o11 = search needs; bound = search needs; tolerance = search needs; additive = search needs; most = search needs }))
+returns c = (
+  setup-made _ (c .additive-sd .ensures),
+  setup-handed _ (record {
+    o00 = search needs;
+    o01 = search needs;
+    o10 = search needs;
+    o11 = search needs;
+    bound = search needs;
+    tolerance = search
+        needs;
+    additive = search needs;
+    most = search needs;
+  }),
+)
 
 pub setup-of-spec : {M : Type 1} → statement M
 setup-of-spec = tie.close (tie.spec free returns)

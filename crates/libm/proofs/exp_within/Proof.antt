@@ -45,7 +45,8 @@ returns-3 c =
     let c1 = c2 .before in
     let k = c .before .multiple .ensures in
     let small = subst (λ (z : ℤ). mag z < 1000) (sym k) (multiple-small _ _ (c1 .before .before .pre)) in
-    rw (← c1 .before .to-word .ensures) (no _ (lt-leb _ _ (c1 .if1 .left)) (no _ (lt-leb _ _ (c2 .if2 .left)) (c .exp-around .ensures ∙ ap (expAround _) (small-back (c .before .multiple .result) small ∙ k))))
+    rw (← c1 .before .to-word .ensures) (no _ (lt-leb _ _ (c1 .if1 .left)) (no _ (lt-leb _ _ (c2 .if2 .left)) (c .exp-around .ensures ∙ ap (expAround _)
+    (small-back (c .before .multiple .result) small ∙ k))))
 
 pub exp-within-spec : {M : Type 1} → statement M
 exp-within-spec =

@@ -108,7 +108,16 @@ carried : (z z′ : Check) (v : Val) → Is E.the-row z (v ∷ []) → z ≡ z�
 carried z z′ v is e = subst (λ (u : Check). Is E.the-row u (EL.val E.the-type E′.the-laws (u) ∷ [])) e (subst (Is E.the-row z) (EL.tells E.the-type E′.the-laws z (v ∷ []) is) is)
 
 abbrev stayed : Stays (f.ended .signature .params) (f.ended .kept)
-stayed = (stay-none-slice (0 ∷ []) tt (plain (λ _. O.the-row)) yes, (stay-none (λ _. usize) yes, (stay-none (λ _. usize) yes, (stay-none (λ _. E.the-row) yes, (stay-none (λ _. u32) yes, (stay-none-slice (1 ∷ []) tt (plain (λ _. u64)) yes, tt))))))
+stayed = (
+  stay-none-slice (0 ∷ []) tt (plain (λ _. O.the-row)) yes,
+  (
+    stay-none (λ _. usize) yes,
+    (
+      stay-none (λ _. usize) yes,
+      (stay-none (λ _. E.the-row) yes, (stay-none (λ _. u32) yes, (stay-none-slice (1 ∷ []) tt (plain (λ _. u64)) yes, tt))),
+    ),
+  ),
+)
 
 module _ {M : Type 1} (𝓤 : URA M) (H : Heap 𝓤) (A : Atoms 𝓤) (at-mem : Memory → SProp 𝓤) (run : Routine → Fun 𝓤) where
   abbrev j-con : Contract 𝓤
@@ -121,8 +130,10 @@ module _ {M : Type 1} (𝓤 : URA M) (H : Heap 𝓤) (A : Atoms 𝓤) (at-mem : 
   add-con = tripleOf 𝓤 H A add.signature (add.spec 𝓤 H A at-mem run)
 
 module _ {M : Type 1} (𝓤 : URA M) (H : Heap 𝓤) (A : Atoms 𝓤) (W : Given 𝓤 H A) (at-mem : Memory → SProp 𝓤) (run : Routine → Fun 𝓤)
-    (κ-observations : Lft) (q-observations : Share) (κ-counts : Lft) (q-counts : Share) (x-observations : RefT (List Observation)) (x-from : ℕ) (x-to : ℕ) (x-acc : Check) (x-width : ℕ) (x-counts : RefT (List ℕ))
-    (room-observations : Room O.the-row (length (x-observations .now))) (is-from : Is usize x-from (vint w64 (x-from) ∷ [])) (is-to : Is usize x-to (vint w64 (x-to) ∷ [])) (is-acc : Is E.the-row x-acc (EL.val E.the-type E′.the-laws (x-acc) ∷ [])) (is-width : Is u32 x-width (vint w32 (x-width) ∷ [])) (room-counts : Room u64 (length (x-counts .now))) where
+    (κ-observations : Lft) (q-observations : Share) (κ-counts : Lft) (q-counts : Share) (x-observations : RefT (List Observation)) (x-from : ℕ) (x-to : ℕ) (x-acc : Check) (x-width : ℕ)
+    (x-counts : RefT (List ℕ))
+    (room-observations : Room O.the-row (length (x-observations .now))) (is-from : Is usize x-from (vint w64 (x-from) ∷ [])) (is-to : Is usize x-to (vint w64 (x-to) ∷ []))
+    (is-acc : Is E.the-row x-acc (EL.val E.the-type E′.the-laws (x-acc) ∷ [])) (is-width : Is u32 x-width (vint w32 (x-width) ∷ [])) (room-counts : Room u64 (length (x-counts .now))) where
   abbrev Arg : Type 0
   Arg = (RefT (List Observation) × (ℕ × (ℕ × (Check × (ℕ × (RefT (List ℕ) × Unit {0}))))))
 
@@ -133,7 +144,16 @@ module _ {M : Type 1} (𝓤 : URA M) (H : Heap 𝓤) (A : Atoms 𝓤) (W : Given
   Vals = (List Val × (List Val × (List Val × (List Val × (List Val × (List Val × Unit {0}))))))
 
   abbrev at : Vals
-  at = (sliceVal (x-observations .ptr) (length (x-observations .now)) ∷ [], (vint w64 (x-from) ∷ [], (vint w64 (x-to) ∷ [], (EL.val E.the-type E′.the-laws (x-acc) ∷ [], (vint w32 (x-width) ∷ [], (sliceVal (x-counts .ptr) (length (x-counts .now)) ∷ [], tt))))))
+  at = (
+    sliceVal (x-observations .ptr) (length (x-observations .now)) ∷ [],
+    (
+      vint w64 (x-from) ∷ [],
+      (
+        vint w64 (x-to) ∷ [],
+        (EL.val E.the-type E′.the-laws (x-acc) ∷ [], (vint w32 (x-width) ∷ [], (sliceVal (x-counts .ptr) (length (x-counts .now)) ∷ [], tt))),
+      ),
+    ),
+  )
 
   abbrev bound : walkOf 𝓤 H A f.ended stayed (f.clauses 𝓤 H A at-mem run) .Ghost
   bound = (((κ-observations, (κ-counts, tt)), (q-observations, (q-counts, tt)), tt, x, at), tt)
@@ -160,7 +180,8 @@ module _ {M : Type 1} (𝓤 : URA M) (H : Heap 𝓤) (A : Atoms 𝓤) (W : Given
   after : (k : ℕ) → k < n → (o : Observation) (r : Check) → o ≡ getD (x-observations .now) (x-from + k) noObservation → r ≡ checkObservation x-width (x-counts .now) o (ev k) → r ≡ st (k + 1)
   after k b o r d g =
       let b′ : k < length ys = subst (λ (m : ℕ). k < m) (sym long) b in
-      g ∙ ap (λ (u : Observation). checkObservation x-width (x-counts .now) u (ev k)) (d ∙ at-part noObservation (x-observations .now) x-from (x-to - x-from) k b′) ∙ sym (one-checked x-width (x-counts .now) ys x-acc k b′) ∙ ap st (sym (one-more k))
+      g ∙ ap (λ (u : Observation). checkObservation x-width (x-counts .now) u (ev k)) (d ∙ at-part noObservation (x-observations .now) x-from (x-to - x-from) k b′) ∙ sym
+      (one-checked x-width (x-counts .now) ys x-acc k b′) ∙ ap st (sym (one-more k))
 
   whole-run : (k : ℕ) → k ≡ n → (ev k) ≡ checkObservations x-width (x-counts .now) ys x-acc
   whole-run k d = ap st d ∙ ap (λ (os : List Observation). checkObservations x-width (x-counts .now) os x-acc) (ap (λ (m : ℕ). take m ys) (sym long) ∙ take-all ys)
@@ -171,10 +192,12 @@ module _ {M : Type 1} (𝓤 : URA M) (H : Heap 𝓤) (A : Atoms 𝓤) (W : Given
   abbrev Less : ℕ → ℕ → Type 0
   Less j i = n - j < n - i
 
-  module _ (𝓣 : Tables 𝓤 H) (known-j : Triple 𝓤 (𝓣 .C #j) (j-con 𝓤 H A at-mem run)) (known-g : Triple 𝓤 (𝓣 .C #g) (g-con 𝓤 H A at-mem run)) (known-add : Triple 𝓤 (𝓣 .C #add) (add-con 𝓤 H A at-mem run)) where
+  module _ (𝓣 : Tables 𝓤 H) (known-j : Triple 𝓤 (𝓣 .C #j) (j-con 𝓤 H A at-mem run)) (known-g : Triple 𝓤 (𝓣 .C #g) (g-con 𝓤 H A at-mem run))
+      (known-add : Triple 𝓤 (𝓣 .C #add) (add-con 𝓤 H A at-mem run)) where
     module _ (l₀ l₁ l₂ l₃ l₄ l₅ l₆ l₇ l₈ l₉ l₁₀ l₁₁ l₁₂ : ℕ) where
       abbrev En : Env 𝓤 H
-      En = (ty-E, l₀) ∷ (slice-observations, l₁) ∷ (word, l₂) ∷ (word, l₃) ∷ (ty-E, l₄) ∷ (half-word, l₅) ∷ (slice-counts, l₆) ∷ (word, l₇) ∷ (ty-E, l₈) ∷ (word, l₉) ∷ (ty-O, l₁₀) ∷ (word, l₁₁) ∷ (tyBool, l₁₂) ∷ []
+      En = (ty-E, l₀) ∷ (slice-observations, l₁) ∷ (word, l₂) ∷ (word, l₃) ∷ (ty-E, l₄) ∷ (half-word, l₅) ∷ (slice-counts, l₆) ∷ (word, l₇) ∷ (ty-E, l₈) ∷ (word, l₉) ∷ (ty-O, l₁₀) ∷ (word, l₁₁) ∷
+          (tyBool, l₁₂) ∷ []
 
       abbrev Inv : ℕ → List (Item 𝓤)
       Inv k = ‵ (flt k (suc n))
@@ -222,42 +245,119 @@ module _ {M : Type 1} (𝓤 : URA M) (H : Heap 𝓤) (A : Atoms 𝓤) (W : Given
           -- [tk-observations; tk-counts; o-observations; o-counts; _12 (4); _11 (6); _10 (8); _9 (10); _8 (12); _7 (14); _6 (16); _5 (18); _4 (20); _3 (22); _2 (24); _1 (26); _0 (28)]
           assigns ! (bin ! (load ! (from ! (stop !)) (look ! 10 refl)) (load ! (from ! (stop !)) (look ! 14 refl)) tt) (from ! (stop !)) (init ! 4 refl (tt, tt)) $
           tests ! (load ! (from ! (stop !)) (look ! 4 refl)) (λ held.
-          move ! (2 ∷ []) $ use1 W (‵ (ShrSlice (named 0) κ-observations O.the-row .own (x-observations) (sliceVal (x-observations .ptr) (length (x-observations .now)) ∷ [])) ⊛ ‵ (ShrSlice (named 0) κ-observations O.the-row .own (x-observations) (sliceVal (x-observations .ptr) (length (x-observations .now)) ∷ []))) (shr-slice-copy 𝓤 H A W (named 0) κ-observations O.the-row .twice x-observations (sliceVal (x-observations .ptr) (length (x-observations .now)) ∷ [])) $ split ! $
+          move ! (2 ∷ []) $ use1 W (‵ (ShrSlice (named 0) κ-observations O.the-row .own (x-observations) (sliceVal (x-observations .ptr) (length (x-observations .now)) ∷ [])) ⊛ ‵
+          (ShrSlice (named 0) κ-observations O.the-row .own (x-observations) (sliceVal (x-observations .ptr) (length (x-observations .now)) ∷ [])))
+          (shr-slice-copy 𝓤 H A W (named 0) κ-observations O.the-row .twice x-observations (sliceVal (x-observations .ptr) (length (x-observations .now)) ∷ [])) $ split ! $
           -- `observation_at`
-          move ! (2 ∷ 1 ∷ []) $ use2 W (raw (g-con 𝓤 H A at-mem run .pre (((κ-observations, tt), (q-observations, tt), tt, (x-observations, ((x-from + k), tt)), (sliceVal (x-observations .ptr) (length (x-observations .now)) ∷ [], (vint w64 (x-from + k) ∷ [], tt))), tt))) (qed W (‵ (flft κ-observations q-observations) ∷ ‵ (ShrSlice (named 0) κ-observations O.the-row .own (x-observations) (sliceVal (x-observations .ptr) (length (x-observations .now)) ∷ [])) ∷ []) ∵ says ! (below x-from k (length (x-observations .now)) x-to (ltb→lt (x-from + k) e held)) $ nothing ! $ move ! (1 ∷ 0 ∷ []) $ join ! $ frame ! $ nothing ! $ owned ! usize (Is usize) (uint-makes 𝓤 H A W w64) (x-from + k) (vint w64 (x-from + k) ∷ []) (refl, fits-at x-from k (length (x-observations .now)) x-to (ltb→lt (x-from + k) e held) (room-observations .0)) $ fjoin ! $ move ! (1 ∷ 0 ∷ []) $ fjoin ! $ done !) $
-          calls-at ! (fmOf 𝓤 H (W .laws) 𝓣) (g-con 𝓤 H A at-mem run) known-g (((κ-observations, tt), (q-observations, tt), tt, (x-observations, ((x-from + k), tt)), (sliceVal (x-observations .ptr) (length (x-observations .now)) ∷ [], (vint w64 (x-from + k) ∷ [], tt))), tt) (and-then ! (load ! (from ! (stop !)) (look ! 26 refl)) (and-then ! (load ! (from ! (stop !)) (look ! 10 refl)) (no-more !))) (λ v1.
-          use1 W (later (some (λ (r1 : Observation). ((‵ (flft κ-observations q-observations) ⊛ ‵ ftrue) ⊛ ‵ (O.the-row .own r1 (v1 ∷ []))) ⊛ raw (ensured 𝓤 H A g.ended (g.clauses 𝓤 H A at-mem run) (κ-observations, tt) (x-observations, ((x-from + k), tt)) tt r1)))) (id⊢ 𝓤 _) $ await ! tt $ pick ! (λ r1.
+          move ! (2 ∷ 1 ∷ []) $ use2 W (raw (g-con 𝓤 H A at-mem run .pre (
+            (
+              (κ-observations, tt),
+              (q-observations, tt),
+              tt,
+              (x-observations, ((x-from + k), tt)),
+              (sliceVal (x-observations .ptr) (length (x-observations .now)) ∷ [], (vint w64 (x-from + k) ∷ [], tt)),
+            ),
+            tt,
+          )))
+          (qed W (‵ (flft κ-observations q-observations) ∷ ‵ (ShrSlice (named 0) κ-observations O.the-row .own (x-observations)
+          (sliceVal (x-observations .ptr) (length (x-observations .now)) ∷ [])) ∷ []) ∵ says ! (below x-from k (length (x-observations .now)) x-to (ltb→lt (x-from + k) e held)) $ nothing ! $ move
+          ! (1 ∷ 0 ∷ []) $ join ! $ frame ! $ nothing ! $ owned ! usize (Is usize) (uint-makes 𝓤 H A W w64) (x-from + k) (vint w64 (x-from + k) ∷ [])
+          (refl, fits-at x-from k (length (x-observations .now)) x-to (ltb→lt (x-from + k) e held) (room-observations .0)) $ fjoin ! $ move ! (1 ∷ 0 ∷ []) $ fjoin ! $ done !) $
+          calls-at ! (fmOf 𝓤 H (W .laws) 𝓣) (g-con 𝓤 H A at-mem run) known-g (
+            (
+              (κ-observations, tt),
+              (q-observations, tt),
+              tt,
+              (x-observations, ((x-from + k), tt)),
+              (sliceVal (x-observations .ptr) (length (x-observations .now)) ∷ [], (vint w64 (x-from + k) ∷ [], tt)),
+            ),
+            tt,
+          )
+          (and-then ! (load ! (from ! (stop !)) (look ! 26 refl)) (and-then ! (load ! (from ! (stop !)) (look ! 10 refl)) (no-more !))) (λ v1.
+          use1 W (later (some (λ (r1 : Observation). ((‵ (flft κ-observations q-observations) ⊛ ‵ ftrue) ⊛ ‵ (O.the-row .own r1 (v1 ∷ []))) ⊛ raw
+          (ensured 𝓤 H A g.ended (g.clauses 𝓤 H A at-mem run) (κ-observations, tt) (x-observations, ((x-from + k), tt)) tt r1)))) (id⊢ 𝓤 _) $ await ! tt $ pick ! (λ r1.
           split ! $ split ! $
-          move ! (2 ∷ []) $ use1 W (some (λ (z1 : (Unit {0} × (Unit {0} × Unit {0}))). ‵ (lasts g.ended (κ-observations, tt) (x-observations, ((x-from + k), tt)) z1) ⊛ raw (fact 𝓤 (r1 ≡ getD (x-observations .now) (x-from + k) noObservation)))) (id⊢ 𝓤 _) $ pick ! (λ z1.
+          move ! (2 ∷ []) $ use1 W (some (λ (z1 : (Unit {0} × (Unit {0} × Unit {0}))). ‵ (lasts g.ended (κ-observations, tt) (x-observations, ((x-from + k), tt)) z1) ⊛ raw
+          (fact 𝓤 (r1 ≡ getD (x-observations .now) (x-from + k) noObservation)))) (id⊢ 𝓤 _) $ pick ! (λ z1.
           split ! $ move ! (1 ∷ []) $ heard ! (r1 ≡ getD (x-observations .now) (x-from + k) noObservation) (λ e1.
           fsplit ! $ drop ! $ fsplit ! $ drop ! $ drop ! $
           move ! (1 ∷ []) $ facts ! O.the-row (Is O.the-row) (shows 𝓤 H A O.the-row) r1 (v1 ∷ []) (λ is1.
           land ! (from ! (stop !)) (init ! 8 refl (LL.lawful O.the-type O′.the-laws 𝓤 H A W .typed r1 _ is1 .0)) $
           split ! $ move ! (1 ∷ []) $ drop ! $
-          move ! (3 ∷ []) $ use1 W (‵ (ShrSlice (named 1) κ-counts u64 .own (x-counts) (sliceVal (x-counts .ptr) (length (x-counts .now)) ∷ [])) ⊛ ‵ (ShrSlice (named 1) κ-counts u64 .own (x-counts) (sliceVal (x-counts .ptr) (length (x-counts .now)) ∷ []))) (shr-slice-copy 𝓤 H A W (named 1) κ-counts u64 .twice x-counts (sliceVal (x-counts .ptr) (length (x-counts .now)) ∷ [])) $ split ! $
+          move ! (3 ∷ []) $ use1 W (‵ (ShrSlice (named 1) κ-counts u64 .own (x-counts) (sliceVal (x-counts .ptr) (length (x-counts .now)) ∷ [])) ⊛ ‵
+          (ShrSlice (named 1) κ-counts u64 .own (x-counts) (sliceVal (x-counts .ptr) (length (x-counts .now)) ∷ [])))
+          (shr-slice-copy 𝓤 H A W (named 1) κ-counts u64 .twice x-counts (sliceVal (x-counts .ptr) (length (x-counts .now)) ∷ [])) $ split ! $
           -- `check_observation`
-          move ! (4 ∷ 1 ∷ []) $ use2 W (raw (add-con 𝓤 H A at-mem run .pre (((κ-counts, tt), (q-counts, tt), tt, ((ev k), (r1, (x-width, (x-counts, tt)))), (EL.val E.the-type E′.the-laws (ev k) ∷ [], (v1 ∷ [], (vint w32 (x-width) ∷ [], (sliceVal (x-counts .ptr) (length (x-counts .now)) ∷ [], tt))))), tt))) (qed W (‵ (flft κ-counts q-counts) ∷ ‵ (ShrSlice (named 1) κ-counts u64 .own (x-counts) (sliceVal (x-counts .ptr) (length (x-counts .now)) ∷ [])) ∷ []) ∵ nothing ! $ move ! (1 ∷ 0 ∷ []) $ join ! $ nothing ! $ move ! (2 ∷ 0 ∷ []) $ fjoin ! $ owned ! u32 (Is u32) (uint-makes 𝓤 H A W w32) x-width (vint w32 (x-width) ∷ []) is-width $ fjoin ! $ owned ! O.the-row (Is O.the-row) (LL.makes O.the-type O′.the-plain 𝓤 H A) r1 (v1 ∷ []) is1 $ fjoin ! $ owned ! E.the-row (Is E.the-row) (EL.makes E.the-type E′.the-plain 𝓤 H A) (ev k) (EL.val E.the-type E′.the-laws (ev k) ∷ []) acc-is $ fjoin ! $ move ! (1 ∷ 0 ∷ []) $ join ! $ nothing ! $ move ! (1 ∷ 0 ∷ []) $ done !) $
-          calls-at ! (fmOf 𝓤 H (W .laws) 𝓣) (add-con 𝓤 H A at-mem run) known-add (((κ-counts, tt), (q-counts, tt), tt, ((ev k), (r1, (x-width, (x-counts, tt)))), (EL.val E.the-type E′.the-laws (ev k) ∷ [], (v1 ∷ [], (vint w32 (x-width) ∷ [], (sliceVal (x-counts .ptr) (length (x-counts .now)) ∷ [], tt))))), tt) (and-then ! (load ! (from ! (stop !)) (look ! 12 refl)) (and-then ! (load ! (from ! (stop !)) (look ! 8 refl)) (and-then ! (load ! (from ! (stop !)) (look ! 18 refl)) (and-then ! (load ! (from ! (stop !)) (look ! 16 refl)) (no-more !))))) (λ v2.
-          use1 W (later (some (λ (r2 : Check). ((‵ (flft κ-counts q-counts) ⊛ ‵ ftrue) ⊛ ‵ (E.the-row .own r2 (v2 ∷ []))) ⊛ raw (ensured 𝓤 H A add.ended (add.clauses 𝓤 H A at-mem run) (κ-counts, tt) ((ev k), (r1, (x-width, (x-counts, tt)))) tt r2)))) (id⊢ 𝓤 _) $ await ! tt $ pick ! (λ r2.
+          move ! (4 ∷ 1 ∷ []) $ use2 W (raw (add-con 𝓤 H A at-mem run .pre (
+            (
+              (κ-counts, tt),
+              (q-counts, tt),
+              tt,
+              ((ev k), (r1, (x-width, (x-counts, tt)))),
+              (EL.val E.the-type E′.the-laws (ev k) ∷ [], (v1 ∷ [], (vint w32 (x-width) ∷ [], (sliceVal (x-counts .ptr) (length (x-counts .now)) ∷ [], tt)))),
+            ),
+            tt,
+          )))
+          (qed W (‵ (flft κ-counts q-counts) ∷ ‵ (ShrSlice (named 1) κ-counts u64 .own (x-counts) (sliceVal (x-counts .ptr) (length (x-counts .now)) ∷ [])) ∷ []) ∵ nothing ! $ move ! (1 ∷ 0 ∷ [])
+          $ join ! $ nothing ! $ move ! (2 ∷ 0 ∷ []) $ fjoin ! $ owned ! u32 (Is u32) (uint-makes 𝓤 H A W w32) x-width (vint w32 (x-width) ∷ []) is-width $ fjoin ! $ owned ! O.the-row
+          (Is O.the-row) (LL.makes O.the-type O′.the-plain 𝓤 H A) r1 (v1 ∷ []) is1 $ fjoin ! $ owned ! E.the-row (Is E.the-row) (EL.makes E.the-type E′.the-plain 𝓤 H A) (ev k)
+          (EL.val E.the-type E′.the-laws (ev k) ∷ []) acc-is $ fjoin ! $ move ! (1 ∷ 0 ∷ []) $ join ! $ nothing ! $ move ! (1 ∷ 0 ∷ []) $ done !) $
+          calls-at ! (fmOf 𝓤 H (W .laws) 𝓣) (add-con 𝓤 H A at-mem run) known-add (
+            (
+              (κ-counts, tt),
+              (q-counts, tt),
+              tt,
+              ((ev k), (r1, (x-width, (x-counts, tt)))),
+              (EL.val E.the-type E′.the-laws (ev k) ∷ [], (v1 ∷ [], (vint w32 (x-width) ∷ [], (sliceVal (x-counts .ptr) (length (x-counts .now)) ∷ [], tt)))),
+            ),
+            tt,
+          )
+          (and-then ! (load ! (from ! (stop !)) (look ! 12 refl)) (and-then ! (load ! (from ! (stop !)) (look ! 8 refl))
+          (and-then ! (load ! (from ! (stop !)) (look ! 18 refl)) (and-then ! (load ! (from ! (stop !)) (look ! 16 refl)) (no-more !))))) (λ v2.
+          use1 W (later (some (λ (r2 : Check). ((‵ (flft κ-counts q-counts) ⊛ ‵ ftrue) ⊛ ‵ (E.the-row .own r2 (v2 ∷ []))) ⊛ raw
+          (ensured 𝓤 H A add.ended (add.clauses 𝓤 H A at-mem run) (κ-counts, tt) ((ev k), (r1, (x-width, (x-counts, tt)))) tt r2)))) (id⊢ 𝓤 _) $ await ! tt $ pick ! (λ r2.
           split ! $ split ! $
-          move ! (2 ∷ []) $ use1 W (some (λ (z2 : (Unit {0} × (Unit {0} × (Unit {0} × (Unit {0} × Unit {0}))))). ‵ (lasts add.ended (κ-counts, tt) ((ev k), (r1, (x-width, (x-counts, tt)))) z2) ⊛ raw (fact 𝓤 (r2 ≡ checkObservation x-width (x-counts .now) r1 (ev k))))) (id⊢ 𝓤 _) $ pick ! (λ z2.
+          move ! (2 ∷ []) $ use1 W (some (λ (z2 : (Unit {0} × (Unit {0} × (Unit {0} × (Unit {0} × Unit {0}))))). ‵ (lasts add.ended (κ-counts, tt) ((ev k), (r1, (x-width, (x-counts, tt)))) z2) ⊛ raw
+          (fact 𝓤 (r2 ≡ checkObservation x-width (x-counts .now) r1 (ev k))))) (id⊢ 𝓤 _) $ pick ! (λ z2.
           split ! $ move ! (1 ∷ []) $ heard ! (r2 ≡ checkObservation x-width (x-counts .now) r1 (ev k)) (λ e2.
           fsplit ! $ drop ! $ fsplit ! $ drop ! $ fsplit ! $ drop ! $ fsplit ! $ drop ! $ drop ! $
           move ! (1 ∷ []) $ facts ! E.the-row (Is E.the-row) (shows 𝓤 H A E.the-row) r2 (v2 ∷ []) (λ is2.
           land ! (from ! (stop !)) (store ! 12 refl (EL.lawful E.the-type E′.the-laws 𝓤 H A W tt .typed r2 _ is2 .0)) $
           split ! $ move ! (1 ∷ []) $ drop ! $
           -- the state is that of one more
-          rewrite ! 12 (λ (u : Val). ‵ (fat fullShare ty-E l₈ 0 u)) (ap only (EL.tells E.the-type E′.the-laws r2 _ is2) ∙ ap (λ (u : Check). EL.val E.the-type E′.the-laws (u)) (after k (inside x-from k e (ltb→lt (x-from + k) e held)) r1 r2 e1 e2)) refl $
-          assigns-last ! (bin ! (load ! (from ! (stop !)) (look ! 10 refl)) (lit ! tt) (record { fits = fits-next x-from k (length (x-observations .now)) x-to (ltb→lt (x-from + k) e held) (room-observations .0) })) (from ! (stop !)) (store ! 10 refl (tt, (record { fits = fits-next x-from k (length (x-observations .now)) x-to (ltb→lt (x-from + k) e held) (room-observations .0) }))) $
+          rewrite ! 12 (λ (u : Val). ‵ (fat fullShare ty-E l₈ 0 u)) (ap only (EL.tells E.the-type E′.the-laws r2 _ is2) ∙ ap (λ (u : Check). EL.val E.the-type E′.the-laws (u))
+          (after k (inside x-from k e (ltb→lt (x-from + k) e held)) r1 r2 e1 e2)) refl $
+          assigns-last ! (bin ! (load ! (from ! (stop !)) (look ! 10 refl)) (lit ! tt) (record {
+            fits = fits-next x-from k (length (x-observations .now)) x-to (ltb→lt (x-from + k) e held)
+                (room-observations .0);
+          })) (from ! (stop !)) (store ! 10 refl (
+            tt,
+            (record {
+              fits = fits-next x-from k (length (x-observations .now)) x-to (ltb→lt (x-from + k) e held)
+                  (room-observations .0);
+            }),
+          )) $
           rewrite ! 10 (λ (u : ℕ). ‵ (fat fullShare word l₉ 0 (vint w64 u))) (shifts x-from k) refl $
-          forget ! 8 refl $ forget ! 4 refl $ owned ! E.the-row (Is E.the-row) (EL.makes E.the-type E′.the-plain 𝓤 H A) (ev (k + 1)) (_) (carried r2 (ev (k + 1)) v2 is2 (after k (inside x-from k e (ltb→lt (x-from + k) e held)) r1 r2 e1 e2)) $ fltI ! (k + 1) (suc n) (within k n (inside x-from k e (ltb→lt (x-from + k) e held))) $
-          keep ! (0 ∷ 1 ∷ 4 ∷ 2 ∷ 5 ∷ 3 ∷ 6 ∷ 7 ∷ 8 ∷ 9 ∷ 10 ∷ 11 ∷ 12 ∷ 13 ∷ 14 ∷ 15 ∷ 16 ∷ 17 ∷ 18 ∷ 19 ∷ 20 ∷ 21 ∷ 22 ∷ 23 ∷ 24 ∷ 25 ∷ 26 ∷ 27 ∷ 28 ∷ 29 ∷ 30 ∷ 31 ∷ []) $ again ! Less Inv k (k + 1) (fewer k n (inside x-from k e (ltb→lt (x-from + k) e held)))))))))))))) (λ failed.
+          forget ! 8 refl $ forget ! 4 refl $ owned ! E.the-row (Is E.the-row) (EL.makes E.the-type E′.the-plain 𝓤 H A) (ev (k + 1)) (_)
+          (carried r2 (ev (k + 1)) v2 is2 (after k (inside x-from k e (ltb→lt (x-from + k) e held)) r1 r2 e1 e2)) $ fltI ! (k + 1) (suc n)
+          (within k n (inside x-from k e (ltb→lt (x-from + k) e held))) $
+          keep ! (0 ∷ 1 ∷ 4 ∷ 2 ∷ 5 ∷ 3 ∷ 6 ∷ 7 ∷ 8 ∷ 9 ∷ 10 ∷ 11 ∷ 12 ∷ 13 ∷ 14 ∷ 15 ∷ 16 ∷ 17 ∷ 18 ∷ 19 ∷ 20 ∷ 21 ∷ 22 ∷ 23 ∷ 24 ∷ 25 ∷ 26 ∷ 27 ∷ 28 ∷ 29 ∷ 30 ∷ 31 ∷ []) $ again ! Less Inv k (k + 1)
+          (fewer k n (inside x-from k e (ltb→lt (x-from + k) e held)))))))))))))) (λ failed.
           -- the loop is left
-          exec ! (𝓣 .C) (𝓣 .Λ) En body.t-6 (atRet En Post) $ assigns ! (of-opd ! (load ! (from ! (stop !)) (look ! 12 refl))) (from ! (stop !)) (init ! 28 refl (EL.lawful E.the-type E′.the-laws 𝓤 H A W tt .typed (ev k) _ acc-is .0)) $
-          returns ! (look ! 28 refl) $ forget ! 28 refl $ forget ! 26 refl $ forget ! 24 refl $ forget ! 22 refl $ forget ! 20 refl $ forget ! 18 refl $ forget ! 16 refl $ forget ! 14 refl $ forget ! 12 refl $ forget ! 10 refl $ forget ! 6 refl $ forget ! 4 refl $
-          move ! (28 ∷ 29 ∷ []) $ free1 ! $ move ! (26 ∷ 27 ∷ []) $ free1 ! $ move ! (24 ∷ 25 ∷ []) $ free1 ! $ move ! (22 ∷ 23 ∷ []) $ free1 ! $ move ! (20 ∷ 21 ∷ []) $ free1 ! $ move ! (18 ∷ 19 ∷ []) $ free1 ! $ move ! (16 ∷ 17 ∷ []) $ free1 ! $ move ! (14 ∷ 15 ∷ []) $ free1 ! $ move ! (12 ∷ 13 ∷ []) $ free1 ! $ move ! (10 ∷ 11 ∷ []) $ free1 ! $ move ! (8 ∷ 9 ∷ []) $ free1 ! $ move ! (6 ∷ 7 ∷ []) $ free1 ! $ move ! (4 ∷ 5 ∷ []) $ free1 ! $ free0 ! $
-          keep ! (0 ∷ 1 ∷ 2 ∷ 3 ∷ []) $ suffices ! _ (ends-at 𝓤 H A f.ended stayed (f.clauses 𝓤 H A at-mem run) W bound (EL.val E.the-type E′.the-laws (ev k)) (ev k) (tt, (tt, (tt, (tt, (tt, (tt, tt)))))) (tt, (tt, (tt, (tt, (tt, (tt, tt))))))) $ says ! (whole-run k (at-end x-from k e le (nltb→le (x-from + k) e failed))) $
-          nothing ! $ move ! (2 ∷ 0 ∷ []) $ join ! $ move ! (1 ∷ 0 ∷ []) $ join ! $ frame ! $ nothing ! $ move ! (2 ∷ 0 ∷ []) $ fjoin ! $ owned ! u32 (Is u32) (uint-makes 𝓤 H A W w32) x-width (vint w32 (x-width) ∷ []) is-width $ fjoin ! $ owned ! E.the-row (Is E.the-row) (EL.makes E.the-type E′.the-plain 𝓤 H A) x-acc (EL.val E.the-type E′.the-laws (x-acc) ∷ []) is-acc $ fjoin ! $ owned ! usize (Is usize) (uint-makes 𝓤 H A W w64) x-to (vint w64 (x-to) ∷ []) is-to $ fjoin ! $ owned ! usize (Is usize) (uint-makes 𝓤 H A W w64) x-from (vint w64 (x-from) ∷ []) is-from $ fjoin ! $ move ! (1 ∷ 0 ∷ []) $ fjoin ! $ owned ! E.the-row (Is E.the-row) (EL.makes E.the-type E′.the-plain 𝓤 H A) (ev k) (EL.val E.the-type E′.the-laws (ev k) ∷ []) acc-is $ move ! (1 ∷ 0 ∷ []) $
+          exec ! (𝓣 .C) (𝓣 .Λ) En body.t-6 (atRet En Post) $ assigns ! (of-opd ! (load ! (from ! (stop !)) (look ! 12 refl))) (from ! (stop !))
+          (init ! 28 refl (EL.lawful E.the-type E′.the-laws 𝓤 H A W tt .typed (ev k) _ acc-is .0)) $
+          returns ! (look ! 28 refl) $ forget ! 28 refl $ forget ! 26 refl $ forget ! 24 refl $ forget ! 22 refl $ forget ! 20 refl $ forget ! 18 refl $ forget ! 16 refl $ forget ! 14 refl $ forget !
+          12 refl $ forget ! 10 refl $ forget ! 6 refl $ forget ! 4 refl $
+          move ! (28 ∷ 29 ∷ []) $ free1 ! $ move ! (26 ∷ 27 ∷ []) $ free1 ! $ move ! (24 ∷ 25 ∷ []) $ free1 ! $ move ! (22 ∷ 23 ∷ []) $ free1 ! $ move ! (20 ∷ 21 ∷ []) $ free1 ! $ move !
+          (18 ∷ 19 ∷ []) $ free1 ! $ move ! (16 ∷ 17 ∷ []) $ free1 ! $ move ! (14 ∷ 15 ∷ []) $ free1 ! $ move ! (12 ∷ 13 ∷ []) $ free1 ! $ move ! (10 ∷ 11 ∷ []) $ free1 ! $ move ! (8 ∷ 9 ∷ []) $
+          free1 ! $ move ! (6 ∷ 7 ∷ []) $ free1 ! $ move ! (4 ∷ 5 ∷ []) $ free1 ! $ free0 ! $
+          keep ! (0 ∷ 1 ∷ 2 ∷ 3 ∷ []) $ suffices ! _ (ends-at 𝓤 H A f.ended stayed (f.clauses 𝓤 H A at-mem run) W bound (EL.val E.the-type E′.the-laws (ev k)) (ev k)
+          (tt, (tt, (tt, (tt, (tt, (tt, tt)))))) (tt, (tt, (tt, (tt, (tt, (tt, tt))))))) $ says ! (whole-run k (at-end x-from k e le (nltb→le (x-from + k) e failed))) $
+          nothing ! $ move ! (2 ∷ 0 ∷ []) $ join ! $ move ! (1 ∷ 0 ∷ []) $ join ! $ frame ! $ nothing ! $ move ! (2 ∷ 0 ∷ []) $ fjoin ! $ owned ! u32 (Is u32) (uint-makes 𝓤 H A W w32) x-width
+          (vint w32 (x-width) ∷ []) is-width $ fjoin ! $ owned ! E.the-row (Is E.the-row) (EL.makes E.the-type E′.the-plain 𝓤 H A) x-acc (EL.val E.the-type E′.the-laws (x-acc) ∷ []) is-acc $ fjoin
+          ! $ owned ! usize (Is usize) (uint-makes 𝓤 H A W w64) x-to (vint w64 (x-to) ∷ []) is-to $ fjoin ! $ owned ! usize (Is usize) (uint-makes 𝓤 H A W w64) x-from (vint w64 (x-from) ∷ [])
+          is-from $ fjoin ! $ move ! (1 ∷ 0 ∷ []) $ fjoin ! $ owned ! E.the-row (Is E.the-row) (EL.makes E.the-type E′.the-plain 𝓤 H A) (ev k) (EL.val E.the-type E′.the-laws (ev k) ∷ []) acc-is $
+          move ! (1 ∷ 0 ∷ []) $
           done !)))
 
       around : ent 𝓤 (⋆ 𝓤 H A (Inv 0)) (Wp 𝓤 H (𝓣 .C) (𝓣 .Λ) En (loop body.turn-1) Left)
@@ -266,20 +366,44 @@ module _ {M : Type 1} (𝓤 : URA M) (H : Heap 𝓤) (A : Atoms 𝓤) (W : Given
       onward : ent 𝓤 (⋆ 𝓤 H A (Inv 0)) (Wp 𝓤 H (𝓣 .C) (𝓣 .Λ) En body.t-5 (atReturn 𝓤 H En Post))
       onward = around
 
-    walk : ent 𝓤 (onEntry 𝓤 H A f.signature (κ-observations, (κ-counts, tt)) (q-observations, (q-counts, tt)) x at) (WpFn 𝓤 H (𝓣 .C) (𝓣 .Λ) code.function (sliceVal (x-observations .ptr) (length (x-observations .now)) ∷ vint w64 (x-from) ∷ vint w64 (x-to) ∷ EL.val E.the-type E′.the-laws (x-acc) ∷ vint w32 (x-width) ∷ sliceVal (x-counts .ptr) (length (x-counts .now)) ∷ []) (walkOf 𝓤 H A f.ended stayed (f.clauses 𝓤 H A at-mem run) .post bound))
+    walk : ent 𝓤 (onEntry 𝓤 H A f.signature (κ-observations, (κ-counts, tt)) (q-observations, (q-counts, tt)) x at)
+        (WpFn 𝓤 H (𝓣 .C) (𝓣 .Λ) code.function (sliceVal (x-observations .ptr) (length (x-observations .now)) ∷ vint w64 (x-from) ∷ vint w64 (x-to) ∷ EL.val E.the-type E′.the-laws (x-acc) ∷ vint w32
+        (x-width) ∷ sliceVal (x-counts .ptr) (length (x-counts .now)) ∷ []) (walkOf 𝓤 H A f.ended stayed (f.clauses 𝓤 H A at-mem run) .post bound))
     walk =
-        qed W ((‵ (flft κ-observations q-observations) ⊛ ‵ (flft κ-counts q-counts) ⊛ ‵ ftrue) ∷ ‵ (owns (ShrSlice (named 0) κ-observations O.the-row ∷ usize ∷ usize ∷ E.the-row ∷ u32 ∷ ShrSlice (named 1) κ-counts u64 ∷ []) x at) ∷ []) ∵ enter ! (𝓣 .C) (𝓣 .Λ) code.function (sliceVal (x-observations .ptr) (length (x-observations .now)) ∷ vint w64 (x-from) ∷ vint w64 (x-to) ∷ EL.val E.the-type E′.the-laws (x-acc) ∷ vint w32 (x-width) ∷ sliceVal (x-counts .ptr) (length (x-counts .now)) ∷ []) _ $
-        alloc1 ! (λ l₀. alloc1 ! (λ l₁. alloc1 ! (λ l₂. alloc1 ! (λ l₃. alloc1 ! (λ l₄. alloc1 ! (λ l₅. alloc1 ! (λ l₆. alloc1 ! (λ l₇. alloc1 ! (λ l₈. alloc1 ! (λ l₉. alloc1 ! (λ l₁₀. alloc1 ! (λ l₁₁. alloc1 ! (λ l₁₂. alloc0 ! $ params1 ! $
-        pass1 ! (init ! 22 refl (tt, (tt, (record { fits = room-observations .0 }, tt)))) $ pass1 ! (init ! 20 refl (uint-lawful 𝓤 H A W w64 .typed x-from _ is-from .0)) $ pass1 ! (init ! 18 refl (uint-lawful 𝓤 H A W w64 .typed x-to _ is-to .0)) $ pass1 ! (init ! 16 refl (EL.lawful E.the-type E′.the-laws 𝓤 H A W tt .typed x-acc _ is-acc .0)) $ pass1 ! (init ! 14 refl (uint-lawful 𝓤 H A W w32 .typed x-width _ is-width .0)) $ pass1 ! (init ! 12 refl (tt, (tt, (record { fits = room-counts .0 }, tt)))) $ pass0 ! $
-        move ! (26 ∷ []) $ split ! $ move ! (1 ∷ []) $ split ! $ move ! (29 ∷ []) $ fsplit ! $ move ! (1 ∷ []) $ fsplit ! $ move ! (1 ∷ []) $ fsplit ! $ move ! (1 ∷ []) $ fsplit ! $ move ! (1 ∷ []) $ fsplit ! $ move ! (1 ∷ []) $ fsplit ! $ move ! (8 ∷ []) $ drop ! $ move ! (1 ∷ []) $ drop ! $ move ! (4 ∷ []) $ drop ! $ move ! (3 ∷ []) $ drop ! $ move ! (2 ∷ []) $ drop ! $ move ! (1 ∷ []) $ drop ! $
+        qed W ((‵ (flft κ-observations q-observations) ⊛ ‵ (flft κ-counts q-counts) ⊛ ‵ ftrue) ∷ ‵ (owns (ShrSlice (named 0) κ-observations O.the-row ∷ usize ∷ usize ∷ E.the-row ∷ u32 ∷ ShrSlice
+        (named 1) κ-counts u64 ∷ []) x at) ∷ []) ∵ enter ! (𝓣 .C) (𝓣 .Λ) code.function (sliceVal (x-observations .ptr) (length (x-observations .now)) ∷ vint w64 (x-from) ∷ vint w64 (x-to) ∷ EL.val
+        E.the-type E′.the-laws (x-acc) ∷ vint w32 (x-width) ∷ sliceVal (x-counts .ptr) (length (x-counts .now)) ∷ []) _ $
+        alloc1 ! (λ l₀. alloc1 ! (λ l₁. alloc1 ! (λ l₂. alloc1 ! (λ l₃. alloc1 ! (λ l₄. alloc1 ! (λ l₅. alloc1 !
+        (λ l₆. alloc1 ! (λ l₇. alloc1 ! (λ l₈. alloc1 ! (λ l₉. alloc1 ! (λ l₁₀. alloc1 ! (λ l₁₁. alloc1 ! (λ l₁₂. alloc0 ! $ params1 ! $
+        pass1 ! (init ! 22 refl (tt, (tt, (record { fits = room-observations .0 }, tt)))) $ pass1 ! (init ! 20 refl (uint-lawful 𝓤 H A W w64 .typed x-from _ is-from .0)) $ pass1 !
+        (init ! 18 refl (uint-lawful 𝓤 H A W w64 .typed x-to _ is-to .0)) $ pass1 ! (init ! 16 refl (EL.lawful E.the-type E′.the-laws 𝓤 H A W tt .typed x-acc _ is-acc .0)) $ pass1 !
+        (init ! 14 refl (uint-lawful 𝓤 H A W w32 .typed x-width _ is-width .0)) $ pass1 ! (init ! 12 refl (tt, (tt, (record { fits = room-counts .0 }, tt)))) $ pass0 ! $
+        move ! (26 ∷ []) $ split ! $ move ! (1 ∷ []) $ split ! $ move ! (29 ∷ []) $ fsplit ! $ move ! (1 ∷ []) $ fsplit ! $ move ! (1 ∷ []) $ fsplit ! $ move ! (1 ∷ []) $ fsplit ! $ move ! (1 ∷ []) $
+        fsplit ! $ move ! (1 ∷ []) $ fsplit ! $ move ! (8 ∷ []) $ drop ! $ move ! (1 ∷ []) $ drop ! $ move ! (4 ∷ []) $ drop ! $ move ! (3 ∷ []) $ drop ! $ move ! (2 ∷ []) $ drop ! $ move !
+        (1 ∷ []) $ drop ! $
         -- [o-counts; o-observations; tk-counts; tk-observations; _12 (4); _11 (6); _10 (8); _9 (10); _8 (12); _7 (14); _6 (16); _5 (18); _4 (20); _3 (22); _2 (24); _1 (26); _0 (28)]
         assigns ! (of-opd ! (load ! (from ! (fld ! refl (stop !))) (look-in ! 26 (sub ! 1 refl (whole !))))) (from ! (stop !)) (init ! 6 refl (tt, record { fits = room-observations .0 })) $
         -- `smaller`
-        use0 W (raw (j-con 𝓤 H A at-mem run .pre ((tt, tt, tt, (x-to, ((length (x-observations .now)), tt)), (vint w64 (x-to) ∷ [], (vint w64 (length (x-observations .now)) ∷ [], tt))), tt))) (qed W ([]) ∵ nothing ! $ nothing ! $ owned ! usize (Is usize) (uint-makes 𝓤 H A W w64) (length (x-observations .now)) (vint w64 (length (x-observations .now)) ∷ []) (refl, room-observations .0) $ fjoin ! $ owned ! usize (Is usize) (uint-makes 𝓤 H A W w64) x-to (vint w64 (x-to) ∷ []) is-to $ fjoin ! $ move ! (1 ∷ 0 ∷ []) $ join ! $ nothing ! $ move ! (1 ∷ 0 ∷ []) $ done !) $
-        calls-at ! (fmOf 𝓤 H (W .laws) 𝓣) (j-con 𝓤 H A at-mem run) known-j ((tt, tt, tt, (x-to, ((length (x-observations .now)), tt)), (vint w64 (x-to) ∷ [], (vint w64 (length (x-observations .now)) ∷ [], tt))), tt) (and-then ! (load ! (from ! (stop !)) (look ! 23 refl)) (and-then ! (load ! (from ! (stop !)) (look ! 7 refl)) (no-more !))) (λ v0.
-        use1 W (later (some (λ (r0 : ℕ). ((‵ ftrue) ⊛ ‵ (usize .own r0 (v0 ∷ []))) ⊛ raw (ensured 𝓤 H A j.ended (j.clauses 𝓤 H A at-mem run) tt (x-to, ((length (x-observations .now)), tt)) tt r0)))) (id⊢ 𝓤 _) $ await ! tt $ pick ! (λ r0.
+        use0 W (raw (j-con 𝓤 H A at-mem run .pre ((tt, tt, tt, (x-to, ((length (x-observations .now)), tt)), (vint w64 (x-to) ∷ [], (vint w64 (length (x-observations .now)) ∷ [], tt))), tt)))
+        (qed W ([]) ∵ nothing ! $ nothing ! $ owned ! usize (Is usize) (uint-makes 𝓤 H A W w64) (length (x-observations .now)) (vint w64 (length (x-observations .now)) ∷ [])
+        (refl, room-observations .0) $ fjoin ! $ owned ! usize (Is usize) (uint-makes 𝓤 H A W w64) x-to (vint w64 (x-to) ∷ []) is-to $ fjoin ! $ move ! (1 ∷ 0 ∷ []) $ join ! $ nothing ! $ move !
+        (1 ∷ 0 ∷ []) $ done !) $
+        calls-at ! (fmOf 𝓤 H (W .laws) 𝓣) (j-con 𝓤 H A at-mem run) known-j (
+          (
+            tt,
+            tt,
+            tt,
+            (x-to, ((length (x-observations .now)), tt)),
+            (vint w64 (x-to) ∷ [], (vint w64 (length (x-observations .now)) ∷ [], tt)),
+          ),
+          tt,
+        ) (and-then ! (load ! (from ! (stop !)) (look ! 23 refl))
+        (and-then ! (load ! (from ! (stop !)) (look ! 7 refl)) (no-more !))) (λ v0.
+        use1 W (later (some (λ (r0 : ℕ). ((‵ ftrue) ⊛ ‵ (usize .own r0 (v0 ∷ []))) ⊛ raw (ensured 𝓤 H A j.ended (j.clauses 𝓤 H A at-mem run) tt (x-to, ((length (x-observations .now)), tt)) tt r0))))
+        (id⊢ 𝓤 _) $ await ! tt $ pick ! (λ r0.
         split ! $ split ! $
-        move ! (2 ∷ []) $ use1 W (some (λ (z0 : (Unit {0} × (Unit {0} × Unit {0}))). ‵ (lasts j.ended tt (x-to, ((length (x-observations .now)), tt)) z0) ⊛ raw (fact 𝓤 (r0 ≡ length (x-observations .now) - (length (x-observations .now) - x-to))))) (id⊢ 𝓤 _) $ pick ! (λ z0.
+        move ! (2 ∷ []) $ use1 W (some (λ (z0 : (Unit {0} × (Unit {0} × Unit {0}))). ‵ (lasts j.ended tt (x-to, ((length (x-observations .now)), tt)) z0) ⊛ raw
+        (fact 𝓤 (r0 ≡ length (x-observations .now) - (length (x-observations .now) - x-to))))) (id⊢ 𝓤 _) $ pick ! (λ z0.
         split ! $ move ! (1 ∷ []) $ heard ! (r0 ≡ length (x-observations .now) - (length (x-observations .now) - x-to)) (λ e0.
         fsplit ! $ drop ! $ fsplit ! $ drop ! $ drop ! $
         move ! (1 ∷ []) $ facts ! usize (Is usize) (shows 𝓤 H A usize) r0 (v0 ∷ []) (λ is0.
@@ -294,13 +418,27 @@ module _ {M : Type 1} (𝓤 : URA M) (H : Heap 𝓤) (A : Atoms 𝓤) (W : Given
         by ! (onward l₀ l₁ l₂ l₃ l₄ l₅ l₆ l₇ l₈ l₉ l₁₀ l₁₁ l₁₂)))))))))))))))))))
 
 module _ {M : Type 1} (𝓤 : URA M) (H : Heap 𝓤) (A : Atoms 𝓤) (W : Given 𝓤 H A) (at-mem : Memory → SProp 𝓤) (run : Routine → Fun 𝓤) where
-  walks : (𝓣 : Tables 𝓤 H) → Triple 𝓤 (𝓣 .C #j) (j-con 𝓤 H A at-mem run) → Triple 𝓤 (𝓣 .C #g) (g-con 𝓤 H A at-mem run) → Triple 𝓤 (𝓣 .C #add) (add-con 𝓤 H A at-mem run) → Walks 𝓤 H A f.ended stayed (WpFn 𝓤 H (𝓣 .C) (𝓣 .Λ) code.function) (f.clauses 𝓤 H A at-mem run)
-  walks 𝓣 known-j known-g known-add = walked 𝓤 H A f.ended stayed (f.clauses 𝓤 H A at-mem run) (WpFn 𝓤 H (𝓣 .C) (𝓣 .Λ) code.function) (λ κs. (slice-vals, (uint-vals w64, (uint-vals w64, (EL.vals E.the-type E′.the-laws, (uint-vals w32, (slice-vals, tt)))))))
+  walks : (𝓣 : Tables 𝓤 H) → Triple 𝓤 (𝓣 .C #j) (j-con 𝓤 H A at-mem run) → Triple 𝓤 (𝓣 .C #g) (g-con 𝓤 H A at-mem run) → Triple 𝓤 (𝓣 .C #add) (add-con 𝓤 H A at-mem run) → Walks 𝓤 H A f.ended stayed
+      (WpFn 𝓤 H (𝓣 .C) (𝓣 .Λ) code.function) (f.clauses 𝓤 H A at-mem run)
+  walks 𝓣 known-j known-g known-add = walked 𝓤 H A f.ended stayed (f.clauses 𝓤 H A at-mem run) (WpFn 𝓤 H (𝓣 .C) (𝓣 .Λ) code.function)
+      (λ κs. (slice-vals, (uint-vals w64, (uint-vals w64, (EL.vals E.the-type E′.the-laws, (uint-vals w32, (slice-vals, tt)))))))
       (λ κs. (shr-slice-tells (named 0) (κs .0) O.the-row, (uint-tells w64, (uint-tells w64, (EL.tells E.the-type E′.the-laws, (uint-tells w32, (shr-slice-tells (named 1) (κs .1 .0) u64, tt)))))))
-      (λ κs qs bounds a _ are. via 𝓤 _ (fst∗ 𝓤 _ (emp 𝓤)) (walk 𝓤 H A W at-mem run (κs .0) (qs .0) (κs .1 .0) (qs .1 .0) (a .0) (a .1 .0) (a .1 .1 .0) (a .1 .1 .1 .0) (a .1 .1 .1 .1 .0) (a .1 .1 .1 .1 .1 .0) (are .0 .0 .1) (are .1 .0) (are .1 .1 .0) (are .1 .1 .1 .0) (are .1 .1 .1 .1 .0) (are .1 .1 .1 .1 .1 .0 .0 .1) 𝓣 known-j known-g known-add))
+      (λ κs qs bounds a _ are. via 𝓤 _ (fst∗ 𝓤 _ (emp 𝓤)) (walk 𝓤 H A W at-mem run (κs .0) (qs .0) (κs .1 .0) (qs .1 .0) (a .0) (a .1 .0) (a .1 .1 .0) (a .1 .1 .1 .0) (a .1 .1 .1 .1 .0)
+      (a .1 .1 .1 .1 .1 .0) (are .0 .0 .1) (are .1 .0) (are .1 .1 .0) (are .1 .1 .1 .0) (are .1 .1 .1 .1 .0) (are .1 .1 .1 .1 .1 .0 .0 .1) 𝓣 known-j known-g known-add))
 
-meets : {M : Type 1} (𝓤 : URA M) (H : Heap 𝓤) (A : Atoms 𝓤) → Given 𝓤 H A → (at-mem : Memory → SProp 𝓤) (run : Routine → Fun 𝓤) (𝓣 : Tables 𝓤 H) → Triple 𝓤 (𝓣 .C #j) (j-con 𝓤 H A at-mem run) → Triple 𝓤 (𝓣 .C #g) (g-con 𝓤 H A at-mem run) → Triple 𝓤 (𝓣 .C #add) (add-con 𝓤 H A at-mem run) → Meets 𝓤 H A f.signature (WpFn 𝓤 H (𝓣 .C) (𝓣 .Λ) code.function) (f.spec 𝓤 H A at-mem run)
-meets 𝓤 H A W at-mem run 𝓣 known-j known-g known-add = walk-meets 𝓤 H A f.ended stayed W (goes-none-slice 𝓤 H A W 2 (0 ∷ []) tt (plain (λ _. O.the-row)) yes, (goes-none 𝓤 H A W 2 (λ _. usize) yes (λ κs x f. refl), (goes-none 𝓤 H A W 2 (λ _. usize) yes (λ κs x f. refl), (goes-none 𝓤 H A W 2 (λ _. E.the-row) yes (λ κs x f. refl), (goes-none 𝓤 H A W 2 (λ _. u32) yes (λ κs x f. refl), (goes-none-slice 𝓤 H A W 2 (1 ∷ []) tt (plain (λ _. u64)) yes, tt)))))) (f.clauses 𝓤 H A at-mem run) (WpFn 𝓤 H (𝓣 .C) (𝓣 .Λ) code.function) (WpFn-mono 𝓤 H (W .laws) 𝓣 code.function) (walks 𝓤 H A W at-mem run 𝓣 known-j known-g known-add)
+meets : {M : Type 1} (𝓤 : URA M) (H : Heap 𝓤) (A : Atoms 𝓤) → Given 𝓤 H A → (at-mem : Memory → SProp 𝓤) (run : Routine → Fun 𝓤) (𝓣 : Tables 𝓤 H) → Triple 𝓤 (𝓣 .C #j) (j-con 𝓤 H A at-mem run) → Triple
+    𝓤 (𝓣 .C #g) (g-con 𝓤 H A at-mem run) → Triple 𝓤 (𝓣 .C #add) (add-con 𝓤 H A at-mem run) → Meets 𝓤 H A f.signature (WpFn 𝓤 H (𝓣 .C) (𝓣 .Λ) code.function) (f.spec 𝓤 H A at-mem run)
+meets 𝓤 H A W at-mem run 𝓣 known-j known-g known-add = walk-meets 𝓤 H A f.ended stayed W (
+  goes-none-slice 𝓤 H A W 2 (0 ∷ []) tt (plain (λ _. O.the-row)) yes,
+  (
+    goes-none 𝓤 H A W 2 (λ _. usize) yes (λ κs x f. refl),
+    (
+      goes-none 𝓤 H A W 2 (λ _. usize) yes (λ κs x f. refl),
+      (goes-none 𝓤 H A W 2 (λ _. E.the-row) yes (λ κs x f. refl), (goes-none 𝓤 H A W 2 (λ _. u32) yes (λ κs x f. refl), (goes-none-slice 𝓤 H A W 2 (1 ∷ []) tt (plain (λ _. u64)) yes, tt))),
+    ),
+  ),
+)
+    (f.clauses 𝓤 H A at-mem run) (WpFn 𝓤 H (𝓣 .C) (𝓣 .Λ) code.function) (WpFn-mono 𝓤 H (W .laws) 𝓣 code.function) (walks 𝓤 H A W at-mem run 𝓣 known-j known-g known-add)
 
 pub check-observations-spec : {M : Type 1} → stated.statement M
 unfolding code.routine tablesOf

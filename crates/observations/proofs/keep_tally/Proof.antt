@@ -17,8 +17,10 @@ use prog.Wp.{Heap, Calls, Loops, WpFn, Tables}
 use ghost.Atoms.{Atoms}
 use contract.Monad.{Fun, fact}
 use contract.Running.{givenOf, tables, tablesOf}
-use types.Kit.{Given, Item, ‵, raw, some, later, _⊛_, _$_, _∵_, !, qed, move, keep, drop, group, use0, use1, use2, use3, split, join, pick, rewrite, fsplit, fsplit3, fjoin, fjoin3, feqL, feqI, suffices, frame, await, done}
-use types.Run.{look, look-raw, init, store, store-raw, forget, stop, hop, fld, from, load, lit, addr, unit-lit, true-lit, false-lit, float-lit, of-opd, bin, and-then, no-more, assigns, land, returns, enter, alloc1, alloc0, params1, pass1, pass0, free1, free0}
+use types.Kit.{Given, Item, ‵, raw, some, later, _⊛_, _$_, _∵_, !, qed, move, keep, drop, group, use0, use1, use2, use3, split, join, pick, rewrite, fsplit, fsplit3, fjoin, fjoin3, feqL, feqI}
+use types.Kit.{suffices, frame, await, done}
+use types.Run.{look, look-raw, init, store, store-raw, forget, stop, hop, fld, from, load, lit, addr, unit-lit, true-lit, false-lit, float-lit, of-opd, bin, and-then, no-more, assigns, land, returns}
+use types.Run.{enter, alloc1, alloc0, params1, pass1, pass0, free1, free0}
 use types.Part.{agg, whole, sub, look-in}
 use types.SemTy.{Body}
 use types.Tokens.{lft-new, lft-end}
@@ -45,7 +47,8 @@ use denote.Triple.Statement.{Contract, Triple}
 use denote.Triple.Call.{calls-at}
 use denote.Triple.Clauses.{ensured, lasts}
 use denote.Triple.Table.{entered, cited}
-use denote.Triple.Walked.{says, needs, Stays, stay-ref, gave-ref, stay-none, stay-none-slice, stay-slice, gave-slice, walkOf, goes-ref, goes-gave-ref, goes-none, goes-none-slice, goes-slice, goes-gave-slice, Walks, ends-at, walked, walk-meets}
+use denote.Triple.Walked.{says, needs, Stays, stay-ref, gave-ref, stay-none, stay-none-slice, stay-slice, gave-slice, walkOf, goes-ref, goes-gave-ref, goes-none, goes-none-slice, goes-slice}
+use denote.Triple.Walked.{goes-gave-slice, Walks, ends-at, walked, walk-meets}
 use denote.Exit.{yes}
 use Rattle.search.specs.declared.Tally.{Tally}
 use Rattle.search.proofs.Tally as T
@@ -77,22 +80,30 @@ module _ {M : Type 1} (𝓤 : URA M) (H : Heap 𝓤) (A : Atoms 𝓤) (W : Given
   bound = (((κ-tally, tt), (q-tally, tt), tt, x, at), tt)
 
   module _ (C : Calls 𝓤 H) (Λ : Loops 𝓤 H) (fm : FmC 𝓤 H (W .laws) C) where
-    walk : ent 𝓤 (onEntry 𝓤 H A f.signature (κ-tally, tt) (q-tally, tt) x at) (WpFn 𝓤 H C Λ code.function (vptr (x-tally .ptr .0) (x-tally .ptr .1) ∷ LL.val T.the-type T′.the-laws (x-value) ∷ []) (walkOf 𝓤 H A f.ended stayed (f.clauses 𝓤 H A at-mem run) .post bound))
+    walk : ent 𝓤 (onEntry 𝓤 H A f.signature (κ-tally, tt) (q-tally, tt) x at) (WpFn 𝓤 H C Λ code.function (vptr (x-tally .ptr .0) (x-tally .ptr .1) ∷ LL.val T.the-type T′.the-laws (x-value) ∷ [])
+        (walkOf 𝓤 H A f.ended stayed (f.clauses 𝓤 H A at-mem run) .post bound))
     walk =
-        qed W ((‵ (flft κ-tally q-tally) ⊛ ‵ ftrue) ∷ ‵ (owns (MutRef (named 0) κ-tally T.the-row ∷ T.the-row ∷ []) x at) ∷ []) ∵ enter ! C Λ code.function (vptr (x-tally .ptr .0) (x-tally .ptr .1) ∷ LL.val T.the-type T′.the-laws (x-value) ∷ []) _ $
+        qed W ((‵ (flft κ-tally q-tally) ⊛ ‵ ftrue) ∷ ‵ (owns (MutRef (named 0) κ-tally T.the-row ∷ T.the-row ∷ []) x at) ∷ []) ∵ enter ! C Λ code.function
+        (vptr (x-tally .ptr .0) (x-tally .ptr .1) ∷ LL.val T.the-type T′.the-laws (x-value) ∷ []) _ $
         alloc1 ! (λ l₀. alloc1 ! (λ l₁. alloc1 ! (λ l₂. alloc0 ! $ params1 ! $
         pass1 ! (init ! 2 refl (tt, tt)) $ pass1 ! (init ! 0 refl (LL.lawful T.the-type T′.the-laws 𝓤 H A W .typed x-value _ is-value .0)) $ pass0 ! $
         move ! (6 ∷ []) $ split ! $ move ! (8 ∷ []) $ fsplit ! $ move ! (1 ∷ []) $ fsplit ! $ move ! (4 ∷ []) $ drop ! $ move ! (1 ∷ []) $ drop ! $ drop ! $
         -- [o-tally; tk-tally; _2 (2); _1 (4); _0 (6)]
         -- tally is opened
-        fsplit3 ! $ drop ! $ opens ! tt T.the-row {h = x-tally .now} (x-tally .ptr .0) (x-tally .ptr .1) (λ vs. spelt ! T.the-row (Is T.the-row) (shows 𝓤 H A T.the-row) (LL.vals T.the-type T′.the-laws) (LL.tells T.the-type T′.the-laws) fullShare (x-tally .now) vs (x-tally .ptr .0) (x-tally .ptr .1) $ move ! (1 ∷ []) $ peeks ! T.the-row (Is T.the-row) (shows 𝓤 H A T.the-row) (x-tally .now) _ (λ was-tally. drop ! $
-        assigns ! (of-opd ! (load ! (from ! (stop !)) (look ! 4 refl))) (from ! (hop ! (look ! 6 refl) (stop !))) (store-raw ! 0 refl (LL.lawful T.the-type T′.the-laws 𝓤 H A W .typed x-value _ is-value .0)) $
+        fsplit3 ! $ drop ! $ opens ! tt T.the-row {h = x-tally .now} (x-tally .ptr .0) (x-tally .ptr .1) (λ vs. spelt ! T.the-row (Is T.the-row) (shows 𝓤 H A T.the-row)
+        (LL.vals T.the-type T′.the-laws) (LL.tells T.the-type T′.the-laws) fullShare (x-tally .now) vs (x-tally .ptr .0) (x-tally .ptr .1) $ move ! (1 ∷ []) $ peeks ! T.the-row (Is T.the-row)
+        (shows 𝓤 H A T.the-row) (x-tally .now) _ (λ was-tally. drop ! $
+        assigns ! (of-opd ! (load ! (from ! (stop !)) (look ! 4 refl))) (from ! (hop ! (look ! 6 refl) (stop !)))
+        (store-raw ! 0 refl (LL.lawful T.the-type T′.the-laws 𝓤 H A W .typed x-value _ is-value .0)) $
         assigns ! (of-opd ! (unit-lit !)) (from ! (stop !)) (init ! 8 refl (tt, tt)) $
-        owned ! T.the-row (Is T.the-row) (LL.makes T.the-type T′.the-plain 𝓤 H A) x-value (_) is-value $ move ! (1 ∷ 0 ∷ 2 ∷ 3 ∷ 4 ∷ []) $ closes ! tt T.the-row x-value (LL.val T.the-type T′.the-laws (x-value) ∷ []) (x-tally .ptr .0) (x-tally .ptr .1) $ feqI ! (List Val) (vptr (x-tally .ptr .0) (x-tally .ptr .1) ∷ []) (vptr (x-tally .ptr .0) (x-tally .ptr .1) ∷ []) refl $ fjoin3 ! $
+        owned ! T.the-row (Is T.the-row) (LL.makes T.the-type T′.the-plain 𝓤 H A) x-value (_) is-value $ move ! (1 ∷ 0 ∷ 2 ∷ 3 ∷ 4 ∷ []) $ closes ! tt T.the-row x-value
+        (LL.val T.the-type T′.the-laws (x-value) ∷ []) (x-tally .ptr .0) (x-tally .ptr .1) $ feqI ! (List Val) (vptr (x-tally .ptr .0) (x-tally .ptr .1) ∷ [])
+        (vptr (x-tally .ptr .0) (x-tally .ptr .1) ∷ []) refl $ fjoin3 ! $
         returns ! (look ! 6 refl) $ forget ! 6 refl $ forget ! 4 refl $ forget ! 2 refl $
         move ! (6 ∷ 7 ∷ []) $ free1 ! $ move ! (4 ∷ 5 ∷ []) $ free1 ! $ move ! (2 ∷ 3 ∷ []) $ free1 ! $ free0 ! $
         keep ! (1 ∷ 0 ∷ []) $ suffices ! _ (ends-at 𝓤 H A f.ended stayed (f.clauses 𝓤 H A at-mem run) W bound (vunit) tt (x-value, (tt, tt)) (tt, (tt, tt))) $ says ! (refl) $
-        nothing ! $ move ! (1 ∷ 0 ∷ []) $ join ! $ frame ! $ nothing ! $ owned ! T.the-row (Is T.the-row) (LL.makes T.the-type T′.the-plain 𝓤 H A) x-value (LL.val T.the-type T′.the-laws (x-value) ∷ []) is-value $ fjoin ! $ move ! (1 ∷ 0 ∷ []) $ fjoin ! $ feqI ! (List Val) (vunit ∷ []) (vunit ∷ []) refl $ move ! (1 ∷ 0 ∷ []) $
+        nothing ! $ move ! (1 ∷ 0 ∷ []) $ join ! $ frame ! $ nothing ! $ owned ! T.the-row (Is T.the-row) (LL.makes T.the-type T′.the-plain 𝓤 H A) x-value
+        (LL.val T.the-type T′.the-laws (x-value) ∷ []) is-value $ fjoin ! $ move ! (1 ∷ 0 ∷ []) $ fjoin ! $ feqI ! (List Val) (vunit ∷ []) (vunit ∷ []) refl $ move ! (1 ∷ 0 ∷ []) $
         done !)))))
 
 module _ {M : Type 1} (𝓤 : URA M) (H : Heap 𝓤) (A : Atoms 𝓤) (W : Given 𝓤 H A) (at-mem : Memory → SProp 𝓤) (run : Routine → Fun 𝓤) where
@@ -101,8 +112,10 @@ module _ {M : Type 1} (𝓤 : URA M) (H : Heap 𝓤) (A : Atoms 𝓤) (W : Given
       (λ κs. (mut-tells (named 0) (κs .0) T.the-row, (LL.tells T.the-type T′.the-laws, tt)))
       (λ κs qs bounds a _ are. via 𝓤 _ (fst∗ 𝓤 _ (emp 𝓤)) (walk 𝓤 H A W at-mem run (κs .0) (qs .0) (a .0) (a .1 .0) (are .1 .0) (𝓣 .C) (𝓣 .Λ) (fmOf 𝓤 H (W .laws) 𝓣)))
 
-meets : {M : Type 1} (𝓤 : URA M) (H : Heap 𝓤) (A : Atoms 𝓤) → Given 𝓤 H A → (at-mem : Memory → SProp 𝓤) (run : Routine → Fun 𝓤) (𝓣 : Tables 𝓤 H) → Meets 𝓤 H A f.signature (WpFn 𝓤 H (𝓣 .C) (𝓣 .Λ) code.function) (f.spec 𝓤 H A at-mem run)
-meets 𝓤 H A W at-mem run 𝓣 = walk-meets 𝓤 H A f.ended stayed W (goes-ref 𝓤 H A W 1 0 tt (plain (λ _. T.the-row)), (goes-none 𝓤 H A W 1 (λ _. T.the-row) yes (λ κs x f. refl), tt)) (f.clauses 𝓤 H A at-mem run) (WpFn 𝓤 H (𝓣 .C) (𝓣 .Λ) code.function) (WpFn-mono 𝓤 H (W .laws) 𝓣 code.function) (walks 𝓤 H A W at-mem run 𝓣)
+meets : {M : Type 1} (𝓤 : URA M) (H : Heap 𝓤) (A : Atoms 𝓤) → Given 𝓤 H A → (at-mem : Memory → SProp 𝓤) (run : Routine → Fun 𝓤) (𝓣 : Tables 𝓤 H) → Meets 𝓤 H A f.signature
+    (WpFn 𝓤 H (𝓣 .C) (𝓣 .Λ) code.function) (f.spec 𝓤 H A at-mem run)
+meets 𝓤 H A W at-mem run 𝓣 = walk-meets 𝓤 H A f.ended stayed W (goes-ref 𝓤 H A W 1 0 tt (plain (λ _. T.the-row)), (goes-none 𝓤 H A W 1 (λ _. T.the-row) yes (λ κs x f. refl), tt))
+    (f.clauses 𝓤 H A at-mem run) (WpFn 𝓤 H (𝓣 .C) (𝓣 .Λ) code.function) (WpFn-mono 𝓤 H (W .laws) 𝓣 code.function) (walks 𝓤 H A W at-mem run 𝓣)
 
 pub keep-tally-spec : {M : Type 1} → stated.statement M
 unfolding code.routine tablesOf

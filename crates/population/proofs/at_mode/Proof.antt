@@ -27,7 +27,9 @@ returns c =
     let test = fitted .before .before .before .before .before .before .before in
     let stored = test .before .before .before .before .before in
     let mode = stored .before .before .before .before in
-    same-grid _ _ _ _ _ _ _ (mode .before .before .before .rows-of .ensures) (mode .before .before .closed-by .ensures) (mode .mode .given .1) (stored .store-warm .ensures) (test .before .is-same-grid .ensures) (test .if1 .taken) (fitted .before .before .before .before .before .write-result .ensures) (fitted .write-fitted .ensures) (c .before .before .next-subject .ensures)
+    same-grid _ _ _ _ _ _ _ (mode .before .before .before .rows-of .ensures) (mode .before .before .closed-by .ensures) (mode .mode .given .1) (stored .store-warm .ensures)
+    (test .before .is-same-grid .ensures) (test .if1 .taken) (fitted .before .before .before .before .before .write-result .ensures) (fitted .write-fitted .ensures)
+    (c .before .before .next-subject .ensures)
 
 enum-told : tie.Need-enum-told
 enum-told c = search needs
@@ -43,7 +45,8 @@ returns-2 c =
     let test = c .before in
     let stored = test .before .before .before .before .before in
     let mode = stored .before .before .before .before in
-    other-grid _ _ _ _ _ _ _ (mode .before .before .before .rows-of .ensures) (mode .before .before .closed-by .ensures) (mode .mode .given .1) (stored .store-warm .ensures) (test .before .is-same-grid .ensures) (test .if1 .left) (c .refused .ensures)
+    other-grid _ _ _ _ _ _ _ (mode .before .before .before .rows-of .ensures) (mode .before .before .closed-by .ensures) (mode .mode .given .1) (stored .store-warm .ensures)
+    (test .before .is-same-grid .ensures) (test .if1 .left) (c .refused .ensures)
 
 returns-3 : tie.Need-returns-3
 returns-3 c = not-positive _ _ _ _ _ _ _ (c .before .before .before .before .rows-of .ensures) (c .before .before .before .closed-by .ensures) (c .before .enum-told .given .1) (c .refused2 .ensures)

@@ -12,7 +12,8 @@ returns : tie.Need-returns
 returns c =
     let cleared = c .before .before .before in
     let test = cleared .before .before .before .before in
-    next-begins _ _ _ _ _ _ _ _ (test .before .wrapping-add-usize .ensures) (test .if1 .taken) (cleared .before .before .before .wrapping-add-usize2 .ensures) (cleared .before .before .warm-of .ensures) (cleared .clear .ensures) (c .begin-subject .ensures)
+    next-begins _ _ _ _ _ _ _ _ (test .before .wrapping-add-usize .ensures) (test .if1 .taken) (cleared .before .before .before .wrapping-add-usize2 .ensures)
+    (cleared .before .before .warm-of .ensures) (cleared .clear .ensures) (c .begin-subject .ensures)
 
 returns-2 : tie.Need-returns-2
 returns-2 c = none-next _ _ _ _ _ _ _ _ (c .before .before .wrapping-add-usize .ensures) (c .before .if1 .left) (c .objective-of .ensures)

@@ -13,7 +13,8 @@ returns c =
     let failed = c .before .before in
     let counted = failed .before .before in
     let d = counted .before .before .before .before .before .before .before .before in
-    fails (d .args .setup) (d .args .counts .now) (d .args .observations .now) (d .args .state) (d .args .tally) (d .args .cache .now) (d .args .work .now) (d .args .warm .now) (d .args .results .now) (counted .before .check-words .ensures) (counted .count-of .ensures) (failed .fail .ensures)
+    fails (d .args .setup) (d .args .counts .now) (d .args .observations .now) (d .args .state) (d .args .tally) (d .args .cache .now) (d .args .work .now) (d .args .warm .now) (d .args .results .now)
+    (counted .before .check-words .ensures) (counted .count-of .ensures) (failed .fail .ensures)
 
 pub failure-spec : {M : Type 1} → statement M
 failure-spec = tie.close (tie.spec free free free same-length returns)

@@ -19,7 +19,8 @@ returns c =
     let begun = c .before .before .before .before .before .before in
     let counted = begun .before .before .before .before in
     let d = counted .before .before .before .before .before .before .before .before in
-    begins (d .args .setup) (d .args .counts .now) (d .args .observations .now) (d .args .state) (d .args .tally) (d .args .cache .now) (d .args .work .now) (d .args .warm .now) (d .args .results .now) (counted .before .check-words .ensures) (counted .count-of .ensures) (d .args .parameters) (begun .begin-objective .ensures)
+    begins (d .args .setup) (d .args .counts .now) (d .args .observations .now) (d .args .state) (d .args .tally) (d .args .cache .now) (d .args .work .now) (d .args .warm .now)
+    (d .args .results .now) (counted .before .check-words .ensures) (counted .count-of .ensures) (d .args .parameters) (begun .begin-objective .ensures)
 
 pub objective-spec : {M : Type 1} → statement M
 objective-spec = tie.close (tie.spec free free free same-length same-length-2 same-length-3 returns)

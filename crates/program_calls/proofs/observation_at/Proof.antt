@@ -28,7 +28,8 @@ returns-2 c =
     let value = c .before .before in
     let row = value .before in
     let output = row .before .before in
-    read-words _ _ (output .before .read .ensures) (output .number .ensures) (row .before .read2 .ensures) (row .number2 .ensures) (value .float-at .ensures) (c .before .float-at2 .ensures) (c .float-at3 .ensures)
+    read-words _ _ (output .before .read .ensures) (output .number .ensures) (row .before .read2 .ensures) (row .number2 .ensures) (value .float-at .ensures) (c .before .float-at2 .ensures)
+    (c .float-at3 .ensures)
 
 pub observation-at-spec : {M : Type 1} → statement M
 observation-at-spec =

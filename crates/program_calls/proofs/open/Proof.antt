@@ -19,7 +19,8 @@ returns c =
     let told = c .before .before .before .before .before .before in
     let counted = told .before .before .before .before in
     let d = counted .before .before .before .before .before .before .before .before in
-    opens (d .args .setup) (d .args .counts .now) (d .args .observations .now) (d .args .tally) (d .args .cache .now) (d .args .work .now) (d .args .warm .now) (d .args .results .now) (counted .before .check-words .ensures) (counted .count-of .ensures) (told .open .ensures)
+    opens (d .args .setup) (d .args .counts .now) (d .args .observations .now) (d .args .tally) (d .args .cache .now) (d .args .work .now) (d .args .warm .now) (d .args .results .now)
+    (counted .before .check-words .ensures) (counted .count-of .ensures) (told .open .ensures)
 
 pub open-spec : {M : Type 1} → statement M
 open-spec = tie.close (tie.spec free free free same-length same-length-2 same-length-3 returns)

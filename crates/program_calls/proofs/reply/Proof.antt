@@ -24,7 +24,9 @@ returns c =
     let admitted = added .before .before .before in
     let counted = admitted .before .before .before .before .before .before in
     let d = counted .before .before .before .before .before .before .before .before .before in
-    replies (d .args .setup) (d .args .counts .now) (d .args .observations .now) (d .args .state) (d .args .tally) (d .args .cache .now) (d .args .work .now) (d .args .warm .now) (d .args .results .now) (counted .before .check-words .ensures) (counted .count-of .ensures) (d .args .reply .now) _ _ (added .add-words .kept .1 .1 .1 .1 .1 .1 .0) (admitted .before .lent-by .ensures) (admitted .admit-reply .ensures) (added .add-words .ensures) (finished .finish-reply .ensures)
+    replies (d .args .setup) (d .args .counts .now) (d .args .observations .now) (d .args .state) (d .args .tally) (d .args .cache .now) (d .args .work .now) (d .args .warm .now)
+    (d .args .results .now) (counted .before .check-words .ensures) (counted .count-of .ensures) (d .args .reply .now) _ _ (added .add-words .kept .1 .1 .1 .1 .1 .1 .0)
+    (admitted .before .lent-by .ensures) (admitted .admit-reply .ensures) (added .add-words .ensures) (finished .finish-reply .ensures)
 
 pub reply-spec : {M : Type 1} → statement M
 reply-spec =

@@ -9,7 +9,11 @@ same-length : tie.Need-same-length
 same-length c = search needs
 
 returns : tie.Need-returns
-returns c = let d = c .before .before .before .before .before .before .before .before .before .before in (ended-made (d .args .state) (d .args .tally) (d .args .number) (d .args .place) (c .before .refused .ensures), c .before .before .before .before .clear .ensures)
+returns c = let d = c .before .before .before .before .before .before .before .before .before .before in (
+  ended-made (d .args .state) (d .args .tally) (d .args .number) (d .args .place)
+      (c .before .refused .ensures),
+  c .before .before .before .before .clear .ensures,
+)
 
 pub ended-as-spec : {M : Type 1} → statement M
 ended-as-spec = tie.close (tie.spec free free same-length returns)

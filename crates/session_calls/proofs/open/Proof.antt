@@ -42,13 +42,24 @@ same-length-9 : tie.Need-same-length-9
 same-length-9 c = search needs
 
 returns : tie.Need-returns
-returns c = let d = c .before .before .before .before .before .before .before .before .before .before .before .before .before .before .before .before .before .before .before .before .before .before .before .before .before in setup-opens (d .args .setup) (d .args .counts .now) (d .args .observations) (d .args .check) (d .args .tally) (d .args .cache .now) (d .args .work .now) (d .args .warm .now) (d .args .results .now) (c .before .before .before .before .before .before .before .before .before .before .before .before .before .before .before .before .lent-by .ensures) (c .before .before .before .before .before .before .before .before .before .before .before .before .before .before .before .checks .ensures) (c .before .before .before .before .before .before .before .before .before .before .before .before .before .enum-told .given .1) (c .before .before .before .before .before .before .before .before .before .before .before .clear .ensures) (c .before .before .before .before .before .before .before .clear2 .ensures) (c .before .before .before .clear3 .ensures) (c .first-state .ensures)
+returns c = let d = c .before .before .before .before .before .before .before .before .before .before .before .before .before .before .before .before .before .before .before .before .before .before
+    .before .before .before in setup-opens (d .args .setup) (d .args .counts .now) (d .args .observations) (d .args .check) (d .args .tally) (d .args .cache .now) (d .args .work .now)
+    (d .args .warm .now) (d .args .results .now) (c .before .before .before .before .before .before .before .before .before .before .before .before .before .before .before .before .lent-by .ensures)
+    (c .before .before .before .before .before .before .before .before .before .before .before .before .before .before .before .checks .ensures)
+    (c .before .before .before .before .before .before .before .before .before .before .before .before .before .enum-told .given .1)
+    (c .before .before .before .before .before .before .before .before .before .before .before .clear .ensures) (c .before .before .before .before .before .before .before .clear2 .ensures)
+    (c .before .before .before .clear3 .ensures) (c .first-state .ensures)
 
 returns-2 : tie.Need-returns-2
-returns-2 c = let d = c .before .before .before .before .before .before .before .before .before .before .before .before .before in setup-refused (d .args .setup) (d .args .counts .now) (d .args .observations) (d .args .check) (d .args .tally) (d .args .cache .now) (d .args .work .now) (d .args .warm .now) (d .args .results .now) (c .before .before .before .before .lent-by .ensures) (c .before .before .before .checks .ensures) (c .before .number .given .1)
+returns-2 c = let d = c .before .before .before .before .before .before .before .before .before .before .before .before .before in setup-refused (d .args .setup) (d .args .counts .now)
+    (d .args .observations) (d .args .check) (d .args .tally) (d .args .cache .now) (d .args .work .now) (d .args .warm .now) (d .args .results .now)
+    (c .before .before .before .before .lent-by .ensures) (c .before .before .before .checks .ensures) (c .before .number .given .1)
 
 returns-3 : tie.Need-returns-3
-returns-3 c = let d = c .before .before .before .before .before .before .before .before .before .before .before .before .before in setup-unsound (d .args .setup) (d .args .counts .now) (d .args .observations) (d .args .check) (d .args .tally) (d .args .cache .now) (d .args .work .now) (d .args .warm .now) (d .args .results .now) (c .before .before .before .before .lent-by .ensures) (c .before .before .before .checks .ensures) (c .before .at .given .1)
+returns-3 c = let d = c .before .before .before .before .before .before .before .before .before .before .before .before .before in setup-unsound (d .args .setup) (d .args .counts .now)
+    (d .args .observations) (d .args .check) (d .args .tally) (d .args .cache .now) (d .args .work .now) (d .args .warm .now) (d .args .results .now)
+    (c .before .before .before .before .lent-by .ensures) (c .before .before .before .checks .ensures) (c .before .at .given .1)
 
 pub open-spec : {M : Type 1} → statement M
-open-spec = tie.close (tie.spec free free enum-told free free free free enum-known-number enum-known-at same-length same-length-2 same-length-3 returns same-length-4 same-length-5 same-length-6 returns-2 same-length-7 same-length-8 same-length-9 returns-3)
+open-spec = tie.close (tie.spec free free enum-told free free free free enum-known-number enum-known-at same-length same-length-2 same-length-3 returns same-length-4 same-length-5 same-length-6
+    returns-2 same-length-7 same-length-8 same-length-9 returns-3)

@@ -19,7 +19,10 @@ same-length-3 c = search needs
 returns : tie.Need-returns
 returns c =
     let d = c .before .before .before .before .before .before .before .before .before .before .before .before .before .before .before .before .before .before .before .before .before in
-    ran-held (d .args .setup) (d .args .counts .now) (d .args .state .parameters) 25985024 (λ fit. wholeFrom fit (d .args .counts .now) (d .args .hand) (d .args .state .progress) (d .args .tally) (cacheOf (d .args .cache .now) (d .args .state .order)) (d .args .work .now) (d .args .warm .now) (d .args .results .now)) (c .before .before .before .before .before .before .before .before .before .before .before .before .fit-of .ensures) (c .before .before .before .before .before .before .before .before .requests .ensures)
+    ran-held (d .args .setup) (d .args .counts .now) (d .args .state .parameters) 25985024 (λ fit. wholeFrom fit (d .args .counts .now) (d .args .hand) (d .args .state .progress) (d .args .tally)
+    (cacheOf (d .args .cache .now) (d .args .state .order)) (d .args .work .now) (d .args .warm .now) (d .args .results .now))
+    (c .before .before .before .before .before .before .before .before .before .before .before .before .fit-of .ensures)
+    (c .before .before .before .before .before .before .before .before .requests .ensures)
 
 pub run-spec : {M : Type 1} → statement M
 run-spec = tie.close (tie.spec free free same-length same-length-2 same-length-3 returns)

@@ -12,10 +12,12 @@ enum-known-additive-sd : tie.Need-enum-known-additive-sd
 enum-known-additive-sd c = search needs
 
 returns : tie.Need-returns
-returns c = objective-own _ _ (c .before .before .before .before .before .flag .ensures) (c .before .before .before .before .to-word .ensures) (c .before .before .before .to-word2 .ensures) (c .before .before .to-word3 .ensures) (c .enum-told .given .1)
+returns c = objective-own _ _ (c .before .before .before .before .before .flag .ensures) (c .before .before .before .before .to-word .ensures) (c .before .before .before .to-word2 .ensures)
+    (c .before .before .to-word3 .ensures) (c .enum-told .given .1)
 
 returns-2 : tie.Need-returns-2
-returns-2 c = objective-override _ _ (c .before .before .before .before .before .before .before .flag .ensures) (c .before .before .before .before .before .before .to-word .ensures) (c .before .before .before .before .before .to-word2 .ensures) (c .before .before .before .before .to-word3 .ensures) (c .before .before .additive-sd .given .1) (c .to-word4 .ensures)
+returns-2 c = objective-override _ _ (c .before .before .before .before .before .before .before .flag .ensures) (c .before .before .before .before .before .before .to-word .ensures)
+    (c .before .before .before .before .before .to-word2 .ensures) (c .before .before .before .before .to-word3 .ensures) (c .before .before .additive-sd .given .1) (c .to-word4 .ensures)
 
 pub objective-words-spec : {M : Type 1} → statement M
 objective-words-spec =

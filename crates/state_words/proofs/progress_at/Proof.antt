@@ -28,7 +28,13 @@ shared-slice-read-t17 c = search needs
 
 returns : tie.Need-returns
 unfolding progressAt
-returns c = rw (c .before .before .before .before .before .before .before .before .pair-at .ensures, c .before .before .before .before .before .before .before .pair-at2 .ensures, c .before .before .before .before .before .from-word .ensures, c .before .before .before .from-word2 .ensures)
+returns c = rw (
+  c .before .before .before .before .before .before .before .before .pair-at .ensures,
+  c .before .before .before .before .before .before .before .pair-at2 .ensures,
+  c .before .before
+      .before .before .before .from-word .ensures,
+  c .before .before .before .from-word2 .ensures,
+)
 
 pub progress-at-spec : {M : Type 1} → statement M
 progress-at-spec =

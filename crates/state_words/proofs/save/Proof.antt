@@ -56,7 +56,8 @@ returns c =
     let one-words = two-words .before in
     let order-words = one-words .before in
     let position-words = order-words .before in
-    saved-all _ _ (position-words .before .objective-words .ensures) (position-words .progress-words .ensures) (order-words .order-words .ensures) (one-words .save .ensures) (two-words .save2 .ensures)
+    saved-all _ _ (position-words .before .objective-words .ensures) (position-words .progress-words .ensures) (order-words .order-words .ensures) (one-words .save .ensures)
+    (two-words .save2 .ensures)
     (objective .put-from .ensures) (position .put-from2 .ensures) (order .put-from3 .ensures) (one .put-from4 .ensures) (two .put-from5 .ensures)
 
 pub save-spec : {M : Type 1} → statement M

@@ -53,7 +53,8 @@ to-word-requires-3 c κs = search needs
 
 expect-requires-4 : tie.Need-expect-requires-4
 unfolding inverseOr ofBits toBits
-expect-requires-4 c κs = eq-eqb _ _ (c .to-word3 .ensures ∙ entry-word 1 0 _ _ _ _ (c .before .before .before .before .before .before .before .before .before .curlewstand-inverse-positive .ensures .1 .0) (marked .inverse))
+expect-requires-4 c κs = eq-eqb _ _ (c .to-word3 .ensures ∙ entry-word 1 0 _ _ _ _ (c .before .before .before .before .before .before .before .before .before .curlewstand-inverse-positive .ensures .1
+    .0) (marked .inverse))
 
 index-1-to-word-4 : tie.Need-index-1-to-word-4
 index-1-to-word-4 c = search needs
@@ -66,14 +67,16 @@ to-word-requires-4 c κs = search needs
 
 expect-requires-5 : tie.Need-expect-requires-5
 unfolding inverseOr ofBits toBits
-expect-requires-5 c κs = eq-eqb _ _ (c .to-word4 .ensures ∙ entry-word 1 1 _ _ _ _ (c .before .before .before .before .before .before .before .before .before .before .before .before .curlewstand-inverse-positive .ensures .1 .0) (marked .inverse))
+expect-requires-5 c κs = eq-eqb _ _ (c .to-word4 .ensures ∙ entry-word 1 1 _ _ _ _ (c .before .before .before .before .before .before .before .before .before .before .before .before
+    .curlewstand-inverse-positive .ensures .1 .0) (marked .inverse))
 
 to-word-requires-5 : tie.Need-to-word-requires-5
 to-word-requires-5 c κs = search needs
 
 expect-requires-6 : tie.Need-expect-requires-6
 unfolding detOr ofBits toBits
-expect-requires-6 c κs = eq-eqb _ _ (c .to-word5 .ensures ∙ ap (toBits binary64) (c .before .before .before .before .before .before .before .before .before .before .before .before .before .before .curlewstand-inverse-positive .ensures .1 .1 ∙ ap (detOr _) (marked .inverse)))
+expect-requires-6 c κs = eq-eqb _ _ (c .to-word5 .ensures ∙ ap (toBits binary64) (c .before .before .before .before .before .before .before .before .before .before .before .before .before .before
+    .curlewstand-inverse-positive .ensures .1 .1 ∙ ap (detOr _) (marked .inverse)))
 
 returns : tie.Need-returns
 returns c = search needs

@@ -49,7 +49,8 @@ returns c =
     let numbered = placed .before in
     let start = numbered .before .before .before .before .before in
     let m = placed .modulo .ensures in
-    in-one-run _ _ _ _ _ _ (start .pre .0) (numbered .before .before .entry-place .ensures .0) (numbered .before .read .ensures) (numbered .number .ensures) (rw m at (c .before .before .before .before .if1 .taken)) (rw m at (c .before .before .copy-run .ensures))
+    in-one-run _ _ _ _ _ _ (start .pre .0) (numbered .before .before .entry-place .ensures .0) (numbered .before .read .ensures) (numbered .number .ensures)
+    (rw m at (c .before .before .before .before .if1 .taken)) (rw m at (c .before .before .copy-run .ensures))
 
 add-copy-run-2 : tie.Need-add-copy-run-2
 add-copy-run-2 c = omega (arith, below (c .before))
@@ -83,7 +84,8 @@ returns-2 c =
     let numbered = test .before .before in
     let start = numbered .before .before .before .before .before in
     let m = test .before .modulo .ensures in
-    in-two-runs _ _ _ _ _ _ (start .pre .0) (numbered .before .before .entry-place .ensures .0) (numbered .before .read .ensures) (numbered .number .ensures) (start .pre .2) (rw m at (test .if1 .left)) (rw m at (first .copy-run2 .ensures))
+    in-two-runs _ _ _ _ _ _ (start .pre .0) (numbered .before .before .entry-place .ensures .0) (numbered .before .read .ensures) (numbered .number .ensures) (start .pre .2)
+    (rw m at (test .if1 .left)) (rw m at (first .copy-run2 .ensures))
     (rw m at (c .before .before .copy-run3 .ensures))
 
 pub copy-words-spec : {M : Type 1} → statement M

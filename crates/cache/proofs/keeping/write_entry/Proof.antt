@@ -77,7 +77,8 @@ returns c =
     let new = entry .before .before .before .before in
     let filter = new .before in
     let old = filter .before .before in
-    written-is _ _ _ _ _ _ _ _ _ _ (old .before .before .before .hash .ensures) (old .before .before .head-of .ensures) (old .read .ensures) (filter .before .number .ensures) (filter .with-bit .ensures .0)
+    written-is _ _ _ _ _ _ _ _ _ _ (old .before .before .before .hash .ensures) (old .before .before .head-of .ensures) (old .read .ensures) (filter .before .number .ensures)
+    (filter .with-bit .ensures .0)
     (new .entry-words .ensures) (entry .before .before .entry-place .ensures .0) (entry .put-ring .ensures) (rows .put-ring2 .ensures) (link .put .ensures) (c .before .before .before .word .ensures)
     (c .before .before .put2 .ensures)
 

@@ -34,10 +34,21 @@ same-length-7 : tie.Need-same-length-7
 same-length-7 c = search needs
 
 returns : tie.Need-returns
-returns c = let d = c .before .before .before .before .before .before .before .before .before .before .before .before .before .before .before .before .before .before .before .before .before .before .before .before .before .before .before .before .before .before .before in objective-given (setupOf (d .args .setup)) (d .args .counts .now) (d .args .observations) (d .args .check) (d .args .tally) (d .args .state .now) (d .args .answer .now) (d .args .cache .now) (d .args .work .now) (d .args .warm .now) (d .args .results .now) (c .before .before .before .before .before .before .before .before .before .before .before .before .before .before .before .before .before .before .before .before .before .before .load .ensures) (parametersOf (d .args .parameters)) (c .before .before .before .before .before .before .before .before .before .before .before .before .before .before .before .before .before .before .before .before .at .given .1) (c .before .before .before .before .before .before .before .before .before .before .before .before .before .before .before .before .before .before .setup-of .ensures .0) (c .before .before .before .before .before .before .before .before .before .before .before .before .before .before .before .before .before .parameters-of .ensures .0) (c .before .before .before .before .before .before .before .before .before .before .before .before .before .begin-objective .ensures) (c .before .before .before .before .told .ensures)
+returns c = let d = c .before .before .before .before .before .before .before .before .before .before .before .before .before .before .before .before .before .before .before .before .before .before
+    .before .before .before .before .before .before .before .before .before in objective-given (setupOf (d .args .setup)) (d .args .counts .now) (d .args .observations) (d .args .check)
+    (d .args .tally) (d .args .state .now) (d .args .answer .now) (d .args .cache .now) (d .args .work .now) (d .args .warm .now) (d .args .results .now)
+    (c .before .before .before .before .before .before .before .before .before .before .before .before .before .before .before .before .before .before .before .before .before .before .load .ensures)
+    (parametersOf (d .args .parameters)) (c .before .before .before .before .before .before .before .before .before .before .before .before .before .before .before .before .before .before .before
+    .before .at .given .1) (c .before .before .before .before .before .before .before .before .before .before .before .before .before .before .before .before .before .before .setup-of .ensures .0)
+    (c .before .before .before .before .before .before .before .before .before .before .before .before .before .before .before .before .before .parameters-of .ensures .0)
+    (c .before .before .before .before .before .before .before .before .before .before .before .before .before .begin-objective .ensures) (c .before .before .before .before .told .ensures)
 
 returns-2 : tie.Need-returns-2
-returns-2 c = let d = c .before .before .before .before .before .before .before .before .before .before .before .before .before .before .before in objective-none (setupOf (d .args .setup)) (d .args .counts .now) (d .args .observations) (d .args .check) (d .args .tally) (d .args .state .now) (d .args .answer .now) (d .args .cache .now) (d .args .work .now) (d .args .warm .now) (d .args .results .now) (c .before .before .before .before .before .before .load .ensures) (parametersOf (d .args .parameters)) (c .before .before .before .before .enum-told .given .1) (c .before .before .no-state .ensures)
+returns-2 c = let d = c .before .before .before .before .before .before .before .before .before .before .before .before .before .before .before in objective-none (setupOf (d .args .setup))
+    (d .args .counts .now) (d .args .observations) (d .args .check) (d .args .tally) (d .args .state .now) (d .args .answer .now) (d .args .cache .now) (d .args .work .now) (d .args .warm .now)
+    (d .args .results .now) (c .before .before .before .before .before .before .load .ensures) (parametersOf (d .args .parameters)) (c .before .before .before .before .enum-told .given .1)
+    (c .before .before .no-state .ensures)
 
 pub begin-objective-spec : {M : Type 1} → statement M
-begin-objective-spec = tie.close (tie.spec free enum-known-at free free free free enum-told free same-length same-length-2 same-length-3 same-length-4 same-length-5 returns same-length-6 same-length-7 returns-2)
+begin-objective-spec = tie.close (tie.spec free enum-known-at free free free free enum-told free same-length same-length-2 same-length-3 same-length-4 same-length-5 returns same-length-6 same-length-7
+    returns-2)

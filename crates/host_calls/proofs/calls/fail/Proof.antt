@@ -28,10 +28,17 @@ same-length-5 : tie.Need-same-length-5
 same-length-5 c = search needs
 
 returns : tie.Need-returns
-returns c = let d = c .before .before .before .before .before .before .before .before .before .before .before .before .before .before .before .before .before .before .before .before .before .before .before .before in failure-given (setupOf (d .args .setup)) (d .args .counts .now) (d .args .observations) (d .args .check) (d .args .tally) (d .args .state .now) (d .args .answer .now) (d .args .cache .now) (d .args .work .now) (d .args .warm .now) (d .args .results .now) (c .before .before .before .before .before .before .before .before .before .before .before .before .before .before .before .load .ensures) (c .before .before .before .before .before .before .before .before .before .before .before .before .before .at .given .1) (c .before .before .before .before .before .before .before .before .before .before .before .setup-of .ensures .0) (c .before .before .before .before .before .before .before .before .before .fail .ensures) (c .before .before .before .before .told .ensures)
+returns c = let d = c .before .before .before .before .before .before .before .before .before .before .before .before .before .before .before .before .before .before .before .before .before .before
+    .before .before in failure-given (setupOf (d .args .setup)) (d .args .counts .now) (d .args .observations) (d .args .check) (d .args .tally) (d .args .state .now) (d .args .answer .now)
+    (d .args .cache .now) (d .args .work .now) (d .args .warm .now) (d .args .results .now) (c .before .before .before .before .before .before .before .before .before .before .before .before .before
+    .before .before .load .ensures) (c .before .before .before .before .before .before .before .before .before .before .before .before .before .at .given .1)
+    (c .before .before .before .before .before .before .before .before .before .before .before .setup-of .ensures .0)
+    (c .before .before .before .before .before .before .before .before .before .fail .ensures) (c .before .before .before .before .told .ensures)
 
 returns-2 : tie.Need-returns-2
-returns-2 c = let d = c .before .before .before .before .before .before .before .before .before .before .before .before .before .before .before in failure-none (setupOf (d .args .setup)) (d .args .counts .now) (d .args .observations) (d .args .check) (d .args .tally) (d .args .state .now) (d .args .answer .now) (d .args .cache .now) (d .args .work .now) (d .args .warm .now) (d .args .results .now) (c .before .before .before .before .before .before .load .ensures) (c .before .before .before .before .enum-told .given .1) (c .before .before .no-state .ensures)
+returns-2 c = let d = c .before .before .before .before .before .before .before .before .before .before .before .before .before .before .before in failure-none (setupOf (d .args .setup))
+    (d .args .counts .now) (d .args .observations) (d .args .check) (d .args .tally) (d .args .state .now) (d .args .answer .now) (d .args .cache .now) (d .args .work .now) (d .args .warm .now)
+    (d .args .results .now) (c .before .before .before .before .before .before .load .ensures) (c .before .before .before .before .enum-told .given .1) (c .before .before .no-state .ensures)
 
 pub fail-spec : {M : Type 1} → statement M
 fail-spec = tie.close (tie.spec free enum-known-at free free free enum-told free same-length same-length-2 same-length-3 returns same-length-4 same-length-5 returns-2)

@@ -25,10 +25,17 @@ same-length-6 : tie.Need-same-length-6
 same-length-6 c = search needs
 
 returns : tie.Need-returns
-returns c = let d = c .before .before .before .before .before .before .before .before .before .before .before .before in open-unknown (setupOf (d .args .setup)) (d .args .counts .now) (d .args .observations) (d .args .check) (d .args .tally) (d .args .state .now) (d .args .answer .now) (d .args .cache .now) (d .args .work .now) (d .args .warm .now) (d .args .results .now) (c .before .before .before .before .if1 .taken) (c .before .before .no-state .ensures)
+returns c = let d = c .before .before .before .before .before .before .before .before .before .before .before .before in open-unknown (setupOf (d .args .setup)) (d .args .counts .now)
+    (d .args .observations) (d .args .check) (d .args .tally) (d .args .state .now) (d .args .answer .now) (d .args .cache .now) (d .args .work .now) (d .args .warm .now) (d .args .results .now)
+    (c .before .before .before .before .if1 .taken) (c .before .before .no-state .ensures)
 
 returns-2 : tie.Need-returns-2
-returns-2 c = let d = c .before .before .before .before .before .before .before .before .before .before .before .before .before .before .before .before .before .before .before .before .before .before .before .before .before .before in open-settled (setupOf (d .args .setup)) (d .args .counts .now) (d .args .observations) (d .args .check) (d .args .tally) (d .args .state .now) (d .args .answer .now) (d .args .cache .now) (d .args .work .now) (d .args .warm .now) (d .args .results .now) (c .before .before .before .before .before .before .before .before .before .before .before .before .before .before .before .before .before .before .if1 .left) (c .before .before .before .before .before .before .before .before .before .before .before .before .before .before .before .before .before .setup-of .ensures .0) (c .before .before .before .before .before .before .before .before .before .before .before .before .before .«open» .ensures) (c .before .before .before .before .opened .ensures)
+returns-2 c = let d = c .before .before .before .before .before .before .before .before .before .before .before .before .before .before .before .before .before .before .before .before .before .before
+    .before .before .before .before in open-settled (setupOf (d .args .setup)) (d .args .counts .now) (d .args .observations) (d .args .check) (d .args .tally) (d .args .state .now)
+    (d .args .answer .now) (d .args .cache .now) (d .args .work .now) (d .args .warm .now) (d .args .results .now)
+    (c .before .before .before .before .before .before .before .before .before .before .before .before .before .before .before .before .before .before .if1 .left)
+    (c .before .before .before .before .before .before .before .before .before .before .before .before .before .before .before .before .before .setup-of .ensures .0)
+    (c .before .before .before .before .before .before .before .before .before .before .before .before .before .«open» .ensures) (c .before .before .before .before .opened .ensures)
 
 pub open-spec : {M : Type 1} → statement M
 open-spec = tie.close (tie.spec free same-length returns free free free same-length-2 same-length-3 same-length-4 same-length-5 same-length-6 returns-2)

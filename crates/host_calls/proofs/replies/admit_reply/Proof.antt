@@ -22,14 +22,20 @@ same-length-2 c = search needs
 returns : tie.Need-returns
 unfolding admitWith
 returns c =
-    let d = c .before .before .before .before .before .before .before .before .before .before .args in
-    (of-given (d .state .now) (c .before .before .before .before .before .load .ensures) (admitWith (setupOf (d .setup)) (d .counts .now) (d .lent) (d .check) (d .tally) (d .reply .now)) (c .before .before .before .at .given .1) (rw (← c .before .setup-of .ensures .0) (c .admit-reply .ensures)), refl)
+    let d = c .before .before .before .before .before .before .before .before .before .before .args in (
+      of-given (d .state .now) (c .before .before .before .before .before .load .ensures) (admitWith (setupOf (d .setup)) (d .counts .now) (d .lent) (d .check) (d .tally) (d .reply .now))
+          (c .before .before .before .at .given .1) (rw (← c .before .setup-of .ensures .0) (c .admit-reply .ensures)),
+      refl,
+    )
 
 returns-2 : tie.Need-returns-2
 unfolding admitWith
 returns-2 c =
-    let d = c .before .before .before .before .before .before .before .before .args in
-    (of-none (d .state .now) (c .before .before .before .load .ensures) (admitWith (setupOf (d .setup)) (d .counts .now) (d .lent) (d .check) (d .tally) (d .reply .now)) (c .before .enum-told .given .1) (c .unadmitted .ensures), refl)
+    let d = c .before .before .before .before .before .before .before .before .args in (
+      of-none (d .state .now) (c .before .before .before .load .ensures) (admitWith (setupOf (d .setup)) (d .counts .now) (d .lent) (d .check) (d .tally) (d .reply .now))
+          (c .before .enum-told .given .1) (c .unadmitted .ensures),
+      refl,
+    )
 
 pub admit-reply-spec : {M : Type 1} → statement M
 admit-reply-spec = tie.close (tie.spec free enum-known-at free free enum-told free same-length returns same-length-2 returns-2)

@@ -37,7 +37,17 @@ returns c =
     let right = c .before .before .before in
     let left = right .before .before in
     let high = left .before .before .before in
-    rw (left .select2 .ensures, left .before .select .ensures, right .select4 .ensures, right .before .select3 .ensures, high .is-above .ensures, high .before .is-under .ensures, c .before .first-score .ensures, c .fell .ensures)
+    rw (
+      left .select2 .ensures,
+      left .before .select .ensures,
+      right .select4 .ensures,
+      right .before .select3 .ensures,
+      high .is-above .ensures,
+      high .before .is-under .ensures,
+      c .before
+          .first-score .ensures,
+      c .fell .ensures,
+    )
 
 pub screened-spec : {M : Type 1} → statement M
 screened-spec =

@@ -18,7 +18,8 @@ returns : tie.Need-returns
 returns c =
     let known = c .before .before .before .before in
     let asked = known .before .before in
-    goes-down _ _ _ _ (asked .before .curvature .ensures) (asked .inverse-positive .ensures) (known .det .given .1) (c .before .before .inverse .ensures) (c .before .step-by .ensures) (c .try-from .ensures)
+    goes-down _ _ _ _ (asked .before .curvature .ensures) (asked .inverse-positive .ensures) (known .det .given .1) (c .before .before .inverse .ensures) (c .before .step-by .ensures)
+    (c .try-from .ensures)
 
 returns-2 : tie.Need-returns-2
 returns-2 c =

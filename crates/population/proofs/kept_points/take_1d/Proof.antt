@@ -18,7 +18,8 @@ same-length : tie.Need-same-length
 same-length c = search needs
 
 returns-2 : tie.Need-returns-2
-returns-2 c = takes-one _ _ _ _ _ (c .before .before .before .before .before .before .before .before .hand .given .1) (c .before .before .before .before .before .before .conditional .ensures) (c .before .before .before .before .before .sources .ensures) (c .before .before .before .move-rows .ensures) (c .advance .ensures)
+returns-2 c = takes-one _ _ _ _ _ (c .before .before .before .before .before .before .before .before .hand .given .1) (c .before .before .before .before .before .before .conditional .ensures)
+    (c .before .before .before .before .before .sources .ensures) (c .before .before .before .move-rows .ensures) (c .advance .ensures)
 
 pub take-1d-spec : {M : Type 1} → statement M
 take-1d-spec = tie.close (tie.spec enum-told enum-known-hand free free free free returns same-length returns-2)

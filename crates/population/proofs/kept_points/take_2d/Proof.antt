@@ -18,7 +18,8 @@ same-length : tie.Need-same-length
 same-length c = search needs
 
 returns-2 : tie.Need-returns-2
-returns-2 c = takes-two _ _ _ _ (c .before .before .before .before .before .before .before .before .hand .given .1) (c .before .before .before .before .before .before .conditional-2d .ensures) (c .before .before .before .before .before .advance .ensures) (c .before .before .before .before .sources-2d .ensures) (c .before .before .move-rows .ensures)
+returns-2 c = takes-two _ _ _ _ (c .before .before .before .before .before .before .before .before .hand .given .1) (c .before .before .before .before .before .before .conditional-2d .ensures)
+    (c .before .before .before .before .before .advance .ensures) (c .before .before .before .before .sources-2d .ensures) (c .before .before .move-rows .ensures)
 
 pub take-2d-spec : {M : Type 1} → statement M
 take-2d-spec = tie.close (tie.spec enum-told enum-known-hand free free free free returns same-length returns-2)

@@ -13,7 +13,8 @@ use Rattle.population.proofs.kept_points.through_kept_1d.Tie as tie
 
 abbrev Inv-kept : tie.InvT-kept
 Inv-kept fit rows order start fuel cache work₀ settings search₀ left₀ given₀ work search left given =
-    (throughFrom fit rows (cacheOf cache order) left given (withSearch start search (start .«search_2d»)) work ≡ throughFrom fit rows (cacheOf cache order) left₀ given₀ (withSearch start search₀ (start .«search_2d»)) work₀)
+    (throughFrom fit rows (cacheOf cache order) left given (withSearch start search (start .«search_2d»)) work ≡ throughFrom fit rows (cacheOf cache order) left₀ given₀
+    (withSearch start search₀ (start .«search_2d»)) work₀)
     × (length work ≡ length work₀)
 
 abbrev μ-kept : tie.MeasureT-kept
@@ -26,11 +27,14 @@ enum-known-slot : tie.Need-enum-known-slot Inv-kept μ-kept
 enum-known-slot c = search needs
 
 sub-left : tie.Need-sub-left Inv-kept μ-kept
-sub-left c = one-left _ _ _ _ _ (c .before .before .before .before .before .is-over .ensures) (c .before .before .before .before .eta-of .ensures) (c .before .before .before .kept-at .ensures) (c .before .slot .given .1)
+sub-left c = one-left _ _ _ _ _ (c .before .before .before .before .before .is-over .ensures) (c .before .before .before .before .eta-of .ensures) (c .before .before .before .kept-at .ensures)
+    (c .before .slot .given .1)
 
 kept-less : tie.Need-kept-less Inv-kept μ-kept
 kept-less c =
-    let h = one-left _ _ _ _ _ (c .before .before .before .before .before .before .before .before .before .before .is-over .ensures) (c .before .before .before .before .before .before .before .before .before .eta-of .ensures) (c .before .before .before .before .before .before .before .before .kept-at .ensures) (c .before .before .before .before .before .before .slot .given .1) in omega arith
+    let h = one-left _ _ _ _ _ (c .before .before .before .before .before .before .before .before .before .before .is-over .ensures)
+    (c .before .before .before .before .before .before .before .before .before .eta-of .ensures) (c .before .before .before .before .before .before .before .before .kept-at .ensures)
+    (c .before .before .before .before .before .before .slot .given .1) in omega arith
 
 kept-again : tie.Need-kept-again Inv-kept μ-kept
 unfolding withSearch
@@ -41,7 +45,9 @@ kept-again c =
     let d = here .before .before .before .before in
     let taken = one-taken (d .args .fit) (d .args .rows) (d .args .start) (d .pre) (here .before .settings .ensures) _ _ _ (t .before .before .before .take-1d .ensures) in
     let wanted = one-wanted (d .args .fit) (d .args .rows) (d .args .start) (d .pre) (here .before .settings .ensures) _ (t .wanted-1d .ensures) in (
-      goes-on _ _ _ _ _ _ _ taken wanted (c .before .before .before .before .before .before .before .before .before .before .is-over .ensures) (c .before .before .before .before .before .before .before .before .before .eta-of .ensures) (c .before .before .before .before .before .before .before .before .kept-at .ensures) (c .before .before .before .before .before .before .slot .given .1) (c .before .before .before .recall-rows .ensures) (c .recall .ensures) ∙ at .kept .inv .0,
+      goes-on _ _ _ _ _ _ _ taken wanted (c .before .before .before .before .before .before .before .before .before .before .is-over .ensures)
+          (c .before .before .before .before .before .before .before .before .before .eta-of .ensures) (c .before .before .before .before .before .before .before .before .kept-at .ensures)
+          (c .before .before .before .before .before .before .slot .given .1) (c .before .before .before .recall-rows .ensures) (c .recall .ensures) ∙ at .kept .inv .0,
       c .before .before .before .recall-rows .kept .1 .1 .1 .1 .0 ∙ t .before .before .before .take-1d .kept .1 .1 .1 .1 .1 .0 ∙ at .kept .inv .1,
     )
 
@@ -49,7 +55,8 @@ enum-told : tie.Need-enum-told Inv-kept μ-kept
 enum-told c = search needs
 
 same-length : tie.Need-same-length Inv-kept μ-kept
-same-length c = c .before .before .before .before .before .before .before .before .take-1d .kept .1 .1 .1 .1 .1 .0 ∙ c .before .before .before .before .before .before .before .before .before .before .kept .inv .1
+same-length c = c .before .before .before .before .before .before .before .before .take-1d .kept .1 .1 .1 .1 .1 .0 ∙ c .before .before .before .before .before .before .before .before .before .before
+    .kept .inv .1
 
 returns : tie.Need-returns Inv-kept μ-kept
 unfolding withSearch
@@ -60,7 +67,8 @@ returns c =
     let d = here .before .before .before .before in
     let taken = one-taken (d .args .fit) (d .args .rows) (d .args .start) (d .pre) (here .before .settings .ensures) _ _ _ (t .before .before .before .take-1d .ensures) in
     let wanted = one-wanted (d .args .fit) (d .args .rows) (d .args .start) (d .pre) (here .before .settings .ensures) _ (t .wanted-1d .ensures) in
-    stops _ _ _ _ _ _ _ taken wanted (c .before .before .before .before .is-over .ensures) (c .before .before .before .eta-of .ensures) (c .before .before .kept-at .ensures) (c .enum-told .given .1) ∙ at .kept .inv .0 ∙ from-idle _ _ _ _ _ _ _
+    stops _ _ _ _ _ _ _ taken wanted (c .before .before .before .before .is-over .ensures) (c .before .before .before .eta-of .ensures) (c .before .before .kept-at .ensures) (c .enum-told .given .1) ∙
+    at .kept .inv .0 ∙ from-idle _ _ _ _ _ _ _
 
 pub through-kept-1d-spec : {M : Type 1} → statement M
 through-kept-1d-spec =

@@ -15,7 +15,8 @@ use Rattle.population.proofs.steps.requests.Tie as tie
 
 abbrev Inv-requests : tie.InvT-requests
 Inv-requests fit counts order tally fuel cache work₀ warm₀ results₀ here₀ given₀ left₀ work warm results here given left =
-    (loop (turn words fit counts) spent left (wholeFrom fit counts given here tally (cacheOf cache order) work warm results) ≡ loop (turn words fit counts) spent left₀ (wholeFrom fit counts given₀ here₀ tally (cacheOf cache order) work₀ warm₀ results₀))
+    (loop (turn words fit counts) spent left (wholeFrom fit counts given here tally (cacheOf cache order) work warm results) ≡ loop (turn words fit counts) spent left₀
+    (wholeFrom fit counts given₀ here₀ tally (cacheOf cache order) work₀ warm₀ results₀))
     × (length work ≡ length work₀)
     × (length warm ≡ length warm₀)
     × (length results ≡ length results₀)
@@ -34,7 +35,8 @@ sub-left c = omega (arith, c .before .before .before .before .before .before .be
 
 requests-less : tie.Need-requests-less Inv-requests μ-requests
 requests-less c =
-    let ends = ends-from _ _ _ _ _ _ _ (c .before .before .before .before .before .before .before .before .before .before .before .before .before .before .before .before .before .before .before .through-kept .ensures) in
+    let ends = ends-from _ _ _ _ _ _ _ (c .before .before .before .before .before .before .before .before .before .before .before .before .before .before .before .before .before .before .before
+    .through-kept .ensures) in
     omega (arith, ends .within, c .before .before .before .before .before .before .before .before .before .before .before .before .before .before .if1 .left)
 
 requests-again : tie.Need-requests-again Inv-requests μ-requests
@@ -43,7 +45,8 @@ requests-again c =
     let through = turned .before .before .before .before .before .before .before .before .before in
     let d = through .before .before .before .before .before .before .before .before in
     let so-far = through .before .before .requests .inv in (
-      requests-on _ _ _ _ _ (cacheOf (d .args .cache .now) (d .args .order)) _ _ _ _ _ (through .through-kept .ensures) (turned .before .before .before .before .if1 .left) (turned .turn .ensures) (c .before .before .next .given .1) ∙ so-far .0,
+      requests-on _ _ _ _ _ (cacheOf (d .args .cache .now) (d .args .order)) _ _ _ _ _ (through .through-kept .ensures) (turned .before .before .before .before .if1 .left) (turned .turn .ensures)
+          (c .before .before .next .given .1) ∙ so-far .0,
       turned .turn .kept .1 .1 .1 .1 .1 .0 ∙ through .through-kept .kept .1 .1 .1 .1 .1 .1 .1 .0 ∙ so-far .1,
       turned .turn .kept .1 .1 .1 .1 .1 .1 .0 ∙ so-far .2,
       turned .turn .kept .1 .1 .1 .1 .1 .1 .1 .0 ∙ so-far .3,
@@ -62,23 +65,29 @@ same-length-3 : tie.Need-same-length-3 Inv-requests μ-requests
 same-length-3 c = c .before .before .before .before .before .before .before .requests .inv .3
 
 returns : tie.Need-returns Inv-requests μ-requests
-returns c = requests-spent _ _ _ _ _ _ _ _ _ _ _ (c .before .before .before .before .before .through-kept .ensures) (c .if1 .taken) ∙ c .before .before .before .before .before .before .before .requests .inv .0
+returns c = requests-spent _ _ _ _ _ _ _ _ _ _ _ (c .before .before .before .before .before .through-kept .ensures) (c .if1 .taken) ∙ c .before .before .before .before .before .before .before
+    .requests .inv .0
 
 same-length-4 : tie.Need-same-length-4 Inv-requests μ-requests
-same-length-4 c = c .before .before .before .before .before .before .before .before .before .turn .kept .1 .1 .1 .1 .1 .0 ∙ c .before .before .before .before .before .before .before .before .before .before .before .before .before .before .before .before .before .before .through-kept .kept .1 .1 .1 .1 .1 .1 .1 .0 ∙ c .before .before .before .before .before .before .before .before .before .before .before .before .before .before .before .before .before .before .before .before .requests .inv .1
+same-length-4 c = c .before .before .before .before .before .before .before .before .before .turn .kept .1 .1 .1 .1 .1 .0 ∙ c .before .before .before .before .before .before .before .before .before
+    .before .before .before .before .before .before .before .before .before .through-kept .kept .1 .1 .1 .1 .1 .1 .1 .0 ∙ c .before .before .before .before .before .before .before .before .before
+    .before .before .before .before .before .before .before .before .before .before .before .requests .inv .1
 
 same-length-5 : tie.Need-same-length-5 Inv-requests μ-requests
-same-length-5 c = c .before .before .before .before .before .before .before .before .before .turn .kept .1 .1 .1 .1 .1 .1 .0 ∙ c .before .before .before .before .before .before .before .before .before .before .before .before .before .before .before .before .before .before .before .before .requests .inv .2
+same-length-5 c = c .before .before .before .before .before .before .before .before .before .turn .kept .1 .1 .1 .1 .1 .1 .0 ∙ c .before .before .before .before .before .before .before .before .before
+    .before .before .before .before .before .before .before .before .before .before .before .requests .inv .2
 
 same-length-6 : tie.Need-same-length-6 Inv-requests μ-requests
-same-length-6 c = c .before .before .before .before .before .before .before .before .before .turn .kept .1 .1 .1 .1 .1 .1 .1 .0 ∙ c .before .before .before .before .before .before .before .before .before .before .before .before .before .before .before .before .before .before .before .before .requests .inv .3
+same-length-6 c = c .before .before .before .before .before .before .before .before .before .turn .kept .1 .1 .1 .1 .1 .1 .1 .0 ∙ c .before .before .before .before .before .before .before .before
+    .before .before .before .before .before .before .before .before .before .before .before .before .requests .inv .3
 
 returns-2 : tie.Need-returns-2 Inv-requests μ-requests
 returns-2 c =
     let turned = c .before .before .before .before .before .before .before .before .before in
     let through = turned .before .before .before .before .before .before .before .before .before in
     let d = through .before .before .before .before .before .before .before .before in
-    requests-halt _ _ _ _ _ (cacheOf (d .args .cache .now) (d .args .order)) _ _ _ _ _ (through .through-kept .ensures) (turned .before .before .before .before .if1 .left) (turned .turn .ensures) (c .before .halted .given .1) ∙ through .before .before .requests .inv .0
+    requests-halt _ _ _ _ _ (cacheOf (d .args .cache .now) (d .args .order)) _ _ _ _ _ (through .through-kept .ensures) (turned .before .before .before .before .if1 .left) (turned .turn .ensures)
+    (c .before .halted .given .1) ∙ through .before .before .requests .inv .0
 
 pub requests-spec : {M : Type 1} → statement M
 requests-spec =

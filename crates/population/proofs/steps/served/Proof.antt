@@ -27,7 +27,8 @@ same-length-3 : tie.Need-same-length-3
 same-length-3 c = search needs
 
 returns-2 : tie.Need-returns-2
-returns-2 c = wants-mode _ _ _ _ _ _ _ (c .before .before .before .before .before .before .before .before .before .before .enum-told .given .1) (c .before .before .before .before .before .before .at-mode .ensures)
+returns-2 c = wants-mode _ _ _ _ _ _ _ (c .before .before .before .before .before .before .before .before .before .before .enum-told .given .1)
+    (c .before .before .before .before .before .before .at-mode .ensures)
 
 returns-3 : tie.Need-returns-3
 returns-3 c = wants-nothing _ _ _ _ _ _ _ (c .before .before .wanted2 .given .1) (c .refused .ensures)

@@ -15,7 +15,8 @@ same-length-3 : tie.Need-same-length-3
 same-length-3 c = search needs
 
 returns : tie.Need-returns
-returns c = turn-over _ (c .before .before .before .before .before .before .before .before .before .before .before .before .served .ensures) (c .before .before .before .before .before .is-over .ensures) (c .before .before .before .before .if1 .taken) (c .before .before .clear .ensures)
+returns c = turn-over _ (c .before .before .before .before .before .before .before .before .before .before .before .before .served .ensures)
+    (c .before .before .before .before .before .is-over .ensures) (c .before .before .before .before .if1 .taken) (c .before .before .clear .ensures)
 
 same-length-4 : tie.Need-same-length-4
 same-length-4 c = search needs

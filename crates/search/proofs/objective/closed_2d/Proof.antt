@@ -17,7 +17,8 @@ enum-told c = search needs
 returns : tie.Need-returns
 returns c =
     let known = c .before .before .before .before .before .before .before in
-    closes-two _ _ _ (known .before .before .inverse-positive .ensures) (known .det-curvature .given .1) (c .before .before .before .product .ensures) (c .before .before .dot .ensures) (c .log .ensures)
+    closes-two _ _ _ (known .before .before .inverse-positive .ensures) (known .det-curvature .given .1) (c .before .before .before .product .ensures) (c .before .before .dot .ensures)
+    (c .log .ensures)
 
 returns-2 : tie.Need-returns-2
 returns-2 c = not-positive _ _ _ (c .before .before .inverse-positive .ensures) (c .enum-told .given .1)

@@ -8,7 +8,8 @@ returns : tie.Need-returns
 returns c = objective-awaits _ _ _ _ _ _ _ (c .if1 .taken)
 
 returns-2 : tie.Need-returns-2
-returns-2 c = objective-checked _ _ _ _ _ _ _ (c .before .before .before .before .if1 .left) (c .before .before .before .is-standing .ensures) (c .before .before .if2 .taken) (c .before .with-parameters .ensures) (c .checks .ensures)
+returns-2 c = objective-checked _ _ _ _ _ _ _ (c .before .before .before .before .if1 .left) (c .before .before .before .is-standing .ensures) (c .before .before .if2 .taken)
+    (c .before .with-parameters .ensures) (c .checks .ensures)
 
 returns-3 : tie.Need-returns-3
 returns-3 c = objective-unplaced _ _ _ _ _ _ _ (c .before .before .if1 .left) (c .before .is-standing .ensures) (c .if2 .left)

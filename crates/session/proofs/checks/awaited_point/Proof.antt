@@ -5,7 +5,8 @@ use Rattle.session.proofs.checks.awaited_point.Statement.{statement}
 use Rattle.session.proofs.checks.awaited_point.Tie as tie
 
 returns : tie.Need-returns
-returns c = asked _ _ _ _ _ (c .before .before .before .before .if1 .taken) (c .before .before .before .is-standing .ensures) (c .before .before .if2 .taken) (c .before .fit-of .ensures) (c .wanted-by .ensures)
+returns c = asked _ _ _ _ _ (c .before .before .before .before .if1 .taken) (c .before .before .before .is-standing .ensures) (c .before .before .if2 .taken) (c .before .fit-of .ensures)
+    (c .wanted-by .ensures)
 
 returns-2 : tie.Need-returns-2
 returns-2 c = unplaced _ _ _ _ _ (c .before .before .if1 .taken) (c .before .is-standing .ensures) (c .if2 .left)

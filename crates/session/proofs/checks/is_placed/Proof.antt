@@ -10,19 +10,22 @@ returns : tie.Need-returns
 returns c = let l = c .if2 .taken in beyond _ _ _ _ (c .before .before .if1 .taken) (c .before .rows-of .ensures) (omega (arith, l))
 
 returns-2 : tie.Need-returns-2
-returns-2 c = let l = c .if3 .taken in let m = c .before .before .if2 .left in beyond _ _ _ _ (c .before .before .before .before .if1 .taken) (c .before .before .before .rows-of .ensures) (omega (arith, l, m))
+returns-2 c = let l = c .if3 .taken in let m = c .before .before .if2 .left in beyond _ _ _ _ (c .before .before .before .before .if1 .taken) (c .before .before .before .rows-of .ensures)
+    (omega (arith, l, m))
 
 returns-3 : tie.Need-returns-3
 returns-3 c =
     let l = c .before .before .before .if3 .left in
     let m = c .before .before .before .before .before .if2 .left in
-    placed-2d _ _ _ _ (c .before .before .before .before .before .before .before .if1 .taken) (c .before .before .before .before .before .before .rows-of .ensures) (omega (arith, l, m)) (c .before .before .if4 .taken) (c .search-within-2d .ensures)
+    placed-2d _ _ _ _ (c .before .before .before .before .before .before .before .if1 .taken) (c .before .before .before .before .before .before .rows-of .ensures) (omega (arith, l, m))
+    (c .before .before .if4 .taken) (c .search-within-2d .ensures)
 
 returns-4 : tie.Need-returns-4
 returns-4 c =
     let l = c .before .before .before .if3 .left in
     let m = c .before .before .before .before .before .if2 .left in
-    placed _ _ _ _ (c .before .before .before .before .before .before .before .if1 .taken) (c .before .before .before .before .before .before .rows-of .ensures) (omega (arith, l, m)) (c .before .before .if4 .left) (c .search-within .ensures)
+    placed _ _ _ _ (c .before .before .before .before .before .before .before .if1 .taken) (c .before .before .before .before .before .before .rows-of .ensures) (omega (arith, l, m))
+    (c .before .before .if4 .left) (c .search-within .ensures)
 
 returns-5 : tie.Need-returns-5
 returns-5 c = no-subject _ _ _ _ (c .if1 .left)

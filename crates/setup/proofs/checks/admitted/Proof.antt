@@ -31,7 +31,8 @@ returns-3 c =
     let told = c .before .before in
     let shaped = told .before .before in
     let variance = shaped .before .before in
-    fails-5 _ _ _ _ _ _ (variance .before .is-no-omega .ensures) (variance .if1 .left) (shaped .before .is-no-shape .ensures) (shaped .if2 .left) (told .enum-told .given .1) (c .before .is-short .ensures) (c .if3 .taken)
+    fails-5 _ _ _ _ _ _ (variance .before .is-no-omega .ensures) (variance .if1 .left) (shaped .before .is-no-shape .ensures) (shaped .if2 .left) (told .enum-told .given .1)
+    (c .before .is-short .ensures) (c .if3 .taken)
 
 returns-4 : tie.Need-returns-4
 returns-4 c =
@@ -44,7 +45,8 @@ returns-5 c =
     let told = c .before .before in
     let shaped = told .before .before in
     let variance = shaped .before .before in
-    passes _ _ _ _ _ _ (variance .before .is-no-omega .ensures) (variance .if1 .left) (shaped .before .is-no-shape .ensures) (shaped .if2 .left) (told .enum-told .given .1) (c .before .is-short .ensures) (c .if3 .left)
+    passes _ _ _ _ _ _ (variance .before .is-no-omega .ensures) (variance .if1 .left) (shaped .before .is-no-shape .ensures) (shaped .if2 .left) (told .enum-told .given .1)
+    (c .before .is-short .ensures) (c .if3 .left)
 
 pub admitted-spec : {M : Type 1} → statement M
 admitted-spec =

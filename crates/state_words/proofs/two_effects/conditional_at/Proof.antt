@@ -75,7 +75,16 @@ from-word-requires-5 c κs = search needs
 
 returns : tie.Need-returns
 unfolding conditionalAt
-returns c = rw (c .before .before .before .before .before .before .pair-at .ensures, c .before .before .before .before .before .pair-at2 .ensures, c .before .before .before .before .from-word .ensures, c .before .before .before .from-word2 .ensures, c .before .before .from-word3 .ensures, c .before .from-word4 .ensures, c .from-word5 .ensures)
+returns c = rw (
+  c .before .before .before .before .before .before .pair-at .ensures,
+  c .before .before .before .before .before .pair-at2 .ensures,
+  c .before .before .before .before .from-word
+      .ensures,
+  c .before .before .before .from-word2 .ensures,
+  c .before .before .from-word3 .ensures,
+  c .before .from-word4 .ensures,
+  c .from-word5 .ensures,
+)
 
 pub conditional-at-spec : {M : Type 1} → statement M
 conditional-at-spec =

@@ -33,7 +33,8 @@ array-read-if4 c = search needs
 
 returns-4 : tie.Need-returns-4
 unfolding answer loaded searchOf
-returns-4 c = no _ (le-ltb _ _ (c .before .before .before .if1 .left)) (no _ (le-ltb _ _ (c .before .before .if2 .left)) (no _ (le-ltb _ _ (c .before .if3 .left)) (yes _ (lt-ltb _ _ (c .if4 .taken)) refl)))
+returns-4 c = no _ (le-ltb _ _ (c .before .before .before .if1 .left)) (no _ (le-ltb _ _ (c .before .before .if2 .left))
+    (no _ (le-ltb _ _ (c .before .if3 .left)) (yes _ (lt-ltb _ _ (c .if4 .taken)) refl)))
 
 array-read-stage-of : tie.Need-array-read-stage-of
 array-read-stage-of c = search needs

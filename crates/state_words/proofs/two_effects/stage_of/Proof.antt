@@ -21,7 +21,8 @@ returns-3 c = no _ (ne-eqb _ _ (c .before .before .if1 .left)) (no _ (ne-eqb _ _
 
 returns-4 : tie.Need-returns-4
 unfolding stageOf
-returns-4 c = no _ (ne-eqb _ _ (c .before .before .before .if1 .left)) (no _ (ne-eqb _ _ (c .before .before .if2 .left)) (no _ (ne-eqb _ _ (c .before .if3 .left)) (yes _ (eq-eqb _ _ (c .if4 .taken)) refl)))
+returns-4 c = no _ (ne-eqb _ _ (c .before .before .before .if1 .left)) (no _ (ne-eqb _ _ (c .before .before .if2 .left))
+    (no _ (ne-eqb _ _ (c .before .if3 .left)) (yes _ (eq-eqb _ _ (c .if4 .taken)) refl)))
 
 sub-t3 : tie.Need-sub-t3
 sub-t3 c = search needs
@@ -31,7 +32,8 @@ cast-t4 c = search needs
 
 returns-5 : tie.Need-returns-5
 unfolding stageOf
-returns-5 c = no _ (ne-eqb _ _ (c .before .before .before .if1 .left)) (no _ (ne-eqb _ _ (c .before .before .if2 .left)) (no _ (ne-eqb _ _ (c .before .if3 .left)) (no _ (ne-eqb _ _ (c .if4 .left)) refl)))
+returns-5 c = no _ (ne-eqb _ _ (c .before .before .before .if1 .left)) (no _ (ne-eqb _ _ (c .before .before .if2 .left))
+    (no _ (ne-eqb _ _ (c .before .if3 .left)) (no _ (ne-eqb _ _ (c .if4 .left)) refl)))
 
 pub stage-of-spec : {M : Type 1} → statement M
 stage-of-spec = tie.close (tie.spec returns returns-2 returns-3 returns-4 sub-t3 cast-t4 returns-5)

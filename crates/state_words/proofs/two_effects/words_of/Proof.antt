@@ -33,7 +33,19 @@ to-word-requires-9 c κs = search needs
 
 returns : tie.Need-returns
 unfolding wordsOf
-returns c = rw (c .before .before .before .before .before .before .before .before .to-word .ensures, c .before .before .before .before .before .before .before .to-word2 .ensures, c .before .before .before .before .before .before .to-word3 .ensures, c .before .before .before .before .before .to-word4 .ensures, c .before .before .before .before .to-word5 .ensures, c .before .before .before .to-word6 .ensures, c .before .before .to-word7 .ensures, c .before .to-word8 .ensures, c .to-word9 .ensures)
+returns c = rw (
+  c .before .before .before .before .before .before .before .before .to-word .ensures,
+  c .before .before .before .before .before .before .before .to-word2 .ensures,
+  c .before .before
+      .before .before .before .before .to-word3 .ensures,
+  c .before .before .before .before .before .to-word4 .ensures,
+  c .before .before .before .before .to-word5 .ensures,
+  c .before .before .before
+      .to-word6 .ensures,
+  c .before .before .to-word7 .ensures,
+  c .before .to-word8 .ensures,
+  c .to-word9 .ensures,
+)
 
 pub words-of-spec : {M : Type 1} → statement M
 words-of-spec =

@@ -14,7 +14,8 @@ f-eta-requires c κs = search needs
 returns : tie.Need-returns
 returns c =
     let first = c .before .before .before .before in
-    one-effect _ _ _ _ _ (first .before .before .column .ensures) (first .before .from-word .ensures) (first .f-eta .ensures) (c .before .before .if1 .taken) (c .before .additive-of .ensures) (c .add-row .ensures)
+    one-effect _ _ _ _ _ (first .before .before .column .ensures) (first .before .from-word .ensures) (first .f-eta .ensures) (c .before .before .if1 .taken) (c .before .additive-of .ensures)
+    (c .add-row .ensures)
 
 f-eta-requires-2 : tie.Need-f-eta-requires-2
 f-eta-requires-2 c κs = search needs
@@ -22,7 +23,8 @@ f-eta-requires-2 c κs = search needs
 returns-2 : tie.Need-returns-2
 returns-2 c =
     let first = c .before .before .before .before in
-    two-effects _ _ _ _ _ (first .before .before .column .ensures) (first .before .from-word .ensures) (first .f-eta .ensures) (c .before .before .if1 .left) (c .before .f-eta2 .ensures) (c .add-row-2d .ensures)
+    two-effects _ _ _ _ _ (first .before .before .column .ensures) (first .before .from-word .ensures) (first .f-eta .ensures) (c .before .before .if1 .left) (c .before .f-eta2 .ensures)
+    (c .add-row-2d .ensures)
 
 pub add-row-at-spec : {M : Type 1} → statement M
 add-row-at-spec =

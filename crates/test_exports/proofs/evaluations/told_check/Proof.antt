@@ -18,7 +18,8 @@ same-length : tie.Need-same-length
 same-length c = search needs
 
 returns-2 : tie.Need-returns-2
-returns-2 c = let subject = c .before .before .before .before .before .before in unsound-told _ (subject .before .before .before .check .given .1) (subject .put .ensures) (c .before .before .put2 .ensures)
+returns-2 c = let subject = c .before .before .before .before .before .before in unsound-told _ (subject .before .before .before .check .given .1) (subject .put .ensures)
+    (c .before .before .put2 .ensures)
 
 pub told-check-spec : {M : Type 1} → statement M
 told-check-spec = tie.close (tie.spec enum-told enum-known-check free free returns same-length returns-2)

@@ -65,7 +65,8 @@ loop-again c =
     let turn = first .before .before .before in
     let so-far = turn .before .loop .inv in
     let placed = turn .before .before in (
-      fitted-step _ _ _ _ _ _ (turn .loop-test .taken) (placed .before .block .ensures) (placed .block2 .ensures) (first .before .read .ensures) (first .put .ensures) (second .before .read2 .ensures) (second .put2 .ensures)
+      fitted-step _ _ _ _ _ _ (turn .loop-test .taken) (placed .before .block .ensures) (placed .block2 .ensures) (first .before .read .ensures) (first .put .ensures) (second .before .read2 .ensures)
+          (second .put2 .ensures)
           ∙ so-far .0,
       second .put2 .kept .0 ∙ first .put .kept .0 ∙ so-far .1,
     )
