@@ -1,9 +1,8 @@
 /* Curlewstand: whole sessions of FOCEI population fits, proved.
  *
- * Link target/staticlib/libhost.a, which `rt staticlib host` writes, and for curlewstand_subject_reply
- * target/staticlib/libsubject_replies.a (`rt staticlib subject_replies`). The functions keep nothing of
- * their own: all that a session has stands in what the host lends. Between the calls of a session the host
- * changes none of it but the reply, and between objectives the warm starts.
+ * Link target/staticlib/libcurlewstand.a, which `./library` at the top of the repository proves and builds.
+ * The functions keep nothing of their own: all that a session has stands in what the host lends. Between the
+ * calls of a session the host changes none of it but the reply, and between objectives the warm starts.
  *
  * What the caller owes. The functions are proved for calls that keep these rules. Nothing tests them, and of a
  * call that breaks one nothing is promised:
