@@ -67,10 +67,10 @@ use Rattle.session.proofs.first_check as g
 use Rattle.session.proofs.first_check.Symbol as g-def
 use Rattle.session.proofs.first_check.Symbol.{name as #g}
 use Rattle.session.proofs.first_check.Met as g-thm
-use Rattle.subject.proofs.checks.check_observations as h
-use Rattle.subject.proofs.checks.check_observations.Symbol as h-def
-use Rattle.subject.proofs.checks.check_observations.Symbol.{name as #h}
-use Rattle.subject.proofs.checks.check_observations.Met as h-thm
+use Rattle.observations.proofs.check_observations as h
+use Rattle.observations.proofs.check_observations.Symbol as h-def
+use Rattle.observations.proofs.check_observations.Symbol.{name as #h}
+use Rattle.observations.proofs.check_observations.Met as h-thm
 use Rattle.curlewstand_calls.proofs.check_lent.Key.{name as #f}
 use Rattle.curlewstand_calls.proofs.check_lent as f
 use Rattle.curlewstand_calls.proofs.check_lent.Statement as stated

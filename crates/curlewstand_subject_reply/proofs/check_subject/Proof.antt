@@ -62,10 +62,10 @@ use Rattle.subject.proofs.Check.Laws as K′
 use lib.ListN.{take, drop as drop-list}
 use Rattle.subject.specs.Observations.{checkObservations}
 use Rattle.curlewstand_subject_reply.proofs.Paths.{all-from}
-use Rattle.subject.proofs.checks.check_observations as h
-use Rattle.subject.proofs.checks.check_observations.Symbol as h-def
-use Rattle.subject.proofs.checks.check_observations.Symbol.{name as #h}
-use Rattle.subject.proofs.checks.check_observations.Met as h-thm
+use Rattle.observations.proofs.check_observations as h
+use Rattle.observations.proofs.check_observations.Symbol as h-def
+use Rattle.observations.proofs.check_observations.Symbol.{name as #h}
+use Rattle.observations.proofs.check_observations.Met as h-thm
 use Rattle.curlewstand_subject_reply.proofs.check_subject.Key.{name as #f}
 use Rattle.curlewstand_subject_reply.proofs.check_subject as f
 use Rattle.curlewstand_subject_reply.proofs.check_subject.Statement as stated

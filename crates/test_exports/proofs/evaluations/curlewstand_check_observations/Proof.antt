@@ -51,10 +51,10 @@ use Rattle.test_exports.proofs.evaluations.first_check as g
 use Rattle.test_exports.proofs.evaluations.first_check.Symbol as g-def
 use Rattle.test_exports.proofs.evaluations.first_check.Symbol.{name as #g}
 use Rattle.test_exports.proofs.evaluations.first_check.Met as g-thm
-use Rattle.subject.proofs.checks.check_observations as h
-use Rattle.subject.proofs.checks.check_observations.Symbol as h-def
-use Rattle.subject.proofs.checks.check_observations.Symbol.{name as #h}
-use Rattle.subject.proofs.checks.check_observations.Met as h-thm
+use Rattle.observations.proofs.check_observations as h
+use Rattle.observations.proofs.check_observations.Symbol as h-def
+use Rattle.observations.proofs.check_observations.Symbol.{name as #h}
+use Rattle.observations.proofs.check_observations.Met as h-thm
 use Rattle.test_exports.proofs.evaluations.told_check as j
 use Rattle.test_exports.proofs.evaluations.told_check.Symbol as j-def
 use Rattle.test_exports.proofs.evaluations.told_check.Symbol.{name as #j}
