@@ -2,20 +2,18 @@
 use mathlib.Core.Path.{_≡_, sym, ap, _∙_}
 use mathlib.Core.List.{List}
 use borrow.Author.Tests.{eq-eqb, ne-eqb}
-use lib.Dec.{eqb}
 use lib.Ieee.{Float}
 use Rattle.float64.specs.Arithmetic.{word}
-use Rattle.float64.specs.Pick.{pick, yes, no}
+use Rattle.float64.specs.Pick.{yes, no}
 use Rattle.matrix.specs.Matrix.{inverse, answer, inversePositive}
 use Rattle.matrix.specs.declared.InversePositive.{InversePositive}
 use Rattle.matrix.specs.declared.InversePositive.the-variants.{Exists, None}
 use Rattle.matrix.specs.declared.Pair.{Pair}
-use Rattle.setup.specs.Admission.{omegaOf, withParameters}
+use Rattle.setup.specs.Admission.{omegaOf}
 use Rattle.setup.specs.declared.Setup.{Setup}
-use Rattle.setup.specs.declared.Parameters.{Parameters}
 use Rattle.search.specs.declared.Fit.{Fit}
 use Rattle.search.specs.declared.Step.{Step}
-use Rattle.search.specs.Subjects.{fitWith, noMatrix, fitBy, fit2, fitOf, isOver}
+use Rattle.search.specs.Subjects.{fitWith, noMatrix, fitBy, fit2, fitIn, isOver}
 
 -- ---- the answer of `inverse_positive` where it is the variant v
 pub inverse-is : (m : List (List Float)) {r v : InversePositive} → answer m r ≡ inversePositive m → r ≡ v → answer m v ≡ inversePositive m
@@ -36,17 +34,13 @@ module _ (setup : Setup) (theta : Pair) {r : InversePositive} (e : answer (omega
   unfolding fitBy answer
   no-precision t q = fitted-by t q
 
--- own is the setup with the objective's own parameters
-module _ (setup : Setup) (parameters : Parameters) {own : Setup} (e : own ≡ withParameters setup parameters) where
-  fitted : {z : Fit} → z ≡ pick (eqb (own .effects) 2) (fit2 own (parameters .theta)) (fitWith own (parameters .theta) noMatrix (word 0)) → z ≡ fitOf setup parameters
-  unfolding fitOf
-  fitted q = q ∙ ap (λ (s : Setup). pick (eqb (s .effects) 2) (fit2 s (parameters .theta)) (fitWith s (parameters .theta) noMatrix (word 0))) e
+-- with one effect or two
+module _ (own : Setup) (theta : Pair) {z : Fit} where
+  pub fit-two : own .effects ≡ 2 → z ≡ fit2 own theta → z ≡ fitIn own theta
+  fit-two h q = yes _ (eq-eqb _ _ h) q
 
-  pub fit-two : {z : Fit} → own .effects ≡ 2 → z ≡ fit2 own (parameters .theta) → z ≡ fitOf setup parameters
-  fit-two h q = fitted (yes _ (eq-eqb _ _ h) q)
-
-  pub fit-one : {z : Fit} → (own .effects ≡ 2 → ⊥) → z ≡ fitWith own (parameters .theta) noMatrix (word 0) → z ≡ fitOf setup parameters
-  fit-one h q = fitted (no _ (ne-eqb _ _ h) q)
+  pub fit-one : (own .effects ≡ 2 → ⊥) → z ≡ fitWith own theta noMatrix (word 0) → z ≡ fitIn own theta
+  fit-one h q = no _ (ne-eqb _ _ h) q
 
 -- ---- whether a step ends, by its variant
 pub over-at : {step variant : Step} → step ≡ variant → isOver variant ≡ isOver step

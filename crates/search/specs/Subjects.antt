@@ -86,10 +86,13 @@ fitBy setup theta none = fitWith setup theta noMatrix (word 0)
 unfoldable pub fit2 : Setup → Pair → Fit
 fit2 setup theta = fitBy setup theta (inversePositive (omegaOf setup))
 
+-- by the setup of one objective
+abbrev pub fitIn : Setup → Pair → Fit
+fitIn own theta = pick (eqb (own .effects) 2) (fit2 own theta) (fitWith own theta noMatrix (word 0))
+
+-- by the setup of the session and the objective's own parameters
 unfoldable pub fitOf : Setup → Parameters → Fit
-fitOf setup parameters =
-    let own = withParameters setup parameters in
-    pick (eqb (own .effects) 2) (fit2 own (parameters .theta)) (fitWith own (parameters .theta) noMatrix (word 0))
+fitOf setup parameters = fitIn (withParameters setup parameters) (parameters .theta)
 
 unfoldable pub settings : Fit → Progress → Settings
 settings fit progress = record {

@@ -3,7 +3,7 @@
 // search wants and what an evaluated point makes of it, `questions` the key of an evaluation and the question
 // for it, `objective` what a mode adds to the objective. Each function is defined for all values.
 ghost use mathlib.Core.Path.{_≡_};
-ghost use Rattle.search.specs.Subjects.{fitWith, fit2, fitOf, beginSubject, idle, refusedBy, isOver};
+ghost use Rattle.search.specs.Subjects.{fitWith, fit2, fitIn, beginSubject, idle, refusedBy, isOver};
 
 pub mod objective;
 pub mod points;
@@ -13,7 +13,6 @@ use matrix::InversePositive;
 use matrix::Pair;
 use mode::population_focei::Search;
 use mode_2d::population_focei_2d::Search2;
-use setup::Parameters;
 use setup::Setup;
 use subject::AdditiveSd;
 use work::Sources;
@@ -154,15 +153,14 @@ fn fit_with(setup: Setup, theta: Pair, precision: [[f64; 2]; 2], det_omega: f64)
     }
 }
 
-// What the searches of an objective have in common, by the session's setup and the objective's parameters.
-pub fn fit_of(setup: Setup, parameters: Parameters) -> Fit
-    ensures { λ r. ⌜ r ≡ fitOf setup parameters ⌝ }
+// What the searches of an objective have in common, by its own setup (`setup::with_parameters`) and theta.
+pub fn fit_of(own: Setup, theta: Pair) -> Fit
+    ensures { λ r. ⌜ r ≡ fitIn own theta ⌝ }
 {
-    let own = setup::with_parameters(setup, parameters);
     if own.effects == 2 {
-        return fit_2d(own, parameters.theta);
+        return fit_2d(own, theta);
     }
-    fit_with(own, parameters.theta, [[0.0, 0.0], [0.0, 0.0]], 0.0)
+    fit_with(own, theta, [[0.0, 0.0], [0.0, 0.0]], 0.0)
 }
 
 // Where an objective stands as a subject's search begins: `first` is the number of the subject's first

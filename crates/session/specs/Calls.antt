@@ -22,7 +22,8 @@ use Rattle.setup.specs.declared.Setup.{Setup}
 use Rattle.setup.specs.declared.Admission.{Admission}
 use Rattle.setup.specs.declared.Admission.the-variants as A
 use Rattle.cache.specs.declared.CacheOrder.{CacheOrder}
-use Rattle.search.specs.Subjects.{fitOf, wantedBy, idle, beginSubject}
+use Rattle.search.specs.Subjects.{fitIn, fitOf, wantedBy, idle, beginSubject}
+use Rattle.search.specs.declared.Fit.{Fit}
 use Rattle.search.specs.declared.Place.{Place}
 use Rattle.search.specs.declared.Place.the-variants as At
 use Rattle.search.specs.declared.Progress.{Progress}
@@ -33,7 +34,7 @@ use Rattle.search.specs.declared.Wanted.{Wanted}
 use Rattle.search.specs.declared.Wanted.the-variants as Wants
 use Rattle.machine.specs.Machine.{Moved, Ran, ran, onward, loop}
 use Rattle.population.specs.Kept.{cacheOf, words}
-use Rattle.population.specs.Population.{rowsOf, warmOf, wholeOf, spent}
+use Rattle.population.specs.Population.{rowsOf, warmOf, wholeOf, turn, spent}
 use Rattle.session.specs.Session.{Held, held, fuel, isStanding, whenAdmitted, opened, replied, turnHeld}
 use Rattle.session.specs.declared.State.{State}
 use Rattle.session.specs.declared.Called.{Called}
@@ -59,6 +60,15 @@ run setup counts h = loop (turnHeld words setup counts) spent fuel h
 -- an entry, and then the loop
 abbrev pub entered : Setup → List ℕ → Moved (Held words) Step → Ran (Held words) Step
 entered setup counts m = onward m (λ h. run setup counts h)
+
+-- the same with what the searches have in common at hand
+abbrev pub runIn : Fit → List ℕ → Held words → Ran (Held words) Step
+runIn fit counts h =
+    let r = loop (turn words fit counts) spent fuel (h .whole) in
+    ran (r .answer) (held words (h .parameters) (r .state))
+
+abbrev pub enteredIn : Fit → List ℕ → Moved (Held words) Step → Ran (Held words) Step
+enteredIn fit counts m = onward m (λ h. runIn fit counts h)
 
 -- ---- what is lent, and refusals
 
@@ -130,23 +140,25 @@ admitObjective setup counts lent check parameters progress tally =
 
 -- ---- a reply, and its failure
 
-abbrev pub unawaited : Awaited
-unawaited = record { admission = A.Refused 19; eta = record { first = word 0; second = word 0 } }
+-- 19: a reply is awaited, and the positions are within the subjects, n observations and the search's limits; then what the search wants
+unfoldable pub awaitedPoint : Setup → List ℕ → ℕ → Fit → Progress → Tally → Wanted
+awaitedPoint setup counts n fit progress tally =
+    pick (progress .awaits) (pick (isStanding setup counts n tally progress) (wantedBy fit progress) (Wants.Refused 19)) (Wants.Refused 19)
 
-unfoldable pub awaitedAt : Setup → List ℕ → Lent → Check → Parameters → Wanted → Awaited
-awaitedAt setup counts lent check parameters (Wants.Point eta) = record {
-  admission = checks (withParameters setup parameters) counts lent check;
-  eta = eta;
-}
-awaitedAt setup counts lent check parameters Wants.Mode = unawaited
-awaitedAt setup counts lent check parameters (Wants.Refused number) = unawaited
+abbrev pub unawaited : Fit → Awaited
+unawaited fit = record { admission = A.Refused 19; eta = record { first = word 0; second = word 0 }; fit = fit }
+
+-- what the checks of what is lent found, where a point is wanted; else 19
+unfoldable pub awaitedFor : Fit → Admission → Wanted → Awaited
+awaitedFor fit admission (Wants.Point eta) = record { admission = admission; eta = eta; fit = fit }
+awaitedFor fit admission Wants.Mode = unawaited fit
+awaitedFor fit admission (Wants.Refused number) = unawaited fit
 
 unfoldable pub admitAwaited : Setup → List ℕ → Lent → Check → State → Tally → Awaited
 admitAwaited setup counts lent check state tally =
-    pick (state .progress .awaits)
-    (pick (isStanding setup counts (lent .observations) tally (state .progress))
-    (awaitedAt setup counts lent check (state .parameters) (wantedBy (fitOf setup (state .parameters)) (state .progress))) unawaited)
-    unawaited
+    let fit = fitOf setup (state .parameters) in
+    awaitedFor fit (checks (withParameters setup (state .parameters)) counts lent check)
+    (awaitedPoint setup counts (lent .observations) fit (state .progress) tally)
 
 abbrev pub trialBy : Setup → State → ℕ → Trial
 trialBy setup state rows = record {
@@ -162,41 +174,40 @@ abbrev pub nothingAdmitted : Awaited → Trial → ℕ → Admitted
 nothingAdmitted awaited trial number = record { awaited = awaited; from = 0; to = 0; evaluation = E.Refused number; trial = trial }
 
 -- a reply where the lent words are no state
-abbrev pub unadmitted : Admitted
-unadmitted =
-    nothingAdmitted unawaited
-    (record { individual = record { first = word 0; second = word 0 }; «additive_sd» = Own; width = 0; effects = 0; block = 0 }) 19
+abbrev pub unadmitted : Setup → Admitted
+unadmitted setup =
+    let zero : Pair = record { first = word 0; second = word 0 } in
+    nothingAdmitted (unawaited (fitIn setup zero))
+    (record { individual = zero; «additive_sd» = Own; width = 0; effects = 0; block = 0 }) 19
 
-unfoldable pub admittedBy : Setup → List ℕ → ℕ → State → List ℕ → Awaited → Admission → Admitted
-admittedBy setup counts n state reply awaited A.Accepted =
-    let rows = rowsOf counts (state .progress .subject) in
+-- what is begun with a reply that is accepted, over the observations lent from number `from` up to, but without, `to`
+unfoldable pub admittedOver : Setup → Trial → List ℕ → Awaited → ℕ → ℕ → Admission → Admitted
+admittedOver setup trial reply awaited from to A.Accepted =
     record {
       awaited = awaited;
-      from = state .progress .first;
-      to = smaller (state .progress .first + rows) n;
+      from = from;
+      to = to;
       evaluation = begin reply (setup .width) (setup .effects) (setup .«output_budget»);
-      trial = trialBy setup state rows;
+      trial = trial;
     }
-admittedBy setup counts n state reply awaited (A.Refused number) =
-    nothingAdmitted awaited (trialBy setup state (rowsOf counts (state .progress .subject))) number
-admittedBy setup counts n state reply awaited (A.Unsound at) =
-    nothingAdmitted awaited (trialBy setup state (rowsOf counts (state .progress .subject))) 4
+admittedOver setup trial reply awaited from to (A.Refused number) = nothingAdmitted awaited trial number
+admittedOver setup trial reply awaited from to (A.Unsound at) = nothingAdmitted awaited trial 4
 
 unfoldable pub admitReply : Setup → List ℕ → Lent → Check → State → Tally → List ℕ → Admitted
 admitReply setup counts lent check state tally reply =
     let awaited = admitAwaited setup counts lent check state tally in
-    admittedBy setup counts (lent .observations) state reply awaited (awaited .admission)
+    let first = state .progress .first in
+    let rows = rowsOf counts (state .progress .subject) in
+    admittedOver setup (trialBy setup state rows) reply awaited first (smaller (first + rows) (lent .observations)) (awaited .admission)
 
 -- the end of the evaluation at eta, with the work words that it has written, and then the loop
-unfoldable pub followed : Setup → List ℕ → Pair → Evaluation → Held words → Ran (Held words) Step
-followed setup counts eta e h =
-    entered setup counts (replied words setup counts (fitOf setup (h .parameters)) eta h (h .whole .work) (finish e))
+unfoldable pub followed : Fit → List ℕ → Pair → Evaluation → Held words → Ran (Held words) Step
+followed fit counts eta e h = enteredIn fit counts (replied words counts fit eta h (h .whole .work) (finish e))
 
-unfoldable pub finishReply : Setup → List ℕ → Awaited → Evaluation → Held words → Ran (Held words) Step
-finishReply setup counts awaited e h =
-    entered setup counts
-    (whenAdmitted words setup counts h
-    (replied words setup counts (fitOf setup (h .parameters)) (awaited .eta) h (h .whole .work) (finish e)) (awaited .admission))
+unfoldable pub finishReply : List ℕ → Awaited → Evaluation → Held words → Ran (Held words) Step
+finishReply counts awaited e h =
+    enteredIn (awaited .fit) counts
+    (whenAdmitted words h (replied words counts (awaited .fit) (awaited .eta) h (h .whole .work) (finish e)) (awaited .admission))
 
 -- ---- a finished objective, with one effect
 

@@ -104,7 +104,7 @@ fuel = 25985024
 
 -- ---- what an entry may do
 
-module _ (S : Store) (setup : Setup) (counts : List ℕ) where
+module _ (S : Store) where
   -- a refusal that alters nothing
   abbrev pub unaltered : ℕ → Place → Held S → Moved (Held S) Step
   unaltered number place h = halt (Refused number place) h
@@ -114,6 +114,27 @@ module _ (S : Store) (setup : Setup) (counts : List ℕ) where
   whenAdmitted h go (A.Refused number) = unaltered number At.Nowhere h
   whenAdmitted h go (A.Unsound place) = unaltered 4 (At.Observation (place .subject) (place .observation)) h
 
+  -- a refusal that ends the objective
+  unfoldable pub over : ℕ → Place → Held S → Moved (Held S) Step
+  over number place h =
+      let w = h .whole in
+      halt (Refused number place)
+      (held S (h .parameters) (wholeOf S (idle (w .progress)) (w .tally) (w .kept) (zeros (length (w .work))) (w .warm) (w .results)))
+
+  -- a reply: the end of the evaluation of the point eta, with the work words that it has written
+  unfoldable pub replied : List ℕ → Fit → Pair → Held S → List ℕ → Evaluation → Moved (Held S) Step
+  replied counts fit eta h work (E.Running sums) =
+      let w = h .whole in
+      let r = receive S fit counts (w .progress) (w .tally) eta sums (w .kept) work in
+      on (held S (h .parameters) (wholeOf S (r .progress) (r .tally) (r .kept) (r .work) (w .warm) (w .results)))
+  replied counts fit eta h work (E.Refused number) = over number (At.Subject (h .whole .progress .subject)) h
+  replied counts fit eta h work (E.RefusedAt number n) = over number (At.Observation (h .whole .progress .subject) n) h
+
+  unfoldable pub heldBy : Parameters → Moved (Whole S) Step → Moved (Held S) Step
+  heldBy parameters (on w) = on (held S parameters w)
+  heldBy parameters (halt a w) = halt a (held S parameters w)
+
+module _ (S : Store) (setup : Setup) (counts : List ℕ) where
   -- setup: tally, kept, work and warm words are zeroed
   abbrev pub noParameters : Parameters
   noParameters = record { theta = record { first = word 0; second = word 0 }; omega = setup .omega00; «additive_sd» = setup .«additive_sd» }
@@ -130,13 +151,6 @@ module _ (S : Store) (setup : Setup) (counts : List ℕ) where
       let start = beginSubject 0 0 (warmOf (w .warm) (setup .effects) 0) (word 0) (word 0) in
       held S parameters (wholeOf S start (w .tally) (w .kept) (w .work) (w .warm) (w .results))
 
-  -- a refusal that ends the objective
-  unfoldable pub over : ℕ → Place → Held S → Moved (Held S) Step
-  over number place h =
-      let w = h .whole in
-      halt (Refused number place)
-      (held S (h .parameters) (wholeOf S (idle (w .progress)) (w .tally) (w .kept) (zeros (length (w .work))) (w .warm) (w .results)))
-
   abbrev pub trialOf : Fit → Progress → Trial
   trialOf fit p = record {
     individual = p .individual;
@@ -146,22 +160,9 @@ module _ (S : Store) (setup : Setup) (counts : List ℕ) where
     block = block (rowsOf counts (p .subject)) 3;
   }
 
-  -- a reply: the end of the evaluation of the point eta, with the work words that it has written
-  unfoldable pub replied : Fit → Pair → Held S → List ℕ → Evaluation → Moved (Held S) Step
-  replied fit eta h work (E.Running sums) =
-      let w = h .whole in
-      let r = receive S fit counts (w .progress) (w .tally) eta sums (w .kept) work in
-      on (held S (h .parameters) (wholeOf S (r .progress) (r .tally) (r .kept) (r .work) (w .warm) (w .results)))
-  replied fit eta h work (E.Refused number) = over number (At.Subject (h .whole .progress .subject)) h
-  replied fit eta h work (E.RefusedAt number n) = over number (At.Observation (h .whole .progress .subject) n) h
-
-  unfoldable pub heldBy : Parameters → Moved (Whole S) Step → Moved (Held S) Step
-  heldBy parameters (on w) = on (held S parameters w)
-  heldBy parameters (halt a w) = halt a (held S parameters w)
-
   -- one request, in the objective's own fit
   unfoldable pub turnHeld : Held S → Moved (Held S) Step
-  turnHeld h = heldBy (h .parameters) (turn S (fitOf setup (h .parameters)) counts (h .whole))
+  turnHeld h = heldBy S (h .parameters) (turn S (fitOf setup (h .parameters)) counts (h .whole))
 
   -- between objectives the host may set the warm starts
   unfoldable pub setWarm : List ℕ → Held S → Held S
@@ -178,27 +179,27 @@ module _ (S : Store) (setup : Setup) (counts : List ℕ) (n : ℕ) (check : Chec
 
   unfoldable pub enterObjective : Parameters → Held S → Moved (Held S) Step
   enterObjective parameters h =
-      pick (h .whole .progress .awaits) (unaltered S setup counts 19 At.Nowhere h)
+      pick (h .whole .progress .awaits) (unaltered S 19 At.Nowhere h)
       (pick (isStanding setup counts n (h .whole .tally) (h .whole .progress))
-      (whenAdmitted S setup counts h (on (begun S setup counts parameters (h .whole))) (admitted parameters (h .whole)))
-      (unaltered S setup counts 19 At.Nowhere h))
+      (whenAdmitted S h (on (begun S setup counts parameters (h .whole))) (admitted parameters (h .whole)))
+      (unaltered S 19 At.Nowhere h))
 
   -- 19: a point is awaited; then 1 to 5; and then what the call does with it
   unfoldable pub atWanted : Held S → (Pair → Moved (Held S) Step) → Wanted → Moved (Held S) Step
-  atWanted h go (Wants.Point eta) = whenAdmitted S setup counts h (go eta) (admitted (h .parameters) (h .whole))
-  atWanted h go Wants.Mode = unaltered S setup counts 19 At.Nowhere h
-  atWanted h go (Wants.Refused number) = unaltered S setup counts 19 At.Nowhere h
+  atWanted h go (Wants.Point eta) = whenAdmitted S h (go eta) (admitted (h .parameters) (h .whole))
+  atWanted h go Wants.Mode = unaltered S 19 At.Nowhere h
+  atWanted h go (Wants.Refused number) = unaltered S 19 At.Nowhere h
 
   unfoldable pub whenAwaited : Held S → (Pair → Moved (Held S) Step) → Moved (Held S) Step
   whenAwaited h go =
       pick (h .whole .progress .awaits)
       (pick (isStanding setup counts n (h .whole .tally) (h .whole .progress))
-      (atWanted h go (wantedBy (fitOf setup (h .parameters)) (h .whole .progress))) (unaltered S setup counts 19 At.Nowhere h))
-      (unaltered S setup counts 19 At.Nowhere h)
+      (atWanted h go (wantedBy (fitOf setup (h .parameters)) (h .whole .progress))) (unaltered S 19 At.Nowhere h))
+      (unaltered S 19 At.Nowhere h)
 
   -- the simulator failed: 8
   unfoldable pub enterFailure : Held S → Moved (Held S) Step
-  enterFailure h = whenAwaited h (λ eta. over S setup counts 8 (At.Subject (h .whole .progress .subject)) h)
+  enterFailure h = whenAwaited h (λ eta. over S 8 (At.Subject (h .whole .progress .subject)) h)
 
 -- ---- a session
 
@@ -219,7 +220,7 @@ module _ (S : Store) (setup : Setup) (counts : List ℕ) (observations : List Ob
   answered words eta h =
       let fit = fitOf setup (h .parameters) in
       let e = evaluated fit words (h .whole .progress) (h .whole .work) in
-      replied S setup counts fit eta h (e .work) (finish (e .evaluation))
+      replied S counts fit eta h (e .work) (finish (e .evaluation))
 
   unfoldable pub enterReply : List ℕ → Held S → Moved (Held S) Step
   enterReply words h =

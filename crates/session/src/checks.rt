@@ -5,9 +5,10 @@ ghost use mathlib.Core.Path.{_≡_};
 ghost use Prim.Native.Nat.{_+_};
 ghost use lib.ListN.{length};
 ghost use Rattle.words.specs.Words.{smaller};
-ghost use Rattle.session.specs.Calls.{admitObjective, unawaited, admitAwaited, trialBy, nothingAdmitted, unadmitted, admitReply};
+ghost use Rattle.session.specs.Calls.{admitObjective, awaitedPoint, unawaited, awaitedFor, admitAwaited, trialBy, nothingAdmitted};
+ghost use Rattle.session.specs.Calls.{unadmitted, admittedOver, admitReply};
 ghost use Rattle.session.specs.Session.{countWithin, searchWithin, searchWithin2, isPlaced, isStanding};
-ghost use Rattle.session.specs.SubjectReply.{awaitedPoint, awaitedFor, admittedOver, admitSubjectReply};
+ghost use Rattle.session.specs.SubjectReply.{admitSubjectReply};
 use super::Admitted;
 use super::Awaited;
 use super::State;
@@ -15,6 +16,7 @@ use matrix::Pair;
 use mode::population_focei::Search;
 use mode::population_focei::Stage;
 use mode_2d::population_focei_2d::Search2;
+use search::Fit;
 use search::Progress;
 use search::Tally;
 use search::Wanted;
@@ -127,17 +129,16 @@ pub fn admit_objective(
 // search wants.
 fn awaited_point(
     setup: Setup,
-    state: State,
+    fit: Fit,
+    progress: Progress,
     tally: Tally,
     counts: &[u64],
     observations: usize,
 ) -> Wanted
-    ensures { λ r. ⌜ r ≡ awaitedPoint setup (now (counts .entry)) observations state tally ⌝ }
+    ensures { λ r. ⌜ r ≡ awaitedPoint setup (now (counts .entry)) observations fit progress tally ⌝ }
 {
-    let progress = state.progress;
     if progress.awaits {
         if is_standing(setup, counts, observations, tally, progress) {
-            let fit = search::fit_of(setup, state.parameters);
             return search::points::wanted_by(fit, progress);
         }
         return Wanted::Refused(19);
@@ -146,18 +147,22 @@ fn awaited_point(
 }
 
 // What the checks of the lent words and observations found, where a point is wanted; else 19.
-fn awaited_for(wanted: Wanted, admission: Admission) -> Awaited
-    ensures { λ r. ⌜ r ≡ awaitedFor admission wanted ⌝ }
+fn awaited_for(fit: Fit, wanted: Wanted, admission: Admission) -> Awaited
+    ensures { λ r. ⌜ r ≡ awaitedFor fit admission wanted ⌝ }
 {
     match wanted {
-        Wanted::Point(eta) => Awaited { admission, eta },
-        Wanted::Mode => unawaited(),
-        Wanted::Refused(_) => unawaited(),
+        Wanted::Point(eta) => Awaited {
+            admission,
+            eta,
+            fit,
+        },
+        Wanted::Mode => unawaited(fit),
+        Wanted::Refused(_) => unawaited(fit),
     }
 }
 
-fn unawaited() -> Awaited
-    ensures { λ r. ⌜ r ≡ unawaited ⌝ }
+fn unawaited(fit: Fit) -> Awaited
+    ensures { λ r. ⌜ r ≡ unawaited fit ⌝ }
 {
     Awaited {
         admission: Admission::Refused(19),
@@ -165,6 +170,7 @@ fn unawaited() -> Awaited
             first: 0.0,
             second: 0.0,
         },
+        fit,
     }
 }
 
@@ -180,9 +186,10 @@ pub fn admit_awaited(
 ) -> Awaited
     ensures { λ r. ⌜ r ≡ admitAwaited setup (now (counts .entry)) lent check state tally ⌝ }
 {
-    let wanted = awaited_point(setup, state, tally, counts, lent.observations);
     let own = setup::with_parameters(setup, state.parameters);
-    awaited_for(wanted, setup::checks::checks(own, counts, lent, check))
+    let fit = search::fit_of(own, state.parameters.theta);
+    let wanted = awaited_point(setup, fit, state.progress, tally, counts, lent.observations);
+    awaited_for(fit, wanted, setup::checks::checks(own, counts, lent, check))
 }
 
 // The trial block of the subject's rows, and what its rows are computed with.
@@ -278,12 +285,12 @@ pub fn admit_subject_reply(
 ) -> Admitted
     ensures { λ r. ⌜ r ≡ admitSubjectReply setup (now (counts .entry)) lent check state tally (now (reply .entry)) ⌝ }
 {
-    let progress = state.progress;
-    let subject = progress.subject;
-    let wanted = awaited_point(setup, state, tally, counts, work::MOST_ROWS);
     let own = setup::with_parameters(setup, state.parameters);
+    let fit = search::fit_of(own, state.parameters.theta);
+    let wanted = awaited_point(setup, fit, state.progress, tally, counts, work::MOST_ROWS);
+    let subject = state.progress.subject;
     let admission = setup::checks::subject_checks(own, counts, subject, lent, check);
-    let awaited = awaited_for(wanted, admission);
+    let awaited = awaited_for(fit, wanted, admission);
     let rows = population::rows_of(counts, subject);
     let trial = trial_by(setup, state, rows);
     admitted_over(setup, trial, reply, awaited, 0, lent.observations)
@@ -301,19 +308,21 @@ fn nothing_admitted(awaited: Awaited, trial: Trial, number: u32) -> Admitted
     }
 }
 
-// The first part of a reply where the lent words are no state: refused with 19.
-pub fn unadmitted() -> Admitted
-    ensures { λ r. ⌜ r ≡ unadmitted ⌝ }
+// The first part of a reply where the lent words are no state: refused with 19. There are no parameters
+// either, and theta counts as zero.
+pub fn unadmitted(setup: Setup) -> Admitted
+    ensures { λ r. ⌜ r ≡ unadmitted setup ⌝ }
 {
+    let zero = Pair {
+        first: 0.0,
+        second: 0.0,
+    };
     let trial = Trial {
-        individual: Pair {
-            first: 0.0,
-            second: 0.0,
-        },
+        individual: zero,
         additive_sd: AdditiveSd::Own,
         width: 0,
         effects: 0,
         block: 0,
     };
-    nothing_admitted(unawaited(), trial, 19)
+    nothing_admitted(unawaited(search::fit_of(setup, zero)), trial, 19)
 }

@@ -11,6 +11,7 @@ pub mod checks;
 
 use cache::CacheOrder;
 use matrix::Pair;
+use search::Fit;
 use search::Place;
 use search::Progress;
 use search::Step;
@@ -51,10 +52,12 @@ pub struct Begun {
     pub tally: Tally,
 }
 
-// Whether a reply or a failure is accepted (19, then 1 to 5), and the point that was asked for.
+// Whether a reply or a failure is accepted (19, then 1 to 5), the point that was asked for, and what the
+// searches of its objective have in common.
 pub struct Awaited {
     pub admission: Admission,
     pub eta: Pair,
+    pub fit: Fit,
 }
 
 // A reply, accepted or not: the evaluation that begins with it, and the numbers of the observations that it

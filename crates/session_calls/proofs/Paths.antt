@@ -37,9 +37,9 @@ use Rattle.population.specs.declared.answers.Kept.{Kept}
 use Rattle.population.specs.Through.{taken}
 use Rattle.population.specs.declared.kept_points.InHand.the-variants as Hand
 use Rattle.population.specs.Steps.{wholeFrom}
-use Rattle.session.specs.Calls.{heldOf, called, run, entered, lentBy, refusedAs, endedAs, firstState, Setting, begunWith, opening, openedBy, startOf, admitObjective, unawaited, awaitedAt}
-use Rattle.session.specs.Calls.{admitAwaited, followed, finishReply}
-use Rattle.session.specs.Session.{Held, held, noTally, isStanding, lentOf, whenAdmitted, begun, admitted, enterObjective, atWanted, whenAwaited, enterFailure, over, replied, unaltered, heldBy}
+use Rattle.session.specs.Calls.{heldOf, called, run, runIn, entered, enteredIn, lentBy, refusedAs, endedAs, firstState, Setting, begunWith, opening, openedBy, startOf, admitObjective}
+use Rattle.session.specs.Calls.{awaitedPoint, awaitedFor, admitAwaited, followed, finishReply}
+use Rattle.session.specs.Session.{Held, held, fuel, noTally, isStanding, lentOf, whenAdmitted, begun, admitted, enterObjective, atWanted, whenAwaited, enterFailure, over, replied, unaltered, heldBy}
 use Rattle.session.specs.Session.{turnHeld}
 use Rattle.session.specs.declared.Awaited.{Awaited}
 use Rattle.session.specs.declared.Called.{Called}
@@ -47,26 +47,30 @@ use Rattle.session.specs.declared.Opening.the-variants as Opens
 use Rattle.session.specs.declared.State.{State}
 
 -- ---- the run: the machine's loop is the step's, with the parameters held
-module _ (setup : Setup) (counts : List ℕ) (parameters : Parameters) where
+module _ (parameters : Parameters) where
   heldRan : Ran (Whole words) Step → Ran (Held words) Step
   heldRan r = ran (r .answer) (held words parameters (r .state))
 
   onward-held : (m : Moved (Whole words) Step) (f : Whole words → Ran (Whole words) Step) (g : Held words → Ran (Held words) Step) → ((w : Whole words) → g (held words parameters w) ≡ heldRan (f w))
-      → onward (heldBy words setup counts parameters m) g ≡ heldRan (onward m f)
+      → onward (heldBy words parameters m) g ≡ heldRan (onward m f)
   unfolding onward heldBy heldRan
   onward-held (on w) f g h = h w
   onward-held (halt a w) f g h = refl
 
-  held-loop : (n : ℕ) (w : Whole words) → loop (turnHeld words setup counts) spent n (held words parameters w) ≡ heldRan (loop (turn words (fitOf setup parameters) counts) spent n w)
+module _ (setup : Setup) (counts : List ℕ) (parameters : Parameters) where
+  held-loop : (n : ℕ) (w : Whole words) → loop (turnHeld words setup counts) spent n (held words parameters w) ≡ heldRan parameters (loop (turn words (fitOf setup parameters) counts) spent n w)
   unfolding loop turnHeld heldRan
   held-loop zero w = refl
-  held-loop (suc n) w = onward-held (turn words (fitOf setup parameters) counts w) _ _ (held-loop n)
+  held-loop (suc n) w = onward-held parameters (turn words (fitOf setup parameters) counts w) _ _ (held-loop n)
 
-  -- w is where the step begins, by what the searches share
-  pub ran-held : (n : ℕ) (w : Fit → Whole words) {fit : Fit} {r : Ran (Whole words) Step} → fit ≡ fitOf setup parameters → r ≡ loop (turn words fit counts) spent n (w fit)
-      → ran (r .answer) (held words parameters (r .state)) ≡ loop (turnHeld words setup counts) spent n (held words parameters (w (fitOf setup parameters)))
+  pub run-held : (w : Whole words) → run setup counts (held words parameters w) ≡ runIn (fitOf setup parameters) counts (held words parameters w)
   unfolding heldRan
-  ran-held n w {fit} {r} e q = ap heldRan (q ∙ ap (λ (x : Fit). loop (turn words x counts) spent n (w x)) e) ∙ sym (held-loop n (w (fitOf setup parameters)))
+  run-held w = held-loop fuel w
+
+-- the loop as the code's step has it
+pub ran-in : (fit : Fit) (counts : List ℕ) (parameters : Parameters) (w : Whole words) {r : Ran (Whole words) Step} → r ≡ loop (turn words fit counts) spent fuel w
+    → ran (r .answer) (held words parameters (r .state)) ≡ runIn fit counts (held words parameters w)
+ran-in fit counts parameters w = ap (λ (z : Ran (Whole words) Step). ran (z .answer) (held words parameters (z .state)))
 
 -- ---- a refusal that ends the objective; h is what `refused` answered
 pub ended-made : (state : State) (tally : Tally) (number : ℕ) (place : Place) {h : Halted} → h ≡ refusedBy (state .progress) tally number place
@@ -104,20 +108,20 @@ module _ (setup : Setup) (counts : List ℕ) (n : ℕ) (check : Check) (tally : 
 through-pick : {X Y : Type 0} (f : X → Y) (b : Bool) (x y : X) → pick b (f x) (f y) ≡ f (pick b x y)
 through-pick f b x y = sym (pick-through f b (λ _. refl) refl)
 
--- ---- what is let in goes on, and what is not is refused: go is what the call does, and a what let it in, or not
-module _ (setup : Setup) (counts : List ℕ) (h : Held words) (go : Moved (Held words) Step) {a : Admission} {m : Moved (Held words) Step} (em : m ≡ whenAdmitted words setup counts h go a) where
-  admitted-by : {v : Admission} {z : Ran (Held words) Step} → a ≡ v → z ≡ entered setup counts (whenAdmitted words setup counts h go v) → z ≡ entered setup counts m
-  admitted-by t q = q ∙ ap (λ (x : Admission). entered setup counts (whenAdmitted words setup counts h go x)) (sym t) ∙ ap (entered setup counts) (sym em)
+-- ---- what is let in goes on, and what is not is refused: go is what the call does, a what let it in, or not, and f the loop
+module _ (f : Held words → Ran (Held words) Step) (h : Held words) (go : Moved (Held words) Step) {a : Admission} {m : Moved (Held words) Step} (em : m ≡ whenAdmitted words h go a) where
+  admitted-by : {v : Admission} {z : Ran (Held words) Step} → a ≡ v → z ≡ onward (whenAdmitted words h go v) f → z ≡ onward m f
+  admitted-by t q = q ∙ ap (λ (x : Admission). onward (whenAdmitted words h go x) f) (sym t) ∙ ap (λ (x : Moved (Held words) Step). onward x f) (sym em)
 
-  pub lets-in : {z : Ran (Held words) Step} → a ≡ A.Accepted → z ≡ entered setup counts go → z ≡ entered setup counts m
+  pub lets-in : {z : Ran (Held words) Step} → a ≡ A.Accepted → z ≡ onward go f → z ≡ onward m f
   unfolding whenAdmitted
   lets-in t q = admitted-by t q
 
-  pub keeps-out : {number : ℕ} → a ≡ A.Refused number → ran (Refused number At.Nowhere) h ≡ entered setup counts m
+  pub keeps-out : {number : ℕ} → a ≡ A.Refused number → ran (Refused number At.Nowhere) h ≡ onward m f
   unfolding whenAdmitted onward
   keeps-out t = admitted-by t refl
 
-  pub unsound-out : {at : Position} → a ≡ A.Unsound at → ran (Refused 4 (At.Observation (at .subject) (at .observation))) h ≡ entered setup counts m
+  pub unsound-out : {at : Position} → a ≡ A.Unsound at → ran (Refused 4 (At.Observation (at .subject) (at .observation))) h ≡ onward m f
   unfolding whenAdmitted onward
   unsound-out t = admitted-by t refl
 
@@ -132,30 +136,31 @@ module _ (setup : Setup) (counts : List ℕ) (n : ℕ) (check : Check) (paramete
   h = heldOf state tally cache work warm results
 
   enters : enterObjective words setup counts n check parameters h
-      ≡ whenAdmitted words setup counts h (on (begun words setup counts parameters (h .whole))) (admitObjective setup counts (lentOf words setup n (h .whole)) check parameters (state .progress) tally)
+      ≡ whenAdmitted words h (on (begun words setup counts parameters (h .whole))) (admitObjective setup counts (lentOf words setup n (h .whole)) check parameters (state .progress) tally)
   unfolding enterObjective admitObjective admitted whenAdmitted
   enters =
-      let f : Admission → Moved (Held words) Step = whenAdmitted words setup counts h (on (begun words setup counts parameters (h .whole))) in
+      let f : Admission → Moved (Held words) Step = whenAdmitted words h (on (begun words setup counts parameters (h .whole))) in
       let checked = checks (withParameters setup parameters) counts (lentOf words setup n (h .whole)) check in
       let stands = isStanding setup counts n tally (state .progress) in
-      ap (pick (state .progress .awaits) (unaltered words setup counts 19 At.Nowhere h)) (through-pick f stands checked (A.Refused 19))
+      ap (pick (state .progress .awaits) (unaltered words 19 At.Nowhere h)) (through-pick f stands checked (A.Refused 19))
       ∙ through-pick f (state .progress .awaits) (A.Refused 19) (pick stands checked (A.Refused 19))
 
   pub objective-enters : {lent : Lent} {a : Admission} → lent ≡ lentBy n (length cache) (length work) (length warm) (length results) → a ≡ admitObjective setup counts lent check parameters
       (state .progress) tally
-      → enterObjective words setup counts n check parameters h ≡ whenAdmitted words setup counts h (on (begun words setup counts parameters (h .whole))) a
+      → enterObjective words setup counts n check parameters h ≡ whenAdmitted words h (on (begun words setup counts parameters (h .whole))) a
   objective-enters el ea =
-      enters ∙ ap (whenAdmitted words setup counts h (on (begun words setup counts parameters (h .whole)))) (sym
+      enters ∙ ap (whenAdmitted words h (on (begun words setup counts parameters (h .whole)))) (sym
       (ea ∙ ap (λ (l : Lent). admitObjective setup counts l check parameters (state .progress) tally) el))
 
   -- the start, as the code makes it, with nothing in hand
-  pub objective-starts : {s : State} {z : Ran (Held words) Step} → s ≡ startOf parameters warm (setup .effects) (state .order)
-      → z ≡ run setup counts (held words (s .parameters) (wholeFrom (fitOf setup (s .parameters)) counts Hand.Nothing (s .progress) tally (cacheOf cache (s .order)) work warm results))
+  pub objective-starts : {s : State} {fit : Fit} {z : Ran (Held words) Step} → fit ≡ fitOf setup parameters → s ≡ startOf parameters warm (setup .effects) (state .order)
+      → z ≡ runIn fit counts (held words (s .parameters) (wholeFrom fit counts Hand.Nothing (s .progress) tally (cacheOf cache (s .order)) work warm results))
       → z ≡ entered setup counts (on (begun words setup counts parameters (h .whole)))
   unfolding begun startOf onward taken idle withSearch beginSubject
-  objective-starts es q =
-      q ∙ ap (λ (x : State). run setup counts (held words (x .parameters) (wholeFrom (fitOf setup (x .parameters)) counts Hand.Nothing (x .progress) tally (cacheOf cache (x .order)) work warm
-      results))) es
+  objective-starts ef es q =
+      q
+      ∙ (λ i. runIn (ef i) counts (held words (es i .parameters) (wholeFrom (ef i) counts Hand.Nothing (es i .progress) tally (cacheOf cache (es i .order)) work warm results)))
+      ∙ sym (run-held setup counts parameters (begun words setup counts parameters (h .whole) .whole))
 
 -- ---- a reply or a failure is let in; go is what it does with the point that was asked for
 module _ (setup : Setup) (counts : List ℕ) (n : ℕ) (check : Check) (state : State) (tally : Tally) (cache work warm results : List ℕ) (go : Pair → Moved (Held words) Step) where
@@ -166,26 +171,31 @@ module _ (setup : Setup) (counts : List ℕ) (n : ℕ) (check : Check) (state : 
   lentHere = lentBy n (length cache) (length work) (length warm) (length results)
 
   goes : Awaited → Moved (Held words) Step
-  goes a = whenAdmitted words setup counts at (go (a .eta)) (a .admission)
+  goes a = whenAdmitted words at (go (a .eta)) (a .admission)
 
-  wanted-goes : (w : Wanted) → atWanted words setup counts n check at go w ≡ goes (awaitedAt setup counts lentHere check (state .parameters) w)
-  unfolding atWanted awaitedAt goes admitted whenAdmitted
+  abbrev fit : Fit
+  fit = fitOf setup (state .parameters)
+
+  abbrev goes-for : Wanted → Moved (Held words) Step
+  goes-for w = goes (awaitedFor fit (checks (withParameters setup (state .parameters)) counts lentHere check) w)
+
+  wanted-goes : (w : Wanted) → atWanted words setup counts n check at go w ≡ goes-for w
+  unfolding atWanted awaitedFor goes admitted whenAdmitted
   wanted-goes (Wants.Point eta) = refl
   wanted-goes Wants.Mode = refl
   wanted-goes (Wants.Refused number) = refl
 
   all-goes : whenAwaited words setup counts n check at go ≡ goes (admitAwaited setup counts lentHere check state tally)
-  unfolding whenAwaited admitAwaited goes whenAdmitted
+  unfolding whenAwaited admitAwaited awaitedPoint awaitedFor goes whenAdmitted
   all-goes =
-      let w = wantedBy (fitOf setup (state .parameters)) (state .progress) in
+      let w = wantedBy fit (state .progress) in
       let stands = isStanding setup counts n tally (state .progress) in
-      let there = awaitedAt setup counts lentHere check (state .parameters) w in
-      ap (λ (m : Moved (Held words) Step). pick (state .progress .awaits) m (unaltered words setup counts 19 At.Nowhere at))
-      (ap (λ (m : Moved (Held words) Step). pick stands m (unaltered words setup counts 19 At.Nowhere at)) (wanted-goes w) ∙ through-pick goes stands there unawaited)
-      ∙ through-pick goes (state .progress .awaits) (pick stands there unawaited) unawaited
+      let out = unaltered words 19 At.Nowhere at in
+      ap (λ (m : Moved (Held words) Step). pick (state .progress .awaits) (pick stands m out) out) (wanted-goes w)
+      ∙ ap (λ (m : Moved (Held words) Step). pick (state .progress .awaits) m out) (through-pick goes-for stands w (Wants.Refused 19))
+      ∙ through-pick goes-for (state .progress .awaits) (pick stands w (Wants.Refused 19)) (Wants.Refused 19)
 
-  pub awaited-enters : {a : Awaited} {lent : Lent} → lent ≡ lentHere → a ≡ admitAwaited setup counts lent check state tally → whenAwaited words setup counts n check at go ≡ whenAdmitted words setup
-      counts at (go (a .eta)) (a .admission)
+  pub awaited-enters : {a : Awaited} {lent : Lent} → lent ≡ lentHere → a ≡ admitAwaited setup counts lent check state tally → whenAwaited words setup counts n check at go ≡ whenAdmitted words at (go (a .eta)) (a .admission)
   unfolding goes
   awaited-enters el ea = all-goes ∙ ap goes (sym (ea ∙ ap (λ (l : Lent). admitAwaited setup counts l check state tally) el))
 
@@ -193,61 +203,58 @@ module _ (setup : Setup) (counts : List ℕ) (n : ℕ) (check : Check) (state : 
 module _ (setup : Setup) (counts : List ℕ) (n : ℕ) (check : Check) (state : State) (tally : Tally) (cache work warm results : List ℕ) where
   pub failure-enters : {a : Awaited} {lent : Lent} → lent ≡ lentBy n (length cache) (length work) (length warm) (length results) → a ≡ admitAwaited setup counts lent check state tally
       → enterFailure words setup counts n check (heldOf state tally cache work warm results)
-      ≡ whenAdmitted words setup counts (heldOf state tally cache work warm results) (over words setup counts 8 (At.Subject (state .progress .subject)) (heldOf state tally cache work warm results))
+      ≡ whenAdmitted words (heldOf state tally cache work warm results) (over words 8 (At.Subject (state .progress .subject)) (heldOf state tally cache work warm results))
       (a .admission)
   unfolding enterFailure
-  failure-enters el ea = awaited-enters setup counts n check state tally cache work warm results (λ eta. over words setup counts 8 (At.Subject (state .progress .subject))
+  failure-enters el ea = awaited-enters setup counts n check state tally cache work warm results (λ eta. over words 8 (At.Subject (state .progress .subject))
       (heldOf state tally cache work warm results)) el ea
 
--- an end, as the code makes it; w is the work words afterwards
-pub ended-called : (setup : Setup) (counts : List ℕ) (state : State) (tally : Tally) (number : ℕ) (place : Place) (cache work warm results : List ℕ) {r : Called} {w : List ℕ} → r ≡ endedAs state tally
-    number place → w ≡ zeros (length work)
-    → called r cache w warm results ≡ entered setup counts (over words setup counts number place (heldOf state tally cache work warm results))
+-- an end, as the code makes it; w is the work words afterwards, and f the loop
+pub ended-called : (f : Held words → Ran (Held words) Step) (state : State) (tally : Tally) (number : ℕ) (place : Place) (cache work warm results : List ℕ) {r : Called} {w : List ℕ}
+    → r ≡ endedAs state tally number place → w ≡ zeros (length work)
+    → called r cache w warm results ≡ onward (over words number place (heldOf state tally cache work warm results)) f
 unfolding over onward
-ended-called setup counts state tally number place cache work warm results e q = λ i. called (e i) cache (q i) warm results
+ended-called f state tally number place cache work warm results e q = λ i. called (e i) cache (q i) warm results
 
 -- ---- the end of an evaluation; x is what `finish` answered
-module _ (setup : Setup) (counts : List ℕ) (eta : Pair) (e : Evaluation) (state : State) (tally : Tally) (cache work warm results : List ℕ) {x : Evaluation} (ex : x ≡ finish e) where
+module _ (fit : Fit) (counts : List ℕ) (eta : Pair) (e : Evaluation) (state : State) (tally : Tally) (cache work warm results : List ℕ) {x : Evaluation} (ex : x ≡ finish e) where
   abbrev here : Held words
   here = heldOf state tally cache work warm results
 
   abbrev Follows : Ran (Held words) Step → Type 0
-  Follows z = z ≡ followed setup counts eta e here
+  Follows z = z ≡ followed fit counts eta e here
 
-  follows-by : {v : Evaluation} {z : Ran (Held words) Step} → x ≡ v → z ≡ entered setup counts (replied words setup counts (fitOf setup (state .parameters)) eta here work v) → Follows z
+  follows-by : {v : Evaluation} {z : Ran (Held words) Step} → x ≡ v → z ≡ enteredIn fit counts (replied words counts fit eta here work v) → Follows z
   unfolding followed
-  follows-by t q = q ∙ ap (λ (y : Evaluation). entered setup counts (replied words setup counts (fitOf setup (state .parameters)) eta here work y)) (sym t ∙ ex)
+  follows-by t q = q ∙ ap (λ (y : Evaluation). enteredIn fit counts (replied words counts fit eta here work y)) (sym t ∙ ex)
 
   -- k and c are the kept evaluations with the reply, which is in hand then
-  pub follows-sums : {sums : Sums} {fit : Fit} (k : Kept) {c : List ℕ} {z : Ran (Held words) Step} → x ≡ E.Running sums → fit ≡ fitOf setup (state .parameters)
+  pub follows-sums : {sums : Sums} (k : Kept) {c : List ℕ} {z : Ran (Held words) Step} → x ≡ E.Running sums
       → keptWith k c ≡ keep fit counts (state .progress .subject) tally eta sums (cacheOf cache (state .order)) work
-      → z ≡ run setup counts (held words (state .parameters) (wholeFrom (fitOf setup (state .parameters)) counts (Hand.Evaluated eta sums) (state .progress) (k .tally) (cacheOf c (k .order)) work warm
-      results))
+      → z ≡ runIn fit counts (held words (state .parameters) (wholeFrom fit counts (Hand.Evaluated eta sums) (state .progress) (k .tally) (cacheOf c (k .order)) work warm results))
       → Follows z
   unfolding replied onward receive keep taken
-  follows-sums {sums} k t ef ek q =
+  follows-sums {sums} k t ek q =
       follows-by t
       (q
-      ∙ ap (λ (y : KeptWith). run setup counts (held words (state .parameters) (wholeFrom (fitOf setup (state .parameters)) counts (Hand.Evaluated eta sums) (state .progress) (y .tally) (y .kept) work
-      warm results))) (ek ∙ ap (λ (f : Fit). keep f counts (state .progress .subject) tally eta sums (cacheOf cache (state .order)) work) ef))
+      ∙ ap (λ (y : KeptWith). runIn fit counts (held words (state .parameters) (wholeFrom fit counts (Hand.Evaluated eta sums) (state .progress) (y .tally) (y .kept) work warm results))) ek)
 
   pub follows-refusal : {number : ℕ} {r : Called} {w : List ℕ} → x ≡ E.Refused number → (r ≡ endedAs state tally number (At.Subject (state .progress .subject))) × (w ≡ zeros (length work)) → Follows
       (called r cache w warm results)
   unfolding replied
-  follows-refusal {number} t (er, ew) = follows-by t (ended-called setup counts state tally number _ cache work warm results er ew)
+  follows-refusal {number} t (er, ew) = follows-by t (ended-called _ state tally number _ cache work warm results er ew)
 
   pub follows-refusal-at : {number n : ℕ} {r : Called} {w : List ℕ} → x ≡ E.RefusedAt number n → (r ≡ endedAs state tally number (At.Observation (state .progress .subject) n)) ×
       (w ≡ zeros (length work)) → Follows (called r cache w warm results)
   unfolding replied
-  follows-refusal-at {number} t (er, ew) = follows-by t (ended-called setup counts state tally number _ cache work warm results er ew)
+  follows-refusal-at {number} t (er, ew) = follows-by t (ended-called _ state tally number _ cache work warm results er ew)
 
 -- ---- the second part of a reply
-module _ (setup : Setup) (counts : List ℕ) (a : Awaited) (e : Evaluation) (h : Held words) where
-  pub finish-enters : entered setup counts (whenAdmitted words setup counts h (replied words setup counts (fitOf setup (h .parameters)) (a .eta) h (h .whole .work) (finish e)) (a .admission)) ≡
-      finishReply setup counts a e h
+module _ (counts : List ℕ) (a : Awaited) (e : Evaluation) (h : Held words) where
+  pub finish-enters : enteredIn (a .fit) counts (whenAdmitted words h (replied words counts (a .fit) (a .eta) h (h .whole .work) (finish e)) (a .admission)) ≡ finishReply counts a e h
   unfolding finishReply
   finish-enters = refl
 
-  pub finish-follows : {z : Ran (Held words) Step} → a .admission ≡ A.Accepted → z ≡ followed setup counts (a .eta) e h → z ≡ finishReply setup counts a e h
+  pub finish-follows : {z : Ran (Held words) Step} → a .admission ≡ A.Accepted → z ≡ followed (a .fit) counts (a .eta) e h → z ≡ finishReply counts a e h
   unfolding followed
-  finish-follows t q = lets-in setup counts h _ refl t q ∙ finish-enters
+  finish-follows t q = lets-in (λ x. runIn (a .fit) counts x) h _ refl t q ∙ finish-enters

@@ -22,7 +22,7 @@ use Rattle.subject.specs.declared.Evaluation.the-variants as E
 use Rattle.subject.specs.declared.Trial.{Trial}
 use Rattle.words.specs.Words.{zeros}
 use Rattle.work.specs.Work.{block}
-use Rattle.setup.specs.Admission.{withParameters, omegaOf}
+use Rattle.setup.specs.Admission.{checks, withParameters, omegaOf}
 use Rattle.setup.specs.declared.Admission.{Admission}
 use Rattle.setup.specs.declared.Admission.the-variants as A
 use Rattle.setup.specs.declared.Lent.{Lent}
@@ -36,16 +36,18 @@ use Rattle.search.specs.declared.Progress.{Progress}
 use Rattle.search.specs.declared.Step.{Step}
 use Rattle.search.specs.declared.Step.the-variants.{Refused}
 use Rattle.search.specs.declared.Tally.{Tally}
-use Rattle.machine.specs.Machine.{Moved, halt, Ran, call}
+use Rattle.search.specs.declared.Wanted.{Wanted}
+use Rattle.search.specs.declared.Wanted.the-variants as Wants
+use Rattle.machine.specs.Machine.{Moved, halt, Ran, onward, call}
 use Rattle.population.specs.Kept.{words, cacheOf}
 use Rattle.population.specs.Population.{rowsOf, wholeOf}
-use Rattle.session.specs.Calls.{heldOf, entered, lentBy, unawaited, admitAwaited, trialBy, admittedBy, admitReply, finishReply}
+use Rattle.session.specs.Calls.{heldOf, entered, enteredIn, lentBy, awaitedPoint, awaitedFor, admitAwaited, trialBy, admittedOver, admitReply, finishReply}
 use Rattle.session.specs.Session.{Held, held, Call, firstCheck, isPlaced, isStanding, whenAdmitted, over, replied, trialOf, enterObjective, whenAwaited, enterFailure, allChecked, evaluated, answered}
 use Rattle.session.specs.Session.{enterReply, enter, objective, reply, failure, session}
 use Rattle.session.specs.declared.Admitted.{Admitted}
 use Rattle.session.specs.declared.Awaited.{Awaited}
 use Rattle.session.specs.declared.State.{State}
-use Rattle.session_calls.proofs.Paths.{awaited-enters}
+use Rattle.session_calls.proofs.Paths.{run-held, awaited-enters}
 
 -- ---- all of a list, as a loop from its first to its last takes it
 all-of : (l : List Observation) → take (length l - 0) (drop 0 l) ≡ l
@@ -87,13 +89,36 @@ standing-within setup counts n tally p =
 
 awaited-within : (setup : Setup) (counts : List ℕ) (lent : Lent) (check : Check) (state : State) (tally : Tally) → admitAwaited setup counts lent check state tally .admission ≡ A.Accepted
     → state .progress .first + rowsOf counts (state .progress .subject) ≤ lent .observations
-unfolding admitAwaited
+unfolding admitAwaited awaitedPoint awaitedFor
 awaited-within setup counts lent check state tally =
-    let Fits : Awaited → Type 0 = λ a. a .admission ≡ A.Accepted → state .progress .first + rowsOf counts (state .progress .subject) ≤ lent .observations in
+    let fit = fitOf setup (state .parameters) in
+    let judged = checks (withParameters setup (state .parameters)) counts lent check in
+    let Fits : Wanted → Type 0 = λ w. awaitedFor fit judged w .admission ≡ A.Accepted → state .progress .first + rowsOf counts (state .progress .subject) ≤ lent .observations in
     cases Fits (state .progress .awaits)
     (λ _. cases Fits (isStanding setup counts (lent .observations) tally (state .progress)) (λ s _. standing-within setup counts (lent .observations) tally (state .progress) s)
     (λ _ e. refused-never 19 e))
     (λ _ e. refused-never 19 e)
+
+-- what the searches have in common is the objective's own
+fit-for : (fit : Fit) (a : Admission) (w : Wanted) → awaitedFor fit a w .fit ≡ fit
+unfolding awaitedFor
+fit-for fit a (Wants.Point eta) = refl
+fit-for fit a Wants.Mode = refl
+fit-for fit a (Wants.Refused n) = refl
+
+awaited-fit : (setup : Setup) (counts : List ℕ) (lent : Lent) (check : Check) (state : State) (tally : Tally) → admitAwaited setup counts lent check state tally .fit ≡ fitOf setup (state .parameters)
+unfolding admitAwaited
+awaited-fit setup counts lent check state tally = fit-for _ _ _
+
+-- and then the loop with them is the machine's
+entered-own : (setup : Setup) (counts : List ℕ) (eta : Pair) (h : Held words) (w : List ℕ) (x : Evaluation) (a : Admission) → let m = whenAdmitted words h
+    (replied words counts (fitOf setup (h .parameters)) eta h w x) a in enteredIn (fitOf setup (h .parameters)) counts m ≡ entered setup counts m
+unfolding whenAdmitted replied over onward
+entered-own setup counts eta h w (E.Running sums) A.Accepted = sym (run-held setup counts (h .parameters) _)
+entered-own setup counts eta h w (E.Refused number) A.Accepted = refl
+entered-own setup counts eta h w (E.RefusedAt number n) A.Accepted = refl
+entered-own setup counts eta h w x (A.Refused number) = refl
+entered-own setup counts eta h w x (A.Unsound at) = refl
 
 -- ---- the objective's own additive deviation is in its fit
 additive-by : (setup : Setup) (p : Parameters) (i : Inverse) → fitBy (withParameters setup p) (p .theta) i .«additive_sd» ≡ p .«additive_sd»
@@ -107,11 +132,11 @@ additive-of-fit setup p =
     sym (cases (λ (f : Fit). f .«additive_sd» ≡ p .«additive_sd») (eqb (setup .effects) 2) (λ _. additive-by setup p (inversePositive (omegaOf (withParameters setup p)))) (λ _. refl))
 
 -- ---- a refusal ends the objective alike, whether the work words are those before the evaluation or after it
-module _ (setup : Setup) (counts : List ℕ) (fit : Fit) (eta : Pair) (state : State) (tally : Tally) (cache work warm results : List ℕ) (w : List ℕ) (same : length w ≡ length work) where
+module _ (counts : List ℕ) (fit : Fit) (eta : Pair) (state : State) (tally : Tally) (cache work warm results : List ℕ) (w : List ℕ) (same : length w ≡ length work) where
   ends : ℕ → Place → ℕ → Moved (Held words) Step
   ends number place n = halt (Refused number place) (held words (state .parameters) (wholeOf words (idle (state .progress)) tally (cacheOf cache (state .order)) (zeros n) warm results))
 
-  replied-after : (x : Evaluation) → replied words setup counts fit eta (heldOf state tally cache w warm results) w x ≡ replied words setup counts fit eta (heldOf state tally cache work warm results)
+  replied-after : (x : Evaluation) → replied words counts fit eta (heldOf state tally cache w warm results) w x ≡ replied words counts fit eta (heldOf state tally cache work warm results)
       w x
   unfolding replied over ends
   replied-after (E.Running sums) = refl
@@ -155,7 +180,7 @@ module _ (setup : Setup) (counts : List ℕ) (observations : List Observation) (
         → evaluating e w
         ≡ addObservations (trialBy setup state (rowsOf counts (state .progress .subject))) v (take (smaller (state .progress .first + rowsOf counts (state .progress .subject)) (length observations) -
         state .progress .first) (drop (state .progress .first) observations)) (evaluating (begin v (setup .width) (setup .effects) (setup .«output_budget»)) work)
-        → replied words setup counts fit eta after w (finish e) ≡ answered words setup counts observations v eta h
+        → replied words counts fit eta after w (finish e) ≡ answered words setup counts observations v eta h
     unfolding answered
     answers eta within q =
         let rows = rowsOf counts (state .progress .subject) in
@@ -166,36 +191,43 @@ module _ (setup : Setup) (counts : List ℕ) (observations : List Observation) (
         let whole : evaluating e w ≡ evaluated words setup counts observations fit v (state .progress) work =
         q ∙ (λ i. addObservations (trial (additive-of-fit setup (state .parameters) i)) v (take (count i) (drop first observations))
         (evaluating (begin v (setup .width) (setup .effects) (setup .«output_budget»)) work)) in
-        replied-after setup counts fit eta state tally cache work warm results w same (finish e)
-        ∙ ap (λ (x : Evaluating). replied words setup counts fit eta h (x .work) (finish (x .evaluation))) whole
+        replied-after counts fit eta state tally cache work warm results w same (finish e)
+        ∙ ap (λ (x : Evaluating). replied words counts fit eta h (x .work) (finish (x .evaluation))) whole
 
     -- by what let it in, or not
-    finishes : (check : Check) (a : Awaited) (t : Admission) → a ≡ admitAwaited setup counts lent check state tally → a .admission ≡ t → Evaluates
-        (admittedBy setup counts (length observations) state v a t)
-        → whenAdmitted words setup counts after (replied words setup counts fit (a .eta) after w (finish e)) t ≡ whenAdmitted words setup counts h
-        (answered words setup counts observations v (a .eta) h) t
-    unfolding admittedBy whenAdmitted
+    abbrev begins : Awaited → Admission → Admitted
+    begins a t =
+        let first = state .progress .first in
+        let rows = rowsOf counts (state .progress .subject) in
+        admittedOver setup (trialBy setup state rows) v a first (smaller (first + rows) (length observations)) t
+
+    finishes : (check : Check) (a : Awaited) (t : Admission) → a ≡ admitAwaited setup counts lent check state tally → a .admission ≡ t → Evaluates (begins a t)
+        → whenAdmitted words after (replied words counts fit (a .eta) after w (finish e)) t ≡ whenAdmitted words h (answered words setup counts observations v (a .eta) h) t
+    unfolding admittedOver whenAdmitted
     finishes check a A.Accepted ea et q =
         answers (a .eta) (awaited-within setup counts lent check state tally (ap (λ (x : Awaited). x .admission) (sym ea) ∙ et)) q
     finishes check a (A.Refused number) ea et q = ap (λ (x : Evaluating). halt (Refused number At.Nowhere) (heldOf state tally cache (x .work) warm results)) q
     finishes check a (A.Unsound at) ea et q = ap (λ (x : Evaluating). halt (Refused 4 (At.Observation (at .subject) (at .observation))) (heldOf state tally cache (x .work) warm results)) q
 
-    same-awaited : (a : Awaited) (t : Admission) → admittedBy setup counts (length observations) state v a t .awaited ≡ a
-    unfolding admittedBy
+    same-awaited : (a : Awaited) (t : Admission) → begins a t .awaited ≡ a
+    unfolding admittedOver
     same-awaited a A.Accepted = refl
     same-awaited a (A.Refused number) = refl
     same-awaited a (A.Unsound at) = refl
 
     pub reply-call : {check : Check} {l : Lent} {a : Admitted} {z : Ran (Held words) Step} → check ≡ allChecked setup counts observations → l ≡ lent → a ≡ admitReply setup counts l check state tally v
         → Evaluates a
-        → z ≡ finishReply setup counts (a .awaited) e after → Calls (reply v) z
+        → z ≡ finishReply counts (a .awaited) e after → Calls (reply v) z
     unfolding call enter enterReply admitReply finishReply
     reply-call {check} {l} {a} ec el ea q z =
         let x = admitAwaited setup counts lent check state tally in
-        let b = admittedBy setup counts (length observations) state v x (x .admission) in
+        let b = begins x (x .admission) in
         let eb : a ≡ b = ea ∙ ap (λ (y : Lent). admitReply setup counts y check state tally v) el in
         let ew : a .awaited ≡ x = ap (λ (y : Admitted). y .awaited) eb ∙ same-awaited x (x .admission) in
-        z ∙ ap (λ (y : Awaited). entered setup counts (whenAdmitted words setup counts after (replied words setup counts fit (y .eta) after w (finish e)) (y .admission))) ew
+        z ∙ ap (λ (y : Awaited). enteredIn (y .fit) counts (whenAdmitted words after (replied words counts (y .fit) (y .eta) after w (finish e)) (y .admission))) ew
+        ∙ ap (λ (f : Fit). enteredIn f counts (whenAdmitted words after (replied words counts f (x .eta) after w (finish e)) (x .admission)))
+        (awaited-fit setup counts lent check state tally)
+        ∙ entered-own setup counts (x .eta) after w (finish e) (x .admission)
         ∙ ap (entered setup counts) (finishes check x (x .admission) refl refl (subst Evaluates eb q) ∙ sym (awaited-enters setup counts (length observations) check state tally cache work warm results
         (λ eta. answered words setup counts observations v eta h) {lent = lent} refl refl))
         ∙ ap (λ (c : Check). entered setup counts (whenAwaited words setup counts (length observations) c h (λ eta. answered words setup counts observations v eta h))) ec

@@ -6,15 +6,15 @@
 ghost use mathlib.Core.Path.{_≡_};
 ghost use lib.ListN.{length};
 ghost use Rattle.words.specs.Words.{zeros};
-ghost use Rattle.search.specs.Subjects.{fitOf};
 ghost use Rattle.population.specs.Kept.{cacheOf, words};
 ghost use Rattle.population.specs.Steps.{wholeFrom};
 ghost use Rattle.session.specs.Session.{held, enterObjective, enterFailure};
-ghost use Rattle.session.specs.Calls.{called, run, endedAs, heldOf, entered, begunWith, openedBy, followed, finishReply};
+ghost use Rattle.session.specs.Calls.{called, runIn, endedAs, heldOf, entered, begunWith, openedBy, followed, finishReply};
 use matrix::Pair;
 use population::kept_points::InHand;
 use search::CachedRows;
 use search::Calls;
+use search::Fit;
 use search::Place;
 use search::Tally;
 use session::Admitted;
@@ -33,7 +33,7 @@ pub const FUEL: usize = 25985024;
 
 // Runs an objective from where it stands, with what is in hand, until there is a question or an end.
 pub fn run(
-    setup: Setup,
+    fit: Fit,
     state: State,
     hand: InHand,
     tally: Tally,
@@ -44,15 +44,14 @@ pub fn run(
     results: &mut [u64],
 ) -> Called
     ensures { λ r. ⌜ called r (now (cache .entry)) (now (work .exit)) (now (warm .exit)) (now (results .exit))
-        ≡ run setup (now (counts .entry))
+        ≡ runIn fit (now (counts .entry))
         (held words (state .parameters)
-        (wholeFrom (fitOf setup (state .parameters)) (now (counts .entry)) hand (state .progress) tally
-        (cacheOf (now (cache .entry)) (state .order)) (now (work .entry)) (now (warm .entry)) (now (results .entry)))) ⌝ }
+        (wholeFrom fit (now (counts .entry)) hand (state .progress) tally (cacheOf (now (cache .entry)) (state .order))
+        (now (work .entry)) (now (warm .entry)) (now (results .entry)))) ⌝ }
 {
     let parameters = state.parameters;
     let progress = state.progress;
     let order = state.order;
-    let fit = search::fit_of(setup, parameters);
     let halted = population::steps::requests(
         fit,
         counts,
@@ -180,9 +179,11 @@ pub fn begin_objective(
         counts,
     ) {
         Admission::Accepted => {
+            let own = setup::with_parameters(setup, parameters);
+            let fit = search::fit_of(own, parameters.theta);
             let here = session::start_of(parameters, warm, setup.effects, state.order);
             let hand = InHand::Nothing;
-            run(setup, here, hand, tally, counts, cache, work, warm, results)
+            run(fit, here, hand, tally, counts, cache, work, warm, results)
         }
         Admission::Refused(number) => session::refused_as(state, tally, number, Place::Nowhere),
         Admission::Unsound(at) => session::refused_as(
@@ -240,7 +241,7 @@ pub fn fail(
 // What follows the end of an evaluation: it is kept and the searches go on with it, or its refusal ends the
 // objective.
 fn follow(
-    setup: Setup,
+    fit: Fit,
     state: State,
     tally: Tally,
     eta: Pair,
@@ -252,7 +253,7 @@ fn follow(
     results: &mut [u64],
 ) -> Called
     ensures { λ r. ⌜ called r (now (cache .exit)) (now (work .exit)) (now (warm .exit)) (now (results .exit))
-        ≡ followed setup (now (counts .entry)) eta evaluation
+        ≡ followed fit (now (counts .entry)) eta evaluation
         (heldOf state tally (now (cache .entry)) (now (work .entry)) (now (warm .entry)) (now (results .entry))) ⌝ }
 {
     let parameters = state.parameters;
@@ -261,7 +262,6 @@ fn follow(
     let subject = progress.subject;
     match subject::finish(evaluation) {
         Evaluation::Running(sums) => {
-            let fit = search::fit_of(setup, parameters);
             let kept = population::answers::keep(
                 fit,
                 counts,
@@ -281,7 +281,7 @@ fn follow(
                 order,
             };
             let hand = InHand::Evaluated(eta, sums);
-            run(setup, next, hand, tally, counts, cache, work, warm, results)
+            run(fit, next, hand, tally, counts, cache, work, warm, results)
         }
         Evaluation::Refused(number) => {
             ended_as(state, tally, number, Place::Subject(subject), work)
@@ -297,7 +297,6 @@ fn follow(
 // observations were added to. The evaluation is kept and the objective runs on until there is a question or
 // an end; or it is refused, which ends the objective; or the reply was not accepted, and nothing is altered.
 pub fn finish_reply(
-    setup: Setup,
     state: State,
     tally: Tally,
     admitted: Admitted,
@@ -309,15 +308,16 @@ pub fn finish_reply(
     results: &mut [u64],
 ) -> Called
     ensures { λ r. ⌜ called r (now (cache .exit)) (now (work .exit)) (now (warm .exit)) (now (results .exit))
-        ≡ finishReply setup (now (counts .entry)) (admitted .awaited) evaluation
+        ≡ finishReply (now (counts .entry)) (admitted .awaited) evaluation
         (heldOf state tally (now (cache .entry)) (now (work .entry)) (now (warm .entry)) (now (results .entry))) ⌝ }
 {
     let awaited = admitted.awaited;
     let admission = awaited.admission;
     let eta = awaited.eta;
+    let fit = awaited.fit;
     match admission {
         Admission::Accepted => follow(
-            setup,
+            fit,
             state,
             tally,
             eta,

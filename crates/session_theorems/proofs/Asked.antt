@@ -124,7 +124,7 @@ module _ (setup : Setup) (counts : List ℕ) (observations : List Observation) w
     of-parameters (Answers.Finished ofv) v g = tt
     of-parameters (Answers.Refused number place) v g = tt
 
-    closes : (t : Turned) (work warm results : List ℕ) → Says t → Leaves (w .kept) (N.heldBy words setup counts (h .parameters) (moved words (w .tally) (w .kept) work warm results t))
+    closes : (t : Turned) (work warm results : List ℕ) → Says t → Leaves (w .kept) (N.heldBy words (h .parameters) (moved words (w .tally) (w .kept) work warm results t))
     unfolding Leaves N.heldBy moved Says
     closes (On q) work warm results f = refl
     closes (Halt x) work warm results f = (refl, of-parameters (x .step) _ f)
@@ -177,15 +177,15 @@ module _ (setup : Setup) (counts : List ℕ) (observations : List Observation) w
 
   -- ---- entries that keep nothing
   module _ (h : Held words) where
-    same : (number : ℕ) (place : Place) → Leaves (h .whole .kept) (N.unaltered words setup counts number place h)
+    same : (number : ℕ) (place : Place) → Leaves (h .whole .kept) (N.unaltered words number place h)
     unfolding Leaves Good
     same number place = (refl, tt)
 
-    pub over : (number : ℕ) (place : Place) → Leaves (h .whole .kept) (N.over words setup counts number place h)
+    pub over : (number : ℕ) (place : Place) → Leaves (h .whole .kept) (N.over words number place h)
     unfolding Leaves Good N.over
     over number place = (refl, tt)
 
-    when-admitted : (go : Moved (Held words) Step) (a : Admission) → Leaves (h .whole .kept) go → Leaves (h .whole .kept) (N.whenAdmitted words setup counts h go a)
+    when-admitted : (go : Moved (Held words) Step) (a : Admission) → Leaves (h .whole .kept) go → Leaves (h .whole .kept) (N.whenAdmitted words h go a)
     unfolding N.whenAdmitted
     when-admitted go A.Accepted f = f
     when-admitted go (A.Refused n) f = same n _

@@ -155,7 +155,7 @@ module _ (N : ℕ → Type 0) (Refuses : ℕ → Place → ℕ → Type 0) (setu
 
     closes : (t : Turned) (work warm results : List ℕ) → TurnsTo t → length work ≡ L
         → Moves (turnHeld words setup counts) Going Answered n
-        (heldBy words setup counts (h .parameters) (moved words (w .tally) (w .kept) (pick (isOver t) (zeros (length work)) work) warm results t))
+        (heldBy words (h .parameters) (moved words (w .tally) (w .kept) (pick (isOver t) (zeros (length work)) work) warm results t))
     unfolding Moves heldBy moved isOver TurnsTo pick
     closes (On q) work warm results t l = record { ahead = t; work = l; calls = g .calls }
     closes (Halt x) work warm results t l = record { says = t; zeroed = λ e. pick-yes _ _ _ e ∙ ap zeros l }

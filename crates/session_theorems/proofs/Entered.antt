@@ -191,14 +191,14 @@ module _ (setup : Setup) (counts : List ℕ) (h : Held words) where
   unspent t e = never-spent _ _ setup counts L c (endings most c) (e .0) t (e .1)
 
   -- ---- 1 to 5 and 19
-  stays : (n : ℕ) → AltersNothing n → Carries n At.Nowhere → Enters (S.unaltered words setup counts n At.Nowhere h)
+  stays : (n : ℕ) → AltersNothing n → Carries n At.Nowhere → Enters (S.unaltered words n At.Nowhere h)
   unfolding Enters
   stays n u carries = inl (record { number = n; place = At.Nowhere; answer = refl; same = refl; unaltering = u; carries = carries })
 
-  pub nineteen : Enters (S.unaltered words setup counts 19 At.Nowhere h)
+  pub nineteen : Enters (S.unaltered words 19 At.Nowhere h)
   nineteen = stays 19 (inr refl) (inr (inr (inr refl)))
 
-  pub admits : (go : Moved (Held words) Step) (a : Admission) → Judged (length counts) a → (a ≡ A.Accepted → length counts ≤ 4096 → Enters go) → Enters (whenAdmitted words setup counts h go a)
+  pub admits : (go : Moved (Held words) Step) (a : Admission) → Judged (length counts) a → (a ≡ A.Accepted → length counts ≤ 4096 → Enters go) → Enters (whenAdmitted words h go a)
   unfolding whenAdmitted Judged Enters
   admits go A.Accepted j f = f refl j
   admits go (A.Refused n) j f = stays n (j .0) (j .1)
@@ -213,7 +213,7 @@ module _ (setup : Setup) (counts : List ℕ) (h : Held words) where
   pub like : Like h
   like = record { work = refl; calls = refl }
 
-  pub over : (u : Held words) → Like u → (n : ℕ) (place : Place) → Refusal n place → Enters (S.over words setup counts n place u)
+  pub over : (u : Held words) → Like u → (n : ℕ) (place : Place) → Refusal n place → Enters (S.over words n place u)
   unfolding Enters S.over Says B.idle B.withSearch
   over u l n place r =
       let low = r .0 in
@@ -255,7 +255,7 @@ module _ (setup : Setup) (counts : List ℕ) (h : Held words) where
           enough = omega (arith, few);
         }
 
-    pub replies : (work : List ℕ) → length work ≡ L → (x : Evaluation) → Late x → Enters (S.replied words setup counts fit eta u work x)
+    pub replies : (work : List ℕ) → length work ≡ L → (x : Evaluation) → Late x → Enters (S.replied words counts fit eta u work x)
     unfolding Enters S.replied Late receive takes
     replies work long (E.Running sums) z = (few, record { ahead = ahead sums; work = move-rows-length _ _ work ∙ long; calls = l .calls })
     replies work long (E.Refused n) z = over u l n _ (z (p .subject))

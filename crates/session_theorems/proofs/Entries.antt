@@ -84,17 +84,17 @@ module _ (S : Store) (setup : Setup) (counts : List ℕ) (observations : List Ob
     fit = B.fitOf setup (h .parameters)
 
     -- a refusal that alters nothing
-    unaltered : (number : ℕ) (place : Place) → Goes c h (N.unaltered S setup counts number place h)
+    unaltered : (number : ℕ) (place : Place) → Goes c h (N.unaltered S number place h)
     unaltered number place = same refl
 
-    when-admitted : (go : Moved (Held S) Step) (a : Admission) → (a ≡ A.Accepted → Goes c h go) → Goes c h (N.whenAdmitted S setup counts h go a)
+    when-admitted : (go : Moved (Held S) Step) (a : Admission) → (a ≡ A.Accepted → Goes c h go) → Goes c h (N.whenAdmitted S h go a)
     unfolding N.whenAdmitted
     when-admitted go A.Accepted f = f refl
     when-admitted go (A.Refused n) f = unaltered n At.Nowhere
     when-admitted go (A.Unsound place) f = unaltered 4 _
 
     -- a refusal that ends the objective
-    over : p .awaits ≡ true → (number : ℕ) → OfEvaluation number → (place : Place) → Goes c h (N.over S setup counts number place h)
+    over : p .awaits ≡ true → (number : ℕ) → OfEvaluation number → (place : Place) → Goes c h (N.over S number place h)
     unfolding N.over B.idle B.withSearch
     over t number b place = failed t refl b (record {
       sound = still S setup counts observations I Q U h s (B.idle p) (w .tally) (zeros (length (w .work))) (w .warm) (w .results) (s .subject) refl (s .warm-fits) (Q .pointed-idle p (s .pointed))
@@ -236,7 +236,7 @@ module _ (S : Store) (setup : Setup) (counts : List ℕ) (observations : List Ob
             (v .work) (block rows 3)
             missing fine (each (r .subject) (s .subject) .0) lent)
 
-        goes : Goes (reply words) h (N.replied S setup counts own eta h (ended .work) (E.Running sums))
+        goes : Goes (reply words) h (N.replied S counts own eta h (ended .work) (E.Running sums))
         unfolding N.replied receive takes
         goes = replied t
             (subst (I .rules .Answers _) (sym given-is) (Q .answers own r eta sums effects-are (Q .domain setup (h .parameters) r refl bound (s .omega-in) (s .shape-in) (s .warm-fits))
@@ -277,7 +277,7 @@ module _ (S : Store) (setup : Setup) (counts : List ℕ) (observations : List Ob
       placed (inr (inl e)) = (omega (arith, e), omega (arith, e))
       placed (inr (inr e)) = (omega (arith, e), omega (arith, e))
 
-      by-end : (x : Evaluation) → finish (ended .evaluation) ≡ x → Goes (reply words) h (N.replied S setup counts own eta h (ended .work) x)
+      by-end : (x : Evaluation) → finish (ended .evaluation) ≡ x → Goes (reply words) h (N.replied S counts own eta h (ended .work) x)
       by-end (E.Running sums) d = goes sums d
       by-end (E.Refused n) d = unfold N.replied in over (reply words) h s t n (numbered (ends .numbers n d)) _
       by-end (E.RefusedAt n i) d = unfold N.replied in over (reply words) h s t n (placed (ends .places n i d .0)) _

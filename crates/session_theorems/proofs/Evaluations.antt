@@ -191,7 +191,7 @@ module _ (setup : Setup) (counts : List ℕ) (observations : List Observation) (
   abbrev Kept-with : Evaluation → Cache → Type 0
   Kept-with e c = (l : List Entry) → Keeping setup counts observations h l → Stands (c .words) (setup .k) (c .order) (withReply setup counts observations said h l e)
 
-  by-end : (e : Evaluation) → finish (end .evaluation) ≡ e → (c : Cache) × Kept-with e c × Leaves setup counts observations c (N.replied words setup counts fit eta h (end .work) e)
+  by-end : (e : Evaluation) → finish (end .evaluation) ≡ e → (c : Cache) × Kept-with e c × Leaves setup counts observations c (N.replied words counts fit eta h (end .work) e)
   unfolding N.replied receive takes Leaves
   by-end (E.Running sums) d = (
     next-of,

@@ -164,7 +164,7 @@ module _ (setup : Setup) (counts : List ℕ) (observations : List Observation) (
   FitsTurned (On q) = FitsProgress q
   FitsTurned (Halt x) = FitsProgress (x .progress)
 
-  closes : (t : Turned) (work warm results : List ℕ) → FitsTurned t → After Formatted (N.heldBy words setup counts (h .parameters) (moved words (w .tally) (w .kept) work warm results t))
+  closes : (t : Turned) (work warm results : List ℕ) → FitsTurned t → After Formatted (N.heldBy words (h .parameters) (moved words (w .tally) (w .kept) work warm results t))
   unfolding After N.heldBy moved FitsTurned
   closes (On q) work warm results f = record { parameters = g .parameters; progress = f }
   closes (Halt x) work warm results f = record { parameters = g .parameters; progress = f }
@@ -214,15 +214,15 @@ module _ (setup : Setup) (counts : List ℕ) (observations : List Observation) (
   turns-fit = closes _ _ _ _ (by-wanted (B.wantedBy fit p) refl)
 
   -- ---- entries
-  unaltered : (number : ℕ) (place : Place) → After Formatted (N.unaltered words setup counts number place h)
+  unaltered : (number : ℕ) (place : Place) → After Formatted (N.unaltered words number place h)
   unfolding After
   unaltered number place = g
 
-  over : (number : ℕ) (place : Place) → After Formatted (N.over words setup counts number place h)
+  over : (number : ℕ) (place : Place) → After Formatted (N.over words number place h)
   unfolding After N.over
   over number place = record { parameters = g .parameters; progress = idles p (g .progress) }
 
-  when-admitted : (go : Moved (Held words) Step) (a : Admission) → After Formatted go → After Formatted (N.whenAdmitted words setup counts h go a)
+  when-admitted : (go : Moved (Held words) Step) (a : Admission) → After Formatted go → After Formatted (N.whenAdmitted words h go a)
   unfolding N.whenAdmitted
   when-admitted go A.Accepted f = f
   when-admitted go (A.Refused n) f = unaltered n _
@@ -244,7 +244,7 @@ module _ (setup : Setup) (counts : List ℕ) (observations : List Observation) (
   unfolding N.whenAwaited
   when-awaited go f n = both (After Formatted) _ (both (After Formatted) _ (at-wanted go (B.wantedBy fit p) f n) (unaltered 19 _)) (unaltered 19 _)
 
-  replied : (eta : Pair) → FitsPair eta → (work : List ℕ) (e : Evaluation) → ((sums : Sums) → e ≡ E.Running sums → FitsSums sums) → After Formatted (N.replied words setup counts fit eta h work e)
+  replied : (eta : Pair) → FitsPair eta → (work : List ℕ) (e : Evaluation) → ((sums : Sums) → e ≡ E.Running sums → FitsSums sums) → After Formatted (N.replied words counts fit eta h work e)
   unfolding N.replied receive takes After
   replied eta f work (E.Running sums) k = record { parameters = g .parameters; progress = advances p (g .progress) fit eta sums limit f (k sums refl) }
   replied eta f work (E.Refused n) k = over n _

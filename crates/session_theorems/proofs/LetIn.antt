@@ -167,22 +167,22 @@ module _ (setup : Setup) (counts : List ℕ) (observations : List Observation) (
     awaited t go = pick-yes _ _ _ t ∙ pick-yes _ _ _ placed ∙ at (B.wantedBy (B.fitOf setup (h .parameters)) (h .whole .progress)) (s .waiting t .eta) (s .waiting t .wants)
       where
         at : (v : Wanted) (eta : Pair) → v ≡ Wants.Point eta → N.atWanted words setup counts n check h go v ≡ go (pointWanted v)
-        at (Wants.Point x) eta e = unfold N.atWanted N.whenAdmitted in ap (N.whenAdmitted words setup counts h (go x)) accepted
+        at (Wants.Point x) eta e = unfold N.atWanted N.whenAdmitted in ap (N.whenAdmitted words h (go x)) accepted
         at Wants.Mode eta e = absurd (let z : _≡_ {A = ℕ} 0 1 = cc in omega arith)
         at (Wants.Refused k) eta e = absurd (let z : _≡_ {A = ℕ} 0 1 = cc in omega arith)
 
     -- ---- what an entry answers
-    over-says : (number : ℕ) → Not19 number → (place : Place) → Says Other19 (N.over words setup counts number place h)
+    over-says : (number : ℕ) → Not19 number → (place : Place) → Says Other19 (N.over words number place h)
     unfolding Says Other19 N.over
     over-says number l place = l
 
-    admitted-says : (go : Moved (Held words) Step) → Says Other19 go → (m : Admission) → NumberOther m → Says Other19 (N.whenAdmitted words setup counts h go m)
+    admitted-says : (go : Moved (Held words) Step) → Says Other19 go → (m : Admission) → NumberOther m → Says Other19 (N.whenAdmitted words h go m)
     unfolding Says Other19 NumberOther N.whenAdmitted
     admitted-says go l A.Accepted b = l
     admitted-says go l (A.Refused n) b = b
     admitted-says go l (A.Unsound place) b = before-19 (omega arith)
 
-    begun-says : (parameters : Parameters) → Says Other19 (N.whenAdmitted words setup counts h (on (N.begun words setup counts parameters (h .whole)))
+    begun-says : (parameters : Parameters) → Says Other19 (N.whenAdmitted words h (on (N.begun words setup counts parameters (h .whole)))
         (admission setup counts observations parameters h))
     unfolding Says N.admitted checks
     begun-says parameters = admitted-says _ tt _ (checks-other _ (length counts) _ check (countObservations counts))
@@ -209,7 +209,7 @@ module _ (setup : Setup) (counts : List ℕ) (observations : List Observation) (
         numbers : Evaluates (N.trialOf words setup counts fit (h .whole .progress)) (setup .«output_budget») said os (h .whole .work)
         numbers = evaluates _ (setup .«output_budget») said os (h .whole .work) few
 
-        by-end : (x : Evaluation) → finish (ended .evaluation) ≡ x → Says Other19 (N.replied words setup counts fit eta h (ended .work) x)
+        by-end : (x : Evaluation) → finish (ended .evaluation) ≡ x → Says Other19 (N.replied words counts fit eta h (ended .work) x)
         by-end (E.Running sums) d = unfold Says N.replied in tt
         by-end (E.Refused n) d = unfold N.replied in over-says n (one-not-19 n 8 9 12 (numbers .numbers n d) (before-19 (omega arith)) (before-19 (omega arith)) (before-19 (omega arith))) _
         by-end (E.RefusedAt n i) d = unfold N.replied in over-says n (one-not-19 n 10 11 12 (numbers .places n i d .0) (before-19 (omega arith)) (before-19 (omega arith)) (before-19 (omega arith))) _

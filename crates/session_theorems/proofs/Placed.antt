@@ -204,12 +204,12 @@ module _ (setup : Setup) (counts : List ℕ) (observations : List Observation) (
     goes q tally work warm results place same a b c = record { place = place; work = a ∙ g .work; warm = b ∙ g .warm; results = c ∙ g .results; rows = ap (λ x. x .0) same ∙ g .rows }
 
     closes : (t : Turned) (work warm results : List ℕ) → PlacedTurned t → AsLong (w .work) work → AsLong (w .warm) warm → AsLong (w .results) results
-        → After Going (N.heldBy words setup counts (h .parameters) (moved words (w .tally) (w .kept) work warm results t))
+        → After Going (N.heldBy words (h .parameters) (moved words (w .tally) (w .kept) work warm results t))
     unfolding After N.heldBy moved PlacedTurned
     closes (On q) work warm results f a b c = goes q (w .tally) work warm results f refl a b c
     closes (Halt x) work warm results f a b c = goes (x .progress) (x .tally) work warm results (f .place) (f .same) a b c
 
-    closes-says : (t : Turned) (work warm results : List ℕ) → PlacedTurned t → Says Other19 (N.heldBy words setup counts (h .parameters) (moved words (w .tally) (w .kept) work warm results t))
+    closes-says : (t : Turned) (work warm results : List ℕ) → PlacedTurned t → Says Other19 (N.heldBy words (h .parameters) (moved words (w .tally) (w .kept) work warm results t))
     unfolding Says N.heldBy moved PlacedTurned
     closes-says (On q) work warm results f = tt
     closes-says (Halt x) work warm results f = f .other
@@ -293,17 +293,17 @@ module _ (setup : Setup) (counts : List ℕ) (observations : List Observation) (
     turns-say = closes-says _ _ _ _ (every-request .turned)
 
     -- ---- entries
-    unaltered-going : (number : ℕ) (place : Place) → After Going (N.unaltered words setup counts number place h)
+    unaltered-going : (number : ℕ) (place : Place) → After Going (N.unaltered words number place h)
     unfolding After
     unaltered-going number place = g
 
-    when-admitted : (go : Moved (Held words) Step) (a : Admission) → After Going go → After Going (N.whenAdmitted words setup counts h go a)
+    when-admitted : (go : Moved (Held words) Step) (a : Admission) → After Going go → After Going (N.whenAdmitted words h go a)
     unfolding N.whenAdmitted
     when-admitted go A.Accepted f = f
     when-admitted go (A.Refused n) f = unaltered-going n _
     when-admitted go (A.Unsound place) f = unaltered-going 4 _
 
-    over-going : (number : ℕ) (place : Place) → After Going (N.over words setup counts number place h)
+    over-going : (number : ℕ) (place : Place) → After Going (N.over words number place h)
     unfolding After N.over
     over-going number place = goes (B.idle p) (w .tally) (zeros (length (w .work))) (w .warm) (w .results) (idles counts p (g .place)) refl (zeros-length _) refl refl
 
@@ -326,7 +326,7 @@ module _ (setup : Setup) (counts : List ℕ) (observations : List Observation) (
     unfolding N.whenAwaited
     when-awaited n check go f = both (After Going) _ (both (After Going) _ (at-wanted n check go f _) (unaltered-going 19 _)) (unaltered-going 19 _)
 
-    replied-going : (eta : Pair) (work : List ℕ) → AsLong (w .work) work → (e : Evaluation) → After Going (N.replied words setup counts fit eta h work e)
+    replied-going : (eta : Pair) (work : List ℕ) → AsLong (w .work) work → (e : Evaluation) → After Going (N.replied words counts fit eta h work e)
     unfolding After N.replied receive takes
     replied-going eta work a (E.Running sums) = record {
       place = advances counts p (g .place) fit eta sums;

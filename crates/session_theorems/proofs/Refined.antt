@@ -235,7 +235,7 @@ module _ (setup : Setup) (counts : List ℕ) (observations : List Observation) (
       served-by Wants.Mode = refl
       served-by (Wants.Refused n) = refl
 
-      moves : (t : Turned) (x y z : List ℕ) → Pair' (N.heldBy words setup counts parameters (moved words tally c x y z t)) (N.heldBy entries setup counts parameters (moved entries tally l x y z t))
+      moves : (t : Turned) (x y z : List ℕ) → Pair' (N.heldBy words parameters (moved words tally c x y z t)) (N.heldBy entries parameters (moved entries tally l x y z t))
       unfolding N.heldBy moved
       moves (On q) x y z = both-on (link q tally x y z)
       moves (Halt x') x y z = both-halt (link (x' .progress) (x' .tally) x y z)
@@ -244,15 +244,15 @@ module _ (setup : Setup) (counts : List ℕ) (observations : List Observation) (
       unfolding N.turnHeld turn turned served
       turn-both =
           let v = B.wantedBy fit p in
-          subst (λ (e : Ended). Pair' (N.heldBy words setup counts parameters (moved words tally c (pick (isOver (servedBy words fit counts p tally c work warm results v .turned))
+          subst (λ (e : Ended). Pair' (N.heldBy words parameters (moved words tally c (pick (isOver (servedBy words fit counts p tally c work warm results v .turned))
           (zeros (length (servedBy words fit counts p tally c work warm results v .work))) (servedBy words fit counts p tally c work warm results v .work))
           (servedBy words fit counts p tally c work warm results v .warm) (servedBy words fit counts p tally c work warm results v .results)
           (servedBy words fit counts p tally c work warm results v .turned)))
-          (N.heldBy entries setup counts parameters (moved entries tally l (pick (isOver (e .turned)) (zeros (length (e .work))) (e .work)) (e .warm) (e .results) (e .turned))))
+          (N.heldBy entries parameters (moved entries tally l (pick (isOver (e .turned)) (zeros (length (e .work))) (e .work)) (e .warm) (e .results) (e .turned))))
           (served-by v) (moves _ _ _ _)
 
       -- ---- entries
-      unaltered : (number : ℕ) (place : Place) → Pair' (N.unaltered words setup counts number place h) (N.unaltered entries setup counts number place g)
+      unaltered : (number : ℕ) (place : Place) → Pair' (N.unaltered words number place h) (N.unaltered entries number place g)
       unaltered number place = both-halt (link p tally work warm results)
 
       admits : (q : Parameters) → N.admitted words setup counts (length observations) (N.allChecked setup counts observations) q (h .whole) ≡ N.admitted entries setup counts (length observations)
@@ -261,22 +261,22 @@ module _ (setup : Setup) (counts : List ℕ) (observations : List Observation) (
       admits q = checks-same (withParameters setup q) (N.lentOf words setup (length observations) (h .whole)) (N.lentOf entries setup (length observations) (g .whole)) refl refl refl refl
           (st .good .long) (omega arith) counts _
 
-      when-admitted : (x : Moved (Held words) Step) (y : Moved (Held entries) Step) → Pair' x y → (m : Admission) → Pair' (N.whenAdmitted words setup counts h x m)
-          (N.whenAdmitted entries setup counts g y m)
+      when-admitted : (x : Moved (Held words) Step) (y : Moved (Held entries) Step) → Pair' x y → (m : Admission) → Pair' (N.whenAdmitted words h x m)
+          (N.whenAdmitted entries g y m)
       unfolding N.whenAdmitted
       when-admitted x y b A.Accepted = b
       when-admitted x y b (A.Refused n) = unaltered n _
       when-admitted x y b (A.Unsound place) = unaltered 4 _
 
-      over : (number : ℕ) (place : Place) → Pair' (N.over words setup counts number place h) (N.over entries setup counts number place g)
+      over : (number : ℕ) (place : Place) → Pair' (N.over words number place h) (N.over entries number place g)
       unfolding N.over
       over number place = both-halt (link (B.idle p) tally (zeros (length work)) warm results)
 
       admitted-both : (q : Parameters) (x : Moved (Held words) Step) (y : Moved (Held entries) Step) → Pair' x y
-          → Pair' (N.whenAdmitted words setup counts h x (N.admitted words setup counts (length observations) (N.allChecked setup counts observations) q (h .whole)))
-          (N.whenAdmitted entries setup counts g y (N.admitted entries setup counts (length observations) (N.allChecked setup counts observations) q (g .whole)))
-      admitted-both q x y b = subst (λ (m : Admission). Pair' (N.whenAdmitted words setup counts h x (N.admitted words setup counts (length observations) (N.allChecked setup counts observations) q
-          (h .whole))) (N.whenAdmitted entries setup counts g y m)) (admits q) (when-admitted x y b _)
+          → Pair' (N.whenAdmitted words h x (N.admitted words setup counts (length observations) (N.allChecked setup counts observations) q (h .whole)))
+          (N.whenAdmitted entries g y (N.admitted entries setup counts (length observations) (N.allChecked setup counts observations) q (g .whole)))
+      admitted-both q x y b = subst (λ (m : Admission). Pair' (N.whenAdmitted words h x (N.admitted words setup counts (length observations) (N.allChecked setup counts observations) q
+          (h .whole))) (N.whenAdmitted entries g y m)) (admits q) (when-admitted x y b _)
 
       objective-both : (q : Parameters) → Pair' (N.enterObjective words setup counts (length observations) (N.allChecked setup counts observations) q h)
           (N.enterObjective entries setup counts (length observations) (N.allChecked setup counts observations) q g)
@@ -347,7 +347,7 @@ module _ (setup : Setup) (counts : List ℕ) (observations : List Observation) (
               own = k .0 .1;
             }
 
-        received : (sums : Sums) → Pair' (N.replied words setup counts fit eta h (ended' .work) (E.Running sums)) (N.replied entries setup counts fit eta g (ended' .work) (E.Running sums))
+        received : (sums : Sums) → Pair' (N.replied words counts fit eta h (ended' .work) (E.Running sums)) (N.replied entries counts fit eta g (ended' .work) (E.Running sums))
         unfolding N.replied receive takes
         received sums =
             let q = B.advanceBy fit p eta sums .progress in
@@ -356,7 +356,7 @@ module _ (setup : Setup) (counts : List ℕ) (observations : List Observation) (
             (held entries parameters (wholeOf entries q (tallyOf (entries .rows (dE k sums))) (dE k sums) x warm results)))
             (sym (fit-k setup parameters)) (kept-link sums q x warm results))
 
-        by-end : (x : Evaluation) → Pair' (N.replied words setup counts fit eta h (ended' .work) x) (N.replied entries setup counts fit eta g (ended' .work) x)
+        by-end : (x : Evaluation) → Pair' (N.replied words counts fit eta h (ended' .work) x) (N.replied entries counts fit eta g (ended' .work) x)
         by-end (E.Running sums) = received sums
         by-end (E.Refused n) = unfold N.replied in over n _
         by-end (E.RefusedAt n i) = unfold N.replied in over n _

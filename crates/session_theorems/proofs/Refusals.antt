@@ -361,7 +361,7 @@ module _ (setup : Setup) (counts : List ℕ) (observations : List Observation) (
 
   -- 19 for the words that are no state, and for those whose entry is refused so
   Refused : Call → State → Type 0
-  Refused x s = enter words setup counts observations x (h s) ≡ S.unaltered words setup counts 19 At.Nowhere (h s)
+  Refused x s = enter words setup counts observations x (h s) ≡ S.unaltered words 19 At.Nowhere (h s)
 
   called : (x : Call) → ((s : State) → loadedState state ≡ given s → Refused x s) → (l : Answer State) → loadedState state ≡ l → called-with x l .told .done .number ≡ 19
   unfolding Refused withState call onward H.told H.numberOf
@@ -396,8 +396,8 @@ module _ (setup : Setup) (counts : List ℕ) (observations : List Observation) (
     barred : (x : Call) (s : State) → loadedState state ≡ given s → Refused x s
     unfolding Refused enter S.enterObjective S.enterReply S.enterFailure S.whenAwaited
     barred (objective parameters) s e = pick-same _ _ _ (pick-no _ _ _ (wrong _ s e))
-    barred (reply said) s e = both (λ m. m ≡ S.unaltered words setup counts 19 At.Nowhere (h s)) _ (pick-no _ _ _ (wrong _ s e)) refl
-    barred failure s e = both (λ m. m ≡ S.unaltered words setup counts 19 At.Nowhere (h s)) _ (pick-no _ _ _ (wrong _ s e)) refl
+    barred (reply said) s e = both (λ m. m ≡ S.unaltered words 19 At.Nowhere (h s)) _ (pick-no _ _ _ (wrong _ s e)) refl
+    barred failure s e = both (λ m. m ≡ S.unaltered words 19 At.Nowhere (h s)) _ (pick-no _ _ _ (wrong _ s e)) refl
 
     unpointed : (s : State) → loadedState state ≡ given s → awaitedPoint setup counts mostRows s tally ≡ Wants.Refused 19
     unfolding awaitedPoint

@@ -146,7 +146,7 @@ module _ (S : Store) (setup : Setup) (counts : List ℕ) (observations : List Ob
 
     -- what a turn makes of the end of a request
     abbrev closeTurn : Ended → Moved (Held S) Step
-    closeTurn e = heldBy S setup counts (h .parameters) (moved S (w .tally) (w .kept) (pick (isOver (e .turned)) (zeros (length (e .work))) (e .work)) (e .warm) (e .results) (e .turned))
+    closeTurn e = heldBy S (h .parameters) (moved S (w .tally) (w .kept) (pick (isOver (e .turned)) (zeros (length (e .work))) (e .work)) (e .warm) (e .results) (e .turned))
 
     goes-on : (q : Progress) (work warm results : List ℕ) → closeTurn (ended (On q) work warm results) ≡ on (held S (h .parameters) (wholeOf S q (w .tally) (w .kept) work warm results))
     unfolding heldBy moved isOver pick

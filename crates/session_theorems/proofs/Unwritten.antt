@@ -159,7 +159,7 @@ module _ (setup : Setup) (counts : List ℕ) where
       Ends (On q) warm results = (work : List ℕ) → Rest (to q (w .tally) work warm results)
       Ends (Halt x) warm results = (work : List ℕ) → Unwritten setup counts ref (x .step) (to (x .progress) (x .tally) work warm results)
 
-      closes : (t : Turned) (work warm results : List ℕ) → Ends t warm results → Follows (N.heldBy words setup counts (h .parameters) (moved words (w .tally) (w .kept) work warm results t))
+      closes : (t : Turned) (work warm results : List ℕ) → Ends t warm results → Follows (N.heldBy words (h .parameters) (moved words (w .tally) (w .kept) work warm results t))
       unfolding Follows N.heldBy moved Ends
       closes (On q) work warm results e = e work
       closes (Halt x) work warm results e = e work
@@ -291,15 +291,15 @@ module _ (setup : Setup) (counts : List ℕ) where
     all-follow (halt (Answers.Refused number (At.Subject i)) t) e = stays _ _ h h t e (all-stay _ _ h)
     all-follow (halt (Answers.Refused number (At.Observation i n)) t) e = stays _ _ h h t e (all-stay _ _ h)
 
-    unaltered : (number : ℕ) (place : Place) → Enters (N.unaltered words setup counts number place h)
+    unaltered : (number : ℕ) (place : Place) → Enters (N.unaltered words number place h)
     unfolding Enters
     unaltered number place = record { warm = refl; results = refl }
 
-    over : (number : ℕ) (place : Place) → Enters (N.over words setup counts number place h)
+    over : (number : ℕ) (place : Place) → Enters (N.over words number place h)
     unfolding Enters N.over
     over number place = record { warm = refl; results = refl }
 
-    when-admitted : (go : Moved (Held words) Step) (v : Admission) → Enters go → Enters (N.whenAdmitted words setup counts h go v)
+    when-admitted : (go : Moved (Held words) Step) (v : Admission) → Enters go → Enters (N.whenAdmitted words h go v)
     unfolding N.whenAdmitted
     when-admitted go A.Accepted f = f
     when-admitted go (A.Refused n) f = unaltered n _
@@ -309,7 +309,7 @@ module _ (setup : Setup) (counts : List ℕ) where
     unfolding Enters N.begun
     begun parameters = record { warm = refl; results = refl }
 
-    replied : (fit : Fit) (eta : Pair) (work : List ℕ) (e : Evaluation) → Enters (N.replied words setup counts fit eta h work e)
+    replied : (fit : Fit) (eta : Pair) (work : List ℕ) (e : Evaluation) → Enters (N.replied words counts fit eta h work e)
     unfolding Enters N.replied
     replied fit eta work (E.Running sums) = record { warm = refl; results = refl }
     replied fit eta work (E.Refused n) = over n _

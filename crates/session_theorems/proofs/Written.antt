@@ -219,9 +219,9 @@ module _ (setup : Setup) (counts : List ℕ) (observations : List Observation) (
     }
 
     abbrev closeTurn : Ended → Moved (Held words) Step
-    closeTurn e = N.heldBy words setup counts (h .parameters) (moved words (w .tally) (w .kept) (pick (isOver (e .turned)) (zeros (length (e .work))) (e .work)) (e .warm) (e .results) (e .turned))
+    closeTurn e = N.heldBy words (h .parameters) (moved words (w .tally) (w .kept) (pick (isOver (e .turned)) (zeros (length (e .work))) (e .work)) (e .warm) (e .results) (e .turned))
 
-    keeps-turn : (t : Turned) (work warm results : List ℕ) → Writes warm results → After (Kept h) (N.heldBy words setup counts (h .parameters) (moved words (w .tally) (w .kept) work warm results t))
+    keeps-turn : (t : Turned) (work warm results : List ℕ) → Writes warm results → After (Kept h) (N.heldBy words (h .parameters) (moved words (w .tally) (w .kept) work warm results t))
     unfolding After N.heldBy moved
     keeps-turn (On q) work warm results v = keeps q (w .tally) (w .kept) work warm results v
     keeps-turn (Halt x) work warm results v = keeps (x .progress) (x .tally) (w .kept) work warm results v
@@ -538,21 +538,21 @@ module _ (setup : Setup) (counts : List ℕ) (observations : List Observation) (
     same-kept : Kept h h
     same-kept = record { before = λ i b l o. o; behind = λ i l. refl; runs = λ c o. o }
 
-    unaltered-kept : (number : ℕ) (place : Place) → After (Kept h) (N.unaltered words setup counts number place h)
+    unaltered-kept : (number : ℕ) (place : Place) → After (Kept h) (N.unaltered words number place h)
     unfolding After
     unaltered-kept number place = same-kept
 
-    when-admitted : (go : Moved (Held words) Step) (v : Admission) → After (Kept h) go → After (Kept h) (N.whenAdmitted words setup counts h go v)
+    when-admitted : (go : Moved (Held words) Step) (v : Admission) → After (Kept h) go → After (Kept h) (N.whenAdmitted words h go v)
     unfolding N.whenAdmitted
     when-admitted go A.Accepted f = f
     when-admitted go (A.Refused n) f = unaltered-kept n _
     when-admitted go (A.Unsound place) f = unaltered-kept 4 _
 
-    over-kept : (number : ℕ) (place : Place) → After (Kept h) (N.over words setup counts number place h)
+    over-kept : (number : ℕ) (place : Place) → After (Kept h) (N.over words number place h)
     unfolding After N.over
     over-kept number place = keeps _ _ _ _ _ _ nothing
 
-    replied-kept : (eta : Pair) (work : List ℕ) (e : Evaluation) → After (Kept h) (N.replied words setup counts fit eta h work e)
+    replied-kept : (eta : Pair) (work : List ℕ) (e : Evaluation) → After (Kept h) (N.replied words counts fit eta h work e)
     unfolding After N.replied
     replied-kept eta work (E.Running sums) = keeps _ _ _ _ _ _ nothing
     replied-kept eta work (E.Refused n) = over-kept n _
@@ -577,17 +577,17 @@ module _ (setup : Setup) (counts : List ℕ) (observations : List Observation) (
     enters-keep failure t = when-awaited _ _ (λ eta. over-kept 8 _)
 
     -- ---- a reply's rows
-    unaltered-carries : (u : Trial (I .rules)) (number : ℕ) (place : Place) → Got h u (N.unaltered words setup counts number place h)
+    unaltered-carries : (u : Trial (I .rules)) (number : ℕ) (place : Place) → Got h u (N.unaltered words number place h)
     unfolding Carried
     unaltered-carries u number place t = (refl, λ ts c. c)
 
-    admitted-carries : (u : Trial (I .rules)) (go : Moved (Held words) Step) (v : Admission) → Got h u go → Got h u (N.whenAdmitted words setup counts h go v)
+    admitted-carries : (u : Trial (I .rules)) (go : Moved (Held words) Step) (v : Admission) → Got h u go → Got h u (N.whenAdmitted words h go v)
     unfolding N.whenAdmitted
     admitted-carries u go A.Accepted f = f
     admitted-carries u go (A.Refused n) f = unaltered-carries u n _
     admitted-carries u go (A.Unsound place) f = unaltered-carries u 4 _
 
-    over-carries : (u : Trial (I .rules)) (number : ℕ) (place : Place) → Got h u (N.over words setup counts number place h)
+    over-carries : (u : Trial (I .rules)) (number : ℕ) (place : Place) → Got h u (N.over words number place h)
     unfolding Carried N.over B.idle B.withSearch
     over-carries u number place t = absurd (subst T (sym t) tt)
 
@@ -625,7 +625,7 @@ module _ (setup : Setup) (counts : List ℕ) (observations : List Observation) (
       block-there : block rows 3 + rowWords * length lists ≤ length (w .work)
       block-there = let b = block-end rows small in let n = all-there in let l = s .roomy j (s .subject) in omega (arith, b, n, l)
 
-      replied-carries : (x : Evaluation) → finish (end .evaluation) ≡ x → Got h (Y .given (reply said) h) (N.replied words setup counts fit eta h (end .work) x)
+      replied-carries : (x : Evaluation) → finish (end .evaluation) ≡ x → Got h (Y .given (reply said) h) (N.replied words counts fit eta h (end .work) x)
       unfolding Carried N.replied receive takes
       replied-carries (E.Running sums) d =
           let t = Y .given (reply said) h in
@@ -647,7 +647,7 @@ module _ (setup : Setup) (counts : List ℕ) (observations : List Observation) (
     enters-carry failure t = awaited-carries _ _ _ (λ eta q. over-carries _ 8 _)
 
     -- an objective, with its own parameters
-    unaltered-opens : (c : Call) (number : ℕ) (place : Place) → Begins c h (N.unaltered words setup counts number place h)
+    unaltered-opens : (c : Call) (number : ℕ) (place : Place) → Begins c h (N.unaltered words number place h)
     unfolding Opens
     unaltered-opens c number place = tt
 
@@ -655,7 +655,7 @@ module _ (setup : Setup) (counts : List ℕ) (observations : List Observation) (
     unfolding Opens N.begun B.beginSubject
     begun-opens parameters = (X .starts setup parameters _ (w .warm) 0 refl refl, λ i l. refl, refl, nothing-carried _ 0 0 (warmOf (w .warm) (setup .effects) 0) (word 0) (word 0) _, refl)
 
-    admitted-opens : (parameters : Parameters) (v : Admission) → Begins (objective parameters) h (N.whenAdmitted words setup counts h (on (N.begun words setup counts parameters w)) v)
+    admitted-opens : (parameters : Parameters) (v : Admission) → Begins (objective parameters) h (N.whenAdmitted words h (on (N.begun words setup counts parameters w)) v)
     unfolding N.whenAdmitted
     admitted-opens parameters A.Accepted = begun-opens parameters
     admitted-opens parameters (A.Refused n) = unaltered-opens _ n _

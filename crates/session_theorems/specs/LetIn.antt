@@ -51,11 +51,11 @@ module _ (setup : Setup) (counts : List ℕ) (observations : List Observation) w
         → enterReply words setup counts observations said h ≡ answered words setup counts observations said (wantedPoint h) h
     pub fails : h .whole .progress .awaits ≡ true
         → enterFailure words setup counts (length observations) (allChecked setup counts observations) h
-        ≡ over words setup counts 8 (Subject (h .whole .progress .subject)) h
+        ≡ over words 8 (Subject (h .whole .progress .subject)) h
     -- none is awaited: a new objective begins where 1 to 5 pass
     pub begins : h .whole .progress .awaits ≡ false → (parameters : Parameters)
         → enterObjective words setup counts (length observations) (allChecked setup counts observations) parameters h
-        ≡ whenAdmitted words setup counts h (on (begun words setup counts parameters (h .whole))) (admission parameters h)
+        ≡ whenAdmitted words h (on (begun words setup counts parameters (h .whole))) (admission parameters h)
     -- and no answer to any of these is 19
     pub never19 : (c : Call) → Ruled c h → (place : Place)
         → call (session words setup counts observations) c h .answer ≡ Refused 19 place → ⊥

@@ -34,26 +34,26 @@ same-length-6 c = search needs
 
 returns : tie.Need-returns
 returns c =
-    let d = c .before .before .before .before .before .before .before .before .before .before .before .before .before .before .before .before .before .before .before .before .before .before .before
-    .before .before .before .before .before .before .before .before in
-    follows-sums (d .args .setup) (d .args .counts .now) (d .args .eta) (d .args .evaluation) (d .args .state) (d .args .tally) (d .args .cache .now) (d .args .work .now) (d .args .warm .now)
-    (d .args .results .now) (c .before .before .before .before .before .before .before .before .before .before .before .before .before .before .before .before .before .before .before .before
-    .before .before .finish .ensures) (c .before .before .before .before .before .before .before .before .before .before .before .before .before .before .before .keep .result)
-    (c .before .before .before .before .before .before .before .before .before .before .before .before .before .before .before .before .before .before .before .before .sums .given .1)
-    (c .before .before .before .before .before .before .before .before .before .before .before .before .before .before .before .before .before .before .fit-of .ensures)
-    (c .before .before .before .before .before .before .before .before .before .before .before .before .before .before .before .keep .ensures)
-    (c .before .before .before .before .before .before .run .ensures)
+    let kept = c .before .before .before .before .before .before .before .before .before .before .before .before .before .before .before in
+    let ended = kept .before .before .before .before .before .before in
+    let d = ended .before .before .before .before .before .before .before .before .before in
+    follows-sums (d .args .fit) (d .args .counts .now) (d .args .eta) (d .args .evaluation) (d .args .state) (d .args .tally) (d .args .cache .now) (d .args .work .now) (d .args .warm .now) (d .args .results .now)
+    (ended .finish .ensures) (kept .keep .result) (kept .before .before .before .before .sums .given .1) (kept .keep .ensures) (c .before .before .before .before .before .before .run .ensures)
 
 returns-2 : tie.Need-returns-2
-returns-2 c = let d = c .before .before .before .before .before .before .before .before .before .before .before .before .before .before .before .before in follows-refusal (d .args .setup)
-    (d .args .counts .now) (d .args .eta) (d .args .evaluation) (d .args .state) (d .args .tally) (d .args .cache .now) (d .args .work .now) (d .args .warm .now) (d .args .results .now)
-    (c .before .before .before .before .before .before .before .finish .ensures) (c .before .before .before .before .before .number .given .1) (c .before .before .ended-as .ensures)
+returns-2 c =
+    let ended = c .before .before .before .before .before .before .before in
+    let d = ended .before .before .before .before .before .before .before .before .before in
+    follows-refusal (d .args .fit) (d .args .counts .now) (d .args .eta) (d .args .evaluation) (d .args .state) (d .args .tally) (d .args .cache .now) (d .args .work .now) (d .args .warm .now) (d .args .results .now)
+    (ended .finish .ensures) (c .before .before .before .before .before .number .given .1) (c .before .before .ended-as .ensures)
 
 returns-3 : tie.Need-returns-3
-returns-3 c = let d = c .before .before .before .before .before .before .before .before .before .before .before .before .before .before .before .before in follows-refusal-at (d .args .setup)
-    (d .args .counts .now) (d .args .eta) (d .args .evaluation) (d .args .state) (d .args .tally) (d .args .cache .now) (d .args .work .now) (d .args .warm .now) (d .args .results .now)
-    (c .before .before .before .before .before .before .before .finish .ensures) (c .before .before .before .before .before .number2 .given .1) (c .before .before .ended-as2 .ensures)
+returns-3 c =
+    let ended = c .before .before .before .before .before .before .before in
+    let d = ended .before .before .before .before .before .before .before .before .before in
+    follows-refusal-at (d .args .fit) (d .args .counts .now) (d .args .eta) (d .args .evaluation) (d .args .state) (d .args .tally) (d .args .cache .now) (d .args .work .now) (d .args .warm .now) (d .args .results .now)
+    (ended .finish .ensures) (c .before .before .before .before .before .number2 .given .1) (c .before .before .ended-as2 .ensures)
 
 pub follow-spec : {M : Type 1} → statement M
-follow-spec = tie.close (tie.spec free enum-known-sums free free free enum-known-number free enum-known-number-2 free same-length same-length-2 same-length-3 same-length-4 returns same-length-5
+follow-spec = tie.close (tie.spec free enum-known-sums free free enum-known-number free enum-known-number-2 free same-length same-length-2 same-length-3 same-length-4 returns same-length-5
     returns-2 same-length-6 returns-3)

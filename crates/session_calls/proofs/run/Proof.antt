@@ -3,7 +3,7 @@ use borrow.Author.Needs.{needs}
 use Rattle.float64.proofs.Laws.{free}
 use Rattle.population.specs.Kept.{cacheOf}
 use Rattle.population.specs.Steps.{wholeFrom}
-use Rattle.session_calls.proofs.Paths.{ran-held}
+use Rattle.session_calls.proofs.Paths.{ran-in}
 use Rattle.session_calls.proofs.run.Statement.{statement}
 use Rattle.session_calls.proofs.run.Tie as tie
 
@@ -18,11 +18,11 @@ same-length-3 c = search needs
 
 returns : tie.Need-returns
 returns c =
-    let d = c .before .before .before .before .before .before .before .before .before .before .before .before .before .before .before .before .before .before .before .before .before in
-    ran-held (d .args .setup) (d .args .counts .now) (d .args .state .parameters) 25985024 (λ fit. wholeFrom fit (d .args .counts .now) (d .args .hand) (d .args .state .progress) (d .args .tally)
-    (cacheOf (d .args .cache .now) (d .args .state .order)) (d .args .work .now) (d .args .warm .now) (d .args .results .now))
-    (c .before .before .before .before .before .before .before .before .before .before .before .before .fit-of .ensures)
-    (c .before .before .before .before .before .before .before .before .requests .ensures)
+    let step = c .before .before .before .before .before .before .before .before in
+    let d = step .before .before .before .before .before .before .before .before .before .before .before .before in
+    ran-in (d .args .fit) (d .args .counts .now) (d .args .state .parameters)
+    (wholeFrom (d .args .fit) (d .args .counts .now) (d .args .hand) (d .args .state .progress) (d .args .tally) (cacheOf (d .args .cache .now) (d .args .state .order)) (d .args .work .now)
+    (d .args .warm .now) (d .args .results .now)) (step .requests .ensures)
 
 pub run-spec : {M : Type 1} → statement M
-run-spec = tie.close (tie.spec free free same-length same-length-2 same-length-3 returns)
+run-spec = tie.close (tie.spec free same-length same-length-2 same-length-3 returns)

@@ -5,7 +5,8 @@ use Rattle.session.proofs.checks.admit_awaited.Statement.{statement}
 use Rattle.session.proofs.checks.admit_awaited.Tie as tie
 
 returns : tie.Need-returns
-returns c = awaited-by _ _ _ _ _ _ (c .before .before .before .awaited-point .ensures) (c .before .before .with-parameters .ensures) (c .before .checks .ensures) (c .awaited-for .ensures)
+returns c = awaited-by _ _ (c .before .before .before .before .with-parameters .ensures) (c .before .before .before .fit-of .ensures) _ _ _ _ (c .before .before .awaited-point .ensures)
+    (c .before .checks .ensures) (c .awaited-for .ensures)
 
 pub admit-awaited-spec : {M : Type 1} → statement M
-admit-awaited-spec = tie.close (tie.spec free free free free returns)
+admit-awaited-spec = tie.close (tie.spec free free free free free returns)
