@@ -35,7 +35,7 @@ module _ (setup : Setup) (counts : List ℕ) (observations : List Observation) (
   abbrev follows : Admitted → Out
   follows a =
       let e = evaluateOver observations a said work in
-      finishWith setup counts (a .awaited) (e .evaluation) tally state answer cache (e .work) warm results
+      finishWith counts (a .awaited) (e .evaluation) tally state answer cache (e .work) warm results
 
   pub subject-replied : {state' : List ℕ} {first check : Check} {z : Out} → state' ≡ state → first ≡ subjectFirst state
       → check ≡ checkObservations (setup .width) counts observations first

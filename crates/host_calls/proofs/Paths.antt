@@ -295,17 +295,17 @@ module _ (setup : Setup) (counts : List ℕ) (n : ℕ) (check : Check) (tally : 
   failure-none ex tx q = with-none state ex (fails setup) none tx (unknown-out tally state answer cache work warm results q)
 
 -- the second part of a reply
-module _ (setup : Setup) (counts : List ℕ) (a : Awaited) (e : Evaluation) (tally : Tally) (state answer cache work warm results : List ℕ) where
-  finishes : Setup → State → Out
-  finishes o s = did (finishReply o counts a e (heldOf s tally cache work warm results)) state answer
+module _ (counts : List ℕ) (a : Awaited) (e : Evaluation) (tally : Tally) (state answer cache work warm results : List ℕ) where
+  finishes : State → Out
+  finishes s = did (finishReply counts a e (heldOf s tally cache work warm results)) state answer
 
-  pub finish-given : {x : LoadedState} → W.answer x ≡ W.loadedState state → {s : State} {own : Setup} {c : Called} {r : Done} {t w j k m q : List ℕ} → x ≡ Given s → own ≡ setup → called c j k m q ≡
-      finishReply own counts a e (heldOf s tally cache work warm results) → toldAs r t w ≡ told c state answer
-      → out r t w j k m q ≡ finishWith setup counts a e tally state answer cache work warm results
+  pub finish-given : {x : LoadedState} → W.answer x ≡ W.loadedState state → {s : State} {c : Called} {r : Done} {t w j k m q : List ℕ} → x ≡ Given s → called c j k m q ≡ finishReply counts a e
+      (heldOf s tally cache work warm results) → toldAs r t w ≡ told c state answer
+      → out r t w j k m q ≡ finishWith counts a e tally state answer cache work warm results
   unfolding finishWith finishes
-  finish-given ex {s} tx eo ec et = with-given state ex (finishes setup) (unknown tally state answer cache work warm results) tx (did-told state answer ec et ∙ (λ i. finishes (eo i) s))
+  finish-given ex tx ec et = with-given state ex finishes (unknown tally state answer cache work warm results) tx (did-told state answer ec et)
 
   pub finish-none : {x : LoadedState} → W.answer x ≡ W.loadedState state → {r : Done} {w : List ℕ} → x ≡ None → (r ≡ noState tally) × (w ≡ answered (placeWords 19 At.Nowhere) answer) → out r state w
-      cache work warm results ≡ finishWith setup counts a e tally state answer cache work warm results
+      cache work warm results ≡ finishWith counts a e tally state answer cache work warm results
   unfolding finishWith finishes
-  finish-none ex tx q = with-none state ex (finishes setup) (unknown tally state answer cache work warm results) tx (unknown-out tally state answer cache work warm results q)
+  finish-none ex tx q = with-none state ex finishes (unknown tally state answer cache work warm results) tx (unknown-out tally state answer cache work warm results q)

@@ -68,7 +68,7 @@ module _ (setup : Setup) (counts : List ℕ) (observations : List Observation) (
     Evaluates a = evaluating e w ≡ addObservations (a .trial) v (take (a .to - a .from) (drop (a .from) observations)) (evaluating (a .evaluation) work)
 
     finishes : Admitted → State → Out
-    finishes a s = did (finishReply setup counts (a .awaited) e (heldOf s tally cache w warm results)) state answer
+    finishes a s = did (finishReply counts (a .awaited) e (heldOf s tally cache w warm results)) state answer
 
     reply-at : (l : Answer State) → Evaluates (admitWith setup counts lent check tally v l)
         → withState (finishes (admitWith setup counts lent check tally v l)) (unknown tally state answer cache w warm results) l ≡ withState (does (reply v)) none l
@@ -78,7 +78,7 @@ module _ (setup : Setup) (counts : List ℕ) (observations : List Observation) (
     reply-at (refused n) q = ap (λ (x : Evaluating). unknown tally state answer cache (x .work) warm results) q
 
     pub reply-over : {l : Lent} {a : Admitted} {z : Out} → l ≡ lent → a ≡ admitWith setup counts l check tally v (loadedState state) → Evaluates a
-        → z ≡ finishWith setup counts (a .awaited) e tally state answer cache w warm results → z ≡ callOver setup counts observations tally state answer cache work warm results (reply v)
+        → z ≡ finishWith counts (a .awaited) e tally state answer cache w warm results → z ≡ callOver setup counts observations tally state answer cache work warm results (reply v)
     unfolding finishWith callOver finishes does
     reply-over {a = a} el ea q z =
         let b = admitWith setup counts lent check tally v (loadedState state) in

@@ -259,11 +259,11 @@ module _ (setup : Setup) (counts : List ℕ) (n : ℕ) (check : Check) (tally : 
 
 unfoldable pub admitWith : Setup → List ℕ → Lent → Check → Tally → List ℕ → Answer State → Admitted
 admitWith setup counts lent check tally reply (given s) = admitReply setup counts lent check s tally reply
-admitWith setup counts lent check tally reply (refused n) = unadmitted
+admitWith setup counts lent check tally reply (refused n) = unadmitted setup
 
-unfoldable pub finishWith : Setup → List ℕ → Awaited → Evaluation → Tally → List ℕ → List ℕ → List ℕ → List ℕ → List ℕ → List ℕ → Out
-finishWith setup counts a e tally state answer cache work warm results =
-    withState (λ s. did (finishReply setup counts a e (heldOf s tally cache work warm results)) state answer)
+unfoldable pub finishWith : List ℕ → Awaited → Evaluation → Tally → List ℕ → List ℕ → List ℕ → List ℕ → List ℕ → List ℕ → Out
+finishWith counts a e tally state answer cache work warm results =
+    withState (λ s. did (finishReply counts a e (heldOf s tally cache work warm results)) state answer)
     (unknown tally state answer cache work warm results) (loadedState state)
 
 -- ---- the calls, over the observations

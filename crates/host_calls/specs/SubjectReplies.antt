@@ -30,7 +30,7 @@ subjectChecked setup counts observations state = checkObservations (setup .width
 
 unfoldable pub admitSubjectWith : Setup → List ℕ → Lent → Check → Tally → List ℕ → Answer State → Admitted
 admitSubjectWith setup counts lent check tally reply (given s) = admitSubjectReply setup counts lent check s tally reply
-admitSubjectWith setup counts lent check tally reply (refused n) = unadmitted
+admitSubjectWith setup counts lent check tally reply (refused n) = unadmitted setup
 
 -- a reply that lends the observations of the awaited subject alone, or those of all subjects
 unfoldable pub admitFor : Bool → Setup → List ℕ → Lent → Check → Tally → List ℕ → Answer State → Admitted
@@ -45,4 +45,4 @@ subjectReplyOver setup counts observations tally state answer cache work warm re
     let lent = lentBy (length observations) (length cache) (length work) (length warm) (length results) in
     let a = admitSubjectWith setup counts lent (subjectChecked setup counts observations state) tally reply (loadedState state) in
     let e = addObservations (a .trial) reply (take (a .to - a .from) (drop (a .from) observations)) (evaluating (a .evaluation) work) in
-    finishWith setup counts (a .awaited) (e .evaluation) tally state answer cache (e .work) warm results
+    finishWith counts (a .awaited) (e .evaluation) tally state answer cache (e .work) warm results

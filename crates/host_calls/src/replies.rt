@@ -42,7 +42,7 @@ fn admit_reply(
                 reply,
             )
         }
-        LoadedState::None => session::checks::unadmitted(),
+        LoadedState::None => session::checks::unadmitted(super::setup_of(setup)),
     }
 }
 
@@ -77,7 +77,7 @@ fn admit_subject_reply(
             let own = super::setup_of(setup);
             session::checks::admit_subject_reply(own, at, tally, check, lent, counts, reply)
         }
-        LoadedState::None => session::checks::unadmitted(),
+        LoadedState::None => session::checks::unadmitted(super::setup_of(setup)),
     }
 }
 
@@ -111,7 +111,6 @@ pub fn admit(
 // observations were added to. The objective runs on until there is a question or an end, and the state and
 // the answer are written.
 pub fn finish_reply(
-    setup: SessionSetup,
     tally: Tally,
     admitted: Admitted,
     evaluation: Evaluation,
@@ -125,13 +124,12 @@ pub fn finish_reply(
 ) -> Done
     ensures { λ r. ⌜ out r (now (state .exit)) (now (answer .exit)) (now (cache .exit)) (now (work .exit)) (now (warm .exit))
         (now (results .exit))
-        ≡ finishWith (setupOf setup) (now (counts .entry)) (admitted .awaited) evaluation tally (now (state .entry)) (now (answer .entry))
+        ≡ finishWith (now (counts .entry)) (admitted .awaited) evaluation tally (now (state .entry)) (now (answer .entry))
         (now (cache .entry)) (now (work .entry)) (now (warm .entry)) (now (results .entry)) ⌝ }
 {
     match state_words::load(state) {
         LoadedState::Given(at) => {
             let finished = session_calls::finish_reply(
-                super::setup_of(setup),
                 at,
                 tally,
                 admitted,

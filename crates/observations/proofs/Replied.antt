@@ -25,13 +25,13 @@ module _ (alone : Bool) (setup : Setup) (counts : List ℕ) (observations : List
   lent = lentBy (length observations) (length cache) (length work) (length warm) (length results)
 
   abbrev finishes : Admitted → Evaluating → Out
-  finishes a x = finishWith setup counts (a .awaited) (x .evaluation) tally state answer cache (x .work) warm results
+  finishes a x = finishWith counts (a .awaited) (x .evaluation) tally state answer cache (x .work) warm results
 
   pub replied-over : {state' : List ℕ} {a : Admitted} {e : Evaluation} {w : List ℕ} {z : Out} → state' ≡ state
       → a ≡ admitFor alone setup counts lent check tally reply (loadedState state) → evaluating e w ≡ evaluateOver observations a reply work
-      → z ≡ finishWith setup counts (a .awaited) e tally state' answer cache w warm results
+      → z ≡ finishWith counts (a .awaited) e tally state' answer cache w warm results
       → z ≡ repliedOver alone setup counts observations check tally state answer cache work warm results reply
   unfolding repliedOver
   replied-over {a = a} {e = e} {w = w} es ea ee q =
-      q ∙ ap (λ (s : List ℕ). finishWith setup counts (a .awaited) e tally s answer cache w warm results) es ∙ ap (finishes a) ee
+      q ∙ ap (λ (s : List ℕ). finishWith counts (a .awaited) e tally s answer cache w warm results) es ∙ ap (finishes a) ee
       ∙ ap (λ (y : Admitted). finishes y (evaluateOver observations y reply work)) ea

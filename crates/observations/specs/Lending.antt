@@ -27,4 +27,4 @@ repliedOver alone setup counts observations check tally state answer cache work 
     let lent = lentBy (length observations) (length cache) (length work) (length warm) (length results) in
     let a = admitFor alone setup counts lent check tally reply (loadedState state) in
     let e = evaluateOver observations a reply work in
-    finishWith setup counts (a .awaited) (e .evaluation) tally state answer cache (e .work) warm results
+    finishWith counts (a .awaited) (e .evaluation) tally state answer cache (e .work) warm results

@@ -154,7 +154,6 @@ pub fn reply_checked(
     );
     let evaluation = evaluate(observations, admitted, reply, work);
     host_calls::replies::finish_reply(
-        setup,
         tally,
         admitted,
         evaluation,

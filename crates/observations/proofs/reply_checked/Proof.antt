@@ -593,44 +593,38 @@ module _ {M : Type 1} (𝓤 : URA M) (H : Heap 𝓤) (A : Atoms 𝓤) (W : Given
               (q-counts, (q-state, (q-answer, (q-cache, (q-work, (q-warm, (q-results, tt))))))),
               tt,
               (
-                x-setup,
+                x-tally,
                 (
-                  x-tally,
+                  r2,
                   (
-                    r2,
+                    r3,
                     (
-                      r3,
+                      x-counts,
                       (
-                        x-counts,
-                        (
-                          record { ptr = x-state .ptr; name = x-state .name; now = z2 .1 .1 .1 .1 .1 .1 .1 .1 .1 .1 .1 .0 },
-                          (x-answer, (x-cache, (record { ptr = x-work .ptr; name = x-work .name; now = z3 .1 .1 .1 .0 }, (x-warm, (x-results, tt))))),
-                        ),
+                        record { ptr = x-state .ptr; name = x-state .name; now = z2 .1 .1 .1 .1 .1 .1 .1 .1 .1 .1 .1 .0 },
+                        (x-answer, (x-cache, (record { ptr = x-work .ptr; name = x-work .name; now = z3 .1 .1 .1 .0 }, (x-warm, (x-results, tt))))),
                       ),
                     ),
                   ),
                 ),
               ),
               (
-                v-setup ∷ [],
+                v-tally ∷ [],
                 (
-                  v-tally ∷ [],
+                  v2 ∷ [],
                   (
-                    v2 ∷ [],
+                    v3 ∷ [],
                     (
-                      v3 ∷ [],
+                      sliceVal (x-counts .ptr) (length (x-counts .now)) ∷ [],
                       (
-                        sliceVal (x-counts .ptr) (length (x-counts .now)) ∷ [],
+                        sliceVal (x-state .ptr) (length (x-state .now)) ∷ [],
                         (
-                          sliceVal (x-state .ptr) (length (x-state .now)) ∷ [],
+                          sliceVal (x-answer .ptr) (length (x-answer .now)) ∷ [],
                           (
-                            sliceVal (x-answer .ptr) (length (x-answer .now)) ∷ [],
+                            sliceVal (x-cache .ptr) (length (x-cache .now)) ∷ [],
                             (
-                              sliceVal (x-cache .ptr) (length (x-cache .now)) ∷ [],
-                              (
-                                sliceVal (x-work .ptr) (length (x-work .now)) ∷ [],
-                                (sliceVal (x-warm .ptr) (length (x-warm .now)) ∷ [], (sliceVal (x-results .ptr) (length (x-results .now)) ∷ [], tt)),
-                              ),
+                              sliceVal (x-work .ptr) (length (x-work .now)) ∷ [],
+                              (sliceVal (x-warm .ptr) (length (x-warm .now)) ∷ [], (sliceVal (x-results .ptr) (length (x-results .now)) ∷ [], tt)),
                             ),
                           ),
                         ),
@@ -654,7 +648,7 @@ module _ {M : Type 1} (𝓤 : URA M) (H : Heap 𝓤) (A : Atoms 𝓤) (W : Given
           (8 ∷ 0 ∷ []) $ fjoin ! $ move ! (7 ∷ 0 ∷ []) $ fjoin ! $ move ! (6 ∷ 0 ∷ []) $ fjoin ! $ move ! (5 ∷ 0 ∷ []) $ fjoin ! $ move ! (4 ∷ 0 ∷ []) $ fjoin ! $ move ! (3 ∷ 0 ∷ []) $ fjoin ! $
           move ! (2 ∷ 0 ∷ []) $ fjoin ! $ owned ! E.the-row (Is E.the-row) (EL.makes E.the-type E′.the-plain 𝓤 H A) r3 (v3 ∷ []) is3 $ fjoin ! $ owned ! AD.the-row (Is AD.the-row)
           (LL.makes AD.the-type AD′.the-plain 𝓤 H A) r2 (v2 ∷ []) is2 $ fjoin ! $ owned ! T.the-row (Is T.the-row) (LL.makes T.the-type T′.the-plain 𝓤 H A) x-tally (v-tally ∷ []) is-tally $ fjoin !
-          $ owned ! S.the-row (Is S.the-row) (LL.makes S.the-type S′.the-plain 𝓤 H A) x-setup (v-setup ∷ []) is-setup $ fjoin ! $ move ! (1 ∷ 0 ∷ []) $ join ! $ nothing ! $ move ! (1 ∷ 0 ∷ []) $
+          $ move ! (1 ∷ 0 ∷ []) $ join ! $ nothing ! $ move ! (1 ∷ 0 ∷ []) $
           done !) $
           calls-at ! fm (s-con 𝓤 H A at-mem run) known-s (
             (
@@ -662,44 +656,38 @@ module _ {M : Type 1} (𝓤 : URA M) (H : Heap 𝓤) (A : Atoms 𝓤) (W : Given
               (q-counts, (q-state, (q-answer, (q-cache, (q-work, (q-warm, (q-results, tt))))))),
               tt,
               (
-                x-setup,
+                x-tally,
                 (
-                  x-tally,
+                  r2,
                   (
-                    r2,
+                    r3,
                     (
-                      r3,
+                      x-counts,
                       (
-                        x-counts,
-                        (
-                          record { ptr = x-state .ptr; name = x-state .name; now = z2 .1 .1 .1 .1 .1 .1 .1 .1 .1 .1 .1 .0 },
-                          (x-answer, (x-cache, (record { ptr = x-work .ptr; name = x-work .name; now = z3 .1 .1 .1 .0 }, (x-warm, (x-results, tt))))),
-                        ),
+                        record { ptr = x-state .ptr; name = x-state .name; now = z2 .1 .1 .1 .1 .1 .1 .1 .1 .1 .1 .1 .0 },
+                        (x-answer, (x-cache, (record { ptr = x-work .ptr; name = x-work .name; now = z3 .1 .1 .1 .0 }, (x-warm, (x-results, tt))))),
                       ),
                     ),
                   ),
                 ),
               ),
               (
-                v-setup ∷ [],
+                v-tally ∷ [],
                 (
-                  v-tally ∷ [],
+                  v2 ∷ [],
                   (
-                    v2 ∷ [],
+                    v3 ∷ [],
                     (
-                      v3 ∷ [],
+                      sliceVal (x-counts .ptr) (length (x-counts .now)) ∷ [],
                       (
-                        sliceVal (x-counts .ptr) (length (x-counts .now)) ∷ [],
+                        sliceVal (x-state .ptr) (length (x-state .now)) ∷ [],
                         (
-                          sliceVal (x-state .ptr) (length (x-state .now)) ∷ [],
+                          sliceVal (x-answer .ptr) (length (x-answer .now)) ∷ [],
                           (
-                            sliceVal (x-answer .ptr) (length (x-answer .now)) ∷ [],
+                            sliceVal (x-cache .ptr) (length (x-cache .now)) ∷ [],
                             (
-                              sliceVal (x-cache .ptr) (length (x-cache .now)) ∷ [],
-                              (
-                                sliceVal (x-work .ptr) (length (x-work .now)) ∷ [],
-                                (sliceVal (x-warm .ptr) (length (x-warm .now)) ∷ [], (sliceVal (x-results .ptr) (length (x-results .now)) ∷ [], tt)),
-                              ),
+                              sliceVal (x-work .ptr) (length (x-work .now)) ∷ [],
+                              (sliceVal (x-warm .ptr) (length (x-warm .now)) ∷ [], (sliceVal (x-results .ptr) (length (x-results .now)) ∷ [], tt)),
                             ),
                           ),
                         ),
@@ -711,61 +699,55 @@ module _ {M : Type 1} (𝓤 : URA M) (H : Heap 𝓤) (A : Atoms 𝓤) (W : Given
             ),
             tt,
           )
-          (and-then ! (load ! (from ! (stop !)) (look ! 76 refl)) (and-then ! (load ! (from ! (stop !)) (look ! 74 refl))
+          (and-then ! (load ! (from ! (stop !)) (look ! 74 refl))
           (and-then ! (load ! (from ! (stop !)) (look ! 48 refl)) (and-then ! (load ! (from ! (stop !)) (look ! 46 refl))
           (and-then ! (load ! (from ! (stop !)) (look ! 66 refl)) (and-then ! (load ! (from ! (stop !)) (look ! 26 refl))
           (and-then ! (load ! (from ! (stop !)) (look ! 22 refl)) (and-then ! (load ! (from ! (stop !)) (look ! 18 refl))
           (and-then ! (load ! (from ! (stop !)) (look ! 14 refl)) (and-then ! (load ! (from ! (stop !)) (look ! 10 refl))
-          (and-then ! (load ! (from ! (stop !)) (look ! 6 refl)) (no-more !)))))))))))) (λ v4.
+          (and-then ! (load ! (from ! (stop !)) (look ! 6 refl)) (no-more !))))))))))) (λ v4.
           use1 W (later (some (λ (r4 : Done). ((‵ (flft κ-counts q-counts) ⊛ ‵ (flft κ-state q-state) ⊛ ‵ (flft κ-answer q-answer) ⊛ ‵ (flft κ-cache q-cache) ⊛ ‵ (flft κ-work q-work) ⊛ ‵
           (flft κ-warm q-warm) ⊛ ‵ (flft κ-results q-results) ⊛ ‵ ftrue) ⊛ ‵ (DO.the-row .own r4 (v4 ∷ []))) ⊛ raw
           (ensured 𝓤 H A s.ended (s.clauses 𝓤 H A at-mem run) (κ-counts, (κ-state, (κ-answer, (κ-cache, (κ-work, (κ-warm, (κ-results, tt))))))) (
-            x-setup,
+            x-tally,
             (
-              x-tally,
+              r2,
               (
-                r2,
+                r3,
                 (
-                  r3,
+                  x-counts,
                   (
-                    x-counts,
-                    (
-                      record { ptr = x-state .ptr; name = x-state .name; now = z2 .1 .1 .1 .1 .1 .1 .1 .1 .1 .1 .1 .0 },
-                      (x-answer, (x-cache, (record { ptr = x-work .ptr; name = x-work .name; now = z3 .1 .1 .1 .0 }, (x-warm, (x-results, tt))))),
-                    ),
+                    record { ptr = x-state .ptr; name = x-state .name; now = z2 .1 .1 .1 .1 .1 .1 .1 .1 .1 .1 .1 .0 },
+                    (x-answer, (x-cache, (record { ptr = x-work .ptr; name = x-work .name; now = z3 .1 .1 .1 .0 }, (x-warm, (x-results, tt))))),
                   ),
                 ),
               ),
             ),
           ) tt r4)))) (id⊢ 𝓤 _) $ await ! tt $ pick ! (λ r4.
           split ! $ split ! $
-          move ! (2 ∷ []) $ use1 W (some (λ (z4 : (Unit {0} × (Unit {0} × (Unit {0} × (Unit {0} × (Unit {0} × (List ℕ × (List ℕ × (List ℕ × (List ℕ × (List ℕ × (List ℕ × Unit {0})))))))))))). ‵
+          move ! (2 ∷ []) $ use1 W (some (λ (z4 : (Unit {0} × (Unit {0} × (Unit {0} × (Unit {0} × (List ℕ × (List ℕ × (List ℕ × (List ℕ × (List ℕ × (List ℕ × Unit {0}))))))))))). ‵
           (lasts s.ended (κ-counts, (κ-state, (κ-answer, (κ-cache, (κ-work, (κ-warm, (κ-results, tt))))))) (
-            x-setup,
+            x-tally,
             (
-              x-tally,
+              r2,
               (
-                r2,
+                r3,
                 (
-                  r3,
+                  x-counts,
                   (
-                    x-counts,
-                    (
-                      record { ptr = x-state .ptr; name = x-state .name; now = z2 .1 .1 .1 .1 .1 .1 .1 .1 .1 .1 .1 .0 },
-                      (x-answer, (x-cache, (record { ptr = x-work .ptr; name = x-work .name; now = z3 .1 .1 .1 .0 }, (x-warm, (x-results, tt))))),
-                    ),
+                    record { ptr = x-state .ptr; name = x-state .name; now = z2 .1 .1 .1 .1 .1 .1 .1 .1 .1 .1 .1 .0 },
+                    (x-answer, (x-cache, (record { ptr = x-work .ptr; name = x-work .name; now = z3 .1 .1 .1 .0 }, (x-warm, (x-results, tt))))),
                   ),
                 ),
               ),
             ),
           ) z4) ⊛ raw
-          (fact 𝓤 (out r4 (z4 .1 .1 .1 .1 .1 .0) (z4 .1 .1 .1 .1 .1 .1 .0) (z4 .1 .1 .1 .1 .1 .1 .1 .0) (z4 .1 .1 .1 .1 .1 .1 .1 .1 .0) (z4 .1 .1 .1 .1 .1 .1 .1 .1 .1 .0)
-          (z4 .1 .1 .1 .1 .1 .1 .1 .1 .1 .1 .0) ≡ finishWith (setupOf x-setup) (x-counts .now) (r2 .awaited) r3 x-tally (z2 .1 .1 .1 .1 .1 .1 .1 .1 .1 .1 .1 .0) (x-answer .now) (x-cache .now)
+          (fact 𝓤 (out r4 (z4 .1 .1 .1 .1 .0) (z4 .1 .1 .1 .1 .1 .0) (z4 .1 .1 .1 .1 .1 .1 .0) (z4 .1 .1 .1 .1 .1 .1 .1 .0) (z4 .1 .1 .1 .1 .1 .1 .1 .1 .0)
+          (z4 .1 .1 .1 .1 .1 .1 .1 .1 .1 .0) ≡ finishWith (x-counts .now) (r2 .awaited) r3 x-tally (z2 .1 .1 .1 .1 .1 .1 .1 .1 .1 .1 .1 .0) (x-answer .now) (x-cache .now)
           (z3 .1 .1 .1 .0) (x-warm .now) (x-results .now))))) (id⊢ 𝓤 _) $ pick ! (λ z4.
-          split ! $ move ! (1 ∷ []) $ heard ! (out r4 (z4 .1 .1 .1 .1 .1 .0) (z4 .1 .1 .1 .1 .1 .1 .0) (z4 .1 .1 .1 .1 .1 .1 .1 .0) (z4 .1 .1 .1 .1 .1 .1 .1 .1 .0) (z4 .1 .1 .1 .1 .1 .1 .1 .1 .1 .0)
-          (z4 .1 .1 .1 .1 .1 .1 .1 .1 .1 .1 .0) ≡ finishWith (setupOf x-setup) (x-counts .now) (r2 .awaited) r3 x-tally (z2 .1 .1 .1 .1 .1 .1 .1 .1 .1 .1 .1 .0) (x-answer .now) (x-cache .now)
+          split ! $ move ! (1 ∷ []) $ heard ! (out r4 (z4 .1 .1 .1 .1 .0) (z4 .1 .1 .1 .1 .1 .0) (z4 .1 .1 .1 .1 .1 .1 .0) (z4 .1 .1 .1 .1 .1 .1 .1 .0) (z4 .1 .1 .1 .1 .1 .1 .1 .1 .0)
+          (z4 .1 .1 .1 .1 .1 .1 .1 .1 .1 .0) ≡ finishWith (x-counts .now) (r2 .awaited) r3 x-tally (z2 .1 .1 .1 .1 .1 .1 .1 .1 .1 .1 .1 .0) (x-answer .now) (x-cache .now)
           (z3 .1 .1 .1 .0) (x-warm .now) (x-results .now)) (λ e4.
-          fsplit ! $ drop ! $ fsplit ! $ drop ! $ fsplit ! $ drop ! $ fsplit ! $ drop ! $ fsplit ! $ drop ! $ fsplit ! $ fsplit ! $ move ! (1 ∷ []) $ feqL !
+          fsplit ! $ drop ! $ fsplit ! $ drop ! $ fsplit ! $ drop ! $ fsplit ! $ drop ! $ fsplit ! $ fsplit ! $ move ! (1 ∷ []) $ feqL !
           (λ len-state4. move ! (1 ∷ []) $ fsplit ! $ fsplit ! $ move ! (1 ∷ []) $ feqL ! (λ len-answer4. move ! (1 ∷ []) $ fsplit ! $ fsplit ! $ move ! (1 ∷ []) $ feqL !
           (λ len-cache4. move ! (1 ∷ []) $ fsplit ! $ fsplit ! $ move ! (1 ∷ []) $ feqL ! (λ len-work4. move ! (1 ∷ []) $ fsplit ! $ fsplit ! $ move ! (1 ∷ []) $ feqL !
           (λ len-warm4. move ! (1 ∷ []) $ fsplit ! $ fsplit ! $ move ! (1 ∷ []) $ feqL ! (λ len-results4. move ! (1 ∷ []) $ drop ! $
@@ -803,14 +785,14 @@ module _ {M : Type 1} (𝓤 : URA M) (H : Heap 𝓤) (A : Atoms 𝓤) (W : Given
                       (
                         tt,
                         (
-                          z4 .1 .1 .1 .1 .1 .0,
+                          z4 .1 .1 .1 .1 .0,
                           (
-                            z4 .1 .1 .1 .1 .1 .1 .0,
+                            z4 .1 .1 .1 .1 .1 .0,
                             (
-                              z4 .1 .1 .1 .1 .1 .1 .1 .0,
+                              z4 .1 .1 .1 .1 .1 .1 .0,
                               (
-                                z4 .1 .1 .1 .1 .1 .1 .1 .1 .0,
-                                (z4 .1 .1 .1 .1 .1 .1 .1 .1 .1 .0, (z4 .1 .1 .1 .1 .1 .1 .1 .1 .1 .1 .0, tt)),
+                                z4 .1 .1 .1 .1 .1 .1 .1 .0,
+                                (z4 .1 .1 .1 .1 .1 .1 .1 .1 .0, (z4 .1 .1 .1 .1 .1 .1 .1 .1 .1 .0, tt)),
                               ),
                             ),
                           ),

@@ -32,11 +32,11 @@ returns c =
 returns-2 : tie.Need-returns-2
 unfolding admitSubjectWith
 returns-2 c =
-    let d = c .before .before .before .before .before .before .before .before .args in (
-      of-none (d .state .now) (c .before .before .before .load .ensures) (admitSubjectWith (setupOf (d .setup)) (d .counts .now) (d .lent) (d .check) (d .tally) (d .reply .now))
-          (c .before .enum-told .given .1) (c .unadmitted .ensures),
+    let d = c .before .before .before .before .before .before .before .before .before .args in (
+      of-none (d .state .now) (c .before .before .before .before .load .ensures) (admitSubjectWith (setupOf (d .setup)) (d .counts .now) (d .lent) (d .check) (d .tally) (d .reply .now))
+          (c .before .before .enum-told .given .1) (rw (← c .before .setup-of2 .ensures .0) (c .unadmitted .ensures)),
       refl,
     )
 
 pub admit-subject-reply-spec : {M : Type 1} → statement M
-admit-subject-reply-spec = tie.close (tie.spec free enum-known-at free free enum-told free same-length returns same-length-2 returns-2)
+admit-subject-reply-spec = tie.close (tie.spec free enum-known-at free free enum-told free free same-length returns same-length-2 returns-2)

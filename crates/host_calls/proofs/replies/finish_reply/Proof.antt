@@ -1,7 +1,6 @@
 -- `finish_reply` meets its contract: each case by its law. Assumes nothing.
 use borrow.Author.Needs.{needs}
 use Rattle.float64.proofs.Laws.{free}
-use Rattle.host_calls.specs.Hosting.{setupOf}
 use Rattle.host_calls.proofs.Paths.{finish-given, finish-none}
 use Rattle.host_calls.proofs.replies.finish_reply.Statement.{statement}
 use Rattle.host_calls.proofs.replies.finish_reply.Tie as tie
@@ -37,21 +36,22 @@ same-length-8 : tie.Need-same-length-8
 same-length-8 c = search needs
 
 returns : tie.Need-returns
-returns c = let d = c .before .before .before .before .before .before .before .before .before .before .before .before .before .before .before .before .before .before .before .before .before .before
-    .before .before .before .before .before .before .before .before .before .before .before in finish-given (setupOf (d .args .setup)) (d .args .counts .now) (d .args .admitted .awaited)
-    (d .args .evaluation) (d .args .tally) (d .args .state .now) (d .args .answer .now) (d .args .cache .now) (d .args .work .now) (d .args .warm .now) (d .args .results .now)
-    (c .before .before .before .before .before .before .before .before .before .before .before .before .before .before .before .before .before .before .before .before .before .before .before .before
-    .load .ensures) (c .before .before .before .before .before .before .before .before .before .before .before .before .before .before .before .before .before .before .before .before .before .before
-    .at .given .1) (c .before .before .before .before .before .before .before .before .before .before .before .before .before .before .before .before .before .before .before .before .setup-of .ensures
-    .0) (c .before .before .before .before .before .before .before .before .before .before .before .before .before .before .before .finish-reply .ensures)
-    (c .before .before .before .before .told .ensures)
+returns c =
+    let finished = c .before .before .before .before .before .before .before .before .before .before .before .before .before .before .before in
+    let loaded = finished .before .before .before .before .before .before .before .before in
+    let d = loaded .before .before .before .before .before .before .before .before .before in
+    finish-given (d .args .counts .now) (d .args .admitted .awaited) (d .args .evaluation) (d .args .tally)
+    (d .args .state .now) (d .args .answer .now) (d .args .cache .now) (d .args .work .now) (d .args .warm .now) (d .args .results .now)
+    (loaded .load .ensures) (finished .before .before .before .before .before .before .at .given .1) (finished .finish-reply .ensures) (c .before .before .before .before .told .ensures)
 
 returns-2 : tie.Need-returns-2
-returns-2 c = let d = c .before .before .before .before .before .before .before .before .before .before .before .before .before .before .before in finish-none (setupOf (d .args .setup))
-    (d .args .counts .now) (d .args .admitted .awaited) (d .args .evaluation) (d .args .tally) (d .args .state .now) (d .args .answer .now) (d .args .cache .now) (d .args .work .now)
-    (d .args .warm .now) (d .args .results .now) (c .before .before .before .before .before .before .load .ensures) (c .before .before .before .before .enum-told .given .1)
-    (c .before .before .no-state .ensures)
+returns-2 c =
+    let loaded = c .before .before .before .before .before .before in
+    let d = loaded .before .before .before .before .before .before .before .before .before in
+    finish-none (d .args .counts .now) (d .args .admitted .awaited) (d .args .evaluation) (d .args .tally)
+    (d .args .state .now) (d .args .answer .now) (d .args .cache .now) (d .args .work .now) (d .args .warm .now) (d .args .results .now)
+    (loaded .load .ensures) (c .before .before .before .before .enum-told .given .1) (c .before .before .no-state .ensures)
 
 pub finish-reply-spec : {M : Type 1} → statement M
-finish-reply-spec = tie.close (tie.spec free enum-known-at free free free enum-told free same-length same-length-2 same-length-3 same-length-4 same-length-5 same-length-6 returns same-length-7
+finish-reply-spec = tie.close (tie.spec free enum-known-at free free enum-told free same-length same-length-2 same-length-3 same-length-4 same-length-5 same-length-6 returns same-length-7
     same-length-8 returns-2)
