@@ -47,7 +47,7 @@ module _ (setup : Setup) (counts o : List ℕ) (state : State) (tally : Tally) (
     pub replies : (v : List ℕ) (e : Evaluation) (w : List ℕ) → length w ≡ length work → {l : Lent} {a : Admitted} {z : Ran (Held words) Step} → l ≡ lentBy n (length cache) (length work) (length warm)
         (length results) → a ≡ admitReply setup counts l check state tally v
         → evaluating e w ≡ addObservations (a .trial) v (take (a .to - a .from) (drop (a .from) (observationsOf o))) (evaluating (a .evaluation) work)
-        → z ≡ finishReply setup counts (a .awaited) e (heldOf state tally cache w warm results) → z ≡ callOf setup counts o (replyOf v) h
+        → z ≡ finishReply counts (a .awaited) e (heldOf state tally cache w warm results) → z ≡ callOf setup counts o (replyOf v) h
     replies v e w same el ea ee q =
         reply-call setup counts (observationsOf o) state tally cache work warm results v e w same ec
         (el ∙ ap (λ (m : ℕ). lentBy m (length cache) (length work) (length warm) (length results)) en)

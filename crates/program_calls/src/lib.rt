@@ -205,7 +205,6 @@ pub fn reply(
         work,
     );
     session_calls::finish_reply(
-        setup,
         state,
         tally,
         admitted,

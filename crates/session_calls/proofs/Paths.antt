@@ -2,7 +2,7 @@
 use mathlib.Core.Path.{_≡_, refl, sym, ap, _∙_}
 use mathlib.Core.Bool.{Bool}
 use mathlib.Core.List.{List}
-use Prim.Native.Nat.{ℕ, zero, suc}
+use Prim.Native.Nat.{ℕ}
 use lib.ListN.{length}
 use Rattle.float64.specs.Pick.{pick, pick-through}
 use Rattle.matrix.specs.declared.Pair.{Pair}
@@ -39,33 +39,12 @@ use Rattle.population.specs.declared.kept_points.InHand.the-variants as Hand
 use Rattle.population.specs.Steps.{wholeFrom}
 use Rattle.session.specs.Calls.{heldOf, called, run, runIn, entered, enteredIn, lentBy, refusedAs, endedAs, firstState, Setting, begunWith, opening, openedBy, startOf, admitObjective}
 use Rattle.session.specs.Calls.{awaitedPoint, awaitedFor, admitAwaited, followed, finishReply}
-use Rattle.session.specs.Session.{Held, held, fuel, noTally, isStanding, lentOf, whenAdmitted, begun, admitted, enterObjective, atWanted, whenAwaited, enterFailure, over, replied, unaltered, heldBy}
-use Rattle.session.specs.Session.{turnHeld}
+use Rattle.session.specs.Session.{Held, held, fuel, noTally, isStanding, lentOf, whenAdmitted, begun, admitted, enterObjective, atWanted, whenAwaited, enterFailure, over, replied, unaltered}
+use Rattle.session.proofs.Loops.{run-held}
 use Rattle.session.specs.declared.Awaited.{Awaited}
 use Rattle.session.specs.declared.Called.{Called}
 use Rattle.session.specs.declared.Opening.the-variants as Opens
 use Rattle.session.specs.declared.State.{State}
-
--- ---- the run: the machine's loop is the step's, with the parameters held
-module _ (parameters : Parameters) where
-  heldRan : Ran (Whole words) Step → Ran (Held words) Step
-  heldRan r = ran (r .answer) (held words parameters (r .state))
-
-  onward-held : (m : Moved (Whole words) Step) (f : Whole words → Ran (Whole words) Step) (g : Held words → Ran (Held words) Step) → ((w : Whole words) → g (held words parameters w) ≡ heldRan (f w))
-      → onward (heldBy words parameters m) g ≡ heldRan (onward m f)
-  unfolding onward heldBy heldRan
-  onward-held (on w) f g h = h w
-  onward-held (halt a w) f g h = refl
-
-module _ (setup : Setup) (counts : List ℕ) (parameters : Parameters) where
-  held-loop : (n : ℕ) (w : Whole words) → loop (turnHeld words setup counts) spent n (held words parameters w) ≡ heldRan parameters (loop (turn words (fitOf setup parameters) counts) spent n w)
-  unfolding loop turnHeld heldRan
-  held-loop zero w = refl
-  held-loop (suc n) w = onward-held parameters (turn words (fitOf setup parameters) counts w) _ _ (held-loop n)
-
-  pub run-held : (w : Whole words) → run setup counts (held words parameters w) ≡ runIn (fitOf setup parameters) counts (held words parameters w)
-  unfolding heldRan
-  run-held w = held-loop fuel w
 
 -- the loop as the code's step has it
 pub ran-in : (fit : Fit) (counts : List ℕ) (parameters : Parameters) (w : Whole words) {r : Ran (Whole words) Step} → r ≡ loop (turn words fit counts) spent fuel w

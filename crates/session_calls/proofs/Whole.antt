@@ -37,17 +37,17 @@ use Rattle.search.specs.declared.Step.{Step}
 use Rattle.search.specs.declared.Step.the-variants.{Refused}
 use Rattle.search.specs.declared.Tally.{Tally}
 use Rattle.search.specs.declared.Wanted.{Wanted}
-use Rattle.search.specs.declared.Wanted.the-variants as Wants
-use Rattle.machine.specs.Machine.{Moved, halt, Ran, onward, call}
+use Rattle.machine.specs.Machine.{Moved, halt, Ran, call}
 use Rattle.population.specs.Kept.{words, cacheOf}
 use Rattle.population.specs.Population.{rowsOf, wholeOf}
-use Rattle.session.specs.Calls.{heldOf, entered, enteredIn, lentBy, awaitedPoint, awaitedFor, admitAwaited, trialBy, admittedOver, admitReply, finishReply}
+use Rattle.session.specs.Calls.{heldOf, entered, lentBy, awaitedPoint, awaitedFor, admitAwaited, trialBy, admittedOver, admitReply, finishReply}
 use Rattle.session.specs.Session.{Held, held, Call, firstCheck, isPlaced, isStanding, whenAdmitted, over, replied, trialOf, enterObjective, whenAwaited, enterFailure, allChecked, evaluated, answered}
 use Rattle.session.specs.Session.{enterReply, enter, objective, reply, failure, session}
+use Rattle.session.proofs.Loops.{awaited-fit, own-finish}
 use Rattle.session.specs.declared.Admitted.{Admitted}
 use Rattle.session.specs.declared.Awaited.{Awaited}
 use Rattle.session.specs.declared.State.{State}
-use Rattle.session_calls.proofs.Paths.{run-held, awaited-enters}
+use Rattle.session_calls.proofs.Paths.{awaited-enters}
 
 -- ---- all of a list, as a loop from its first to its last takes it
 all-of : (l : List Observation) → take (length l - 0) (drop 0 l) ≡ l
@@ -98,27 +98,6 @@ awaited-within setup counts lent check state tally =
     (λ _. cases Fits (isStanding setup counts (lent .observations) tally (state .progress)) (λ s _. standing-within setup counts (lent .observations) tally (state .progress) s)
     (λ _ e. refused-never 19 e))
     (λ _ e. refused-never 19 e)
-
--- what the searches have in common is the objective's own
-fit-for : (fit : Fit) (a : Admission) (w : Wanted) → awaitedFor fit a w .fit ≡ fit
-unfolding awaitedFor
-fit-for fit a (Wants.Point eta) = refl
-fit-for fit a Wants.Mode = refl
-fit-for fit a (Wants.Refused n) = refl
-
-awaited-fit : (setup : Setup) (counts : List ℕ) (lent : Lent) (check : Check) (state : State) (tally : Tally) → admitAwaited setup counts lent check state tally .fit ≡ fitOf setup (state .parameters)
-unfolding admitAwaited
-awaited-fit setup counts lent check state tally = fit-for _ _ _
-
--- and then the loop with them is the machine's
-entered-own : (setup : Setup) (counts : List ℕ) (eta : Pair) (h : Held words) (w : List ℕ) (x : Evaluation) (a : Admission) → let m = whenAdmitted words h
-    (replied words counts (fitOf setup (h .parameters)) eta h w x) a in enteredIn (fitOf setup (h .parameters)) counts m ≡ entered setup counts m
-unfolding whenAdmitted replied over onward
-entered-own setup counts eta h w (E.Running sums) A.Accepted = sym (run-held setup counts (h .parameters) _)
-entered-own setup counts eta h w (E.Refused number) A.Accepted = refl
-entered-own setup counts eta h w (E.RefusedAt number n) A.Accepted = refl
-entered-own setup counts eta h w x (A.Refused number) = refl
-entered-own setup counts eta h w x (A.Unsound at) = refl
 
 -- ---- the objective's own additive deviation is in its fit
 additive-by : (setup : Setup) (p : Parameters) (i : Inverse) → fitBy (withParameters setup p) (p .theta) i .«additive_sd» ≡ p .«additive_sd»
@@ -218,16 +197,13 @@ module _ (setup : Setup) (counts : List ℕ) (observations : List Observation) (
     pub reply-call : {check : Check} {l : Lent} {a : Admitted} {z : Ran (Held words) Step} → check ≡ allChecked setup counts observations → l ≡ lent → a ≡ admitReply setup counts l check state tally v
         → Evaluates a
         → z ≡ finishReply counts (a .awaited) e after → Calls (reply v) z
-    unfolding call enter enterReply admitReply finishReply
+    unfolding call enter enterReply admitReply
     reply-call {check} {l} {a} ec el ea q z =
         let x = admitAwaited setup counts lent check state tally in
         let b = begins x (x .admission) in
         let eb : a ≡ b = ea ∙ ap (λ (y : Lent). admitReply setup counts y check state tally v) el in
         let ew : a .awaited ≡ x = ap (λ (y : Admitted). y .awaited) eb ∙ same-awaited x (x .admission) in
-        z ∙ ap (λ (y : Awaited). enteredIn (y .fit) counts (whenAdmitted words after (replied words counts (y .fit) (y .eta) after w (finish e)) (y .admission))) ew
-        ∙ ap (λ (f : Fit). enteredIn f counts (whenAdmitted words after (replied words counts f (x .eta) after w (finish e)) (x .admission)))
-        (awaited-fit setup counts lent check state tally)
-        ∙ entered-own setup counts (x .eta) after w (finish e) (x .admission)
+        z ∙ ap (λ (y : Awaited). finishReply counts y e after) ew ∙ own-finish setup counts x e after (awaited-fit setup counts lent check state tally)
         ∙ ap (entered setup counts) (finishes check x (x .admission) refl refl (subst Evaluates eb q) ∙ sym (awaited-enters setup counts (length observations) check state tally cache work warm results
         (λ eta. answered words setup counts observations v eta h) {lent = lent} refl refl))
         ∙ ap (λ (c : Check). entered setup counts (whenAwaited words setup counts (length observations) c h (λ eta. answered words setup counts observations v eta h))) ec

@@ -13,7 +13,8 @@ use Rattle.float64.specs.Answer.{Answer, given, refused}
 use Rattle.float64.specs.Pick.{pick, both, cases, pick-yes, pick-no, pick-same}
 use Rattle.matrix.specs.declared.Pair.{Pair}
 use Rattle.likelihood.specs.declared.population_focei.Observation.{Observation}
-use Rattle.subject.specs.Subject.{Evaluating, evaluating, begin, addObservations}
+use Rattle.subject.specs.Subject.{Evaluating, evaluating, begin, addObservations, finish}
+use Rattle.subject.specs.declared.Evaluation.{Evaluation}
 use Rattle.subject.specs.declared.Trial.{Trial}
 use Rattle.mode.specs.declared.population_focei.Search.{Search}
 use Rattle.mode_2d.specs.declared.population_focei_2d.Search2.{Search2}
@@ -28,6 +29,7 @@ use Rattle.setup.specs.declared.Setup.{Setup}
 use Rattle.setup.proofs.Bounds.{not-first}
 use Rattle.setup.specs.SubjectChecks.{subjectChecks}
 use Rattle.search.specs.Subjects as B
+use Rattle.search.specs.Subjects.{fitOf}
 use Rattle.search.specs.declared.Place.{Place}
 use Rattle.search.specs.declared.Place.the-variants as At
 use Rattle.search.specs.declared.Step.{Step}
@@ -38,15 +40,17 @@ use Rattle.search.specs.declared.Wanted.the-variants as Wants
 use Rattle.machine.specs.Machine.{Moved, Ran, ran, onward, call}
 use Rattle.population.specs.Kept.{words}
 use Rattle.population.specs.Population.{rowsOf}
-use Rattle.session.specs.Calls.{heldOf, lentBy, stateOf, entered, openedBy, opening, unawaited, trialBy, nothingAdmitted, finishReply}
+use Rattle.session.specs.Calls.{heldOf, lentBy, stateOf, entered, openedBy, opening, awaitedPoint, awaitedFor, trialBy, nothingAdmitted, admittedOver, finishReply}
+use Rattle.session.proofs.Loops.{own-finish}
 use Rattle.session.specs.Session as S
 use Rattle.session.specs.Session.{Held, Call, objective, reply, failure, fuel, isPlaced, isStanding, whenAdmitted, enter, session, allChecked}
 use Rattle.session.specs.declared.Admitted.{Admitted}
+use Rattle.session.specs.declared.Awaited.{Awaited}
 use Rattle.session.specs.declared.State.{State}
 use Rattle.state_words.specs.SessionWords as W
 use Rattle.state_words.specs.SessionWords.{loadedState, savedState}
 use Rattle.state_words.proofs.Back.{saved-first}
-use Rattle.session.specs.SubjectReply.{awaitedPoint, awaitedFor, admittedOver, subjectAwaited, admitSubjectReply}
+use Rattle.session.specs.SubjectReply.{subjectAwaited, admitSubjectReply}
 use Rattle.host_calls.specs.Hosting as H
 use Rattle.host_calls.specs.Hosting.{Out, out, did, unknown, withState, answered, placeWords, isUnaltered, finishWith, setupOver, callOver}
 use Rattle.host_calls.specs.declared.AnswerWords.{AnswerWords}
@@ -252,7 +256,7 @@ module _ (setup : Setup) (counts : List ℕ) (observations : List Observation) (
 
     -- what it comes to, let in or not
     abbrev ends-as : Admitted → State → Out
-    ends-as a s = let e = evaluates a in did (finishReply setup counts (a .awaited) (e .evaluation) (heldOf s tally cache (e .work) warm results)) state answer
+    ends-as a s = let e = evaluates a in did (finishReply counts (a .awaited) (e .evaluation) (heldOf s tally cache (e .work) warm results)) state answer
 
     abbrev told-to : Answer State → Out
     told-to l =
@@ -268,9 +272,9 @@ module _ (setup : Setup) (counts : List ℕ) (observations : List Observation) (
 
       -- for what the search wants
       abbrev wanting : Wanted → Out
-      wanting v = let w = awaitedFor judgement v in ends-as (admittedOver setup trial said w 0 (length observations) (w .admission)) s
+      wanting v = let w = awaitedFor (fitOf setup (s .parameters)) judgement v in ends-as (admittedOver setup trial said w 0 (length observations) (w .admission)) s
 
-      wanting-is : told-to (given s) ≡ wanting (awaitedPoint setup counts mostRows s tally)
+      wanting-is : told-to (given s) ≡ wanting (awaitedPoint setup counts mostRows (fitOf setup (s .parameters)) (s .progress) tally)
       unfolding withState admitSubjectWith admitSubjectReply subjectAwaited
       wanting-is = refl
 
@@ -291,20 +295,28 @@ module _ (setup : Setup) (counts : List ℕ) (observations : List Observation) (
           cases (λ (a : Admission). a ≡ A.Accepted → length observations ≤ 100000) (isCohort (withParameters setup (s .parameters) .effects) (length counts) count (length observations))
           (λ t q. let m = is-cohort _ (length counts) count (length observations) t .adds in omega (arith, n, m)) (λ f q. absurd (never q)) (low .1)
 
+      abbrev awaited : Admission → Pair → Awaited
+      awaited a eta = record { admission = a; eta = eta; fit = fitOf setup (s .parameters) }
+
+      -- the second part of the reply is the machine's
+      by-own : (a : Awaited) (e : Evaluation) (u : Held words) → a .fit ≡ fitOf setup (u .parameters)
+          → Way (did (entered setup counts (S.whenAdmitted words u (S.replied words counts (fitOf setup (u .parameters)) (a .eta) u (u .whole .work) (finish e)) (a .admission))) state answer)
+          → Way (did (finishReply counts a e u) state answer)
+      by-own a e u q = subst (λ (z : Ran (Held words) Step). Way (did z state answer)) (sym (own-finish setup counts a e u q))
+
       -- not let in
       barred-way : 63 ≤ length state → (eta : Pair) (a : Admission) → (a ≡ A.Accepted → ⊥) → Judged (length counts) a → (n : ℕ)
-          → Way (ends-as (nothingAdmitted (record { admission = a; eta = eta }) trial n) s)
-      unfolding finishReply
-      barred-way long eta a never j n = way s long _ (done setup counts (h s) _ (admits setup counts (h s) _ a j (λ q. absurd (never q))))
+          → Way (ends-as (nothingAdmitted (awaited a eta) trial n) s)
+      barred-way long eta a never j n = by-own (awaited a eta) _ _ refl (way s long _ (done setup counts (h s) _ (admits setup counts (h s) _ a j (λ q. absurd (never q)))))
 
       refused-way : 63 ≤ length state → (eta : Pair) (n : ℕ) → Judged (length counts) (A.Refused n)
-          → Way (ends-as (admittedOver setup trial said (record { admission = A.Refused n; eta = eta }) 0 (length observations) (A.Refused n)) s)
+          → Way (ends-as (admittedOver setup trial said (awaited (A.Refused n) eta) 0 (length observations) (A.Refused n)) s)
       unfolding admittedOver
       refused-way long eta n j = barred-way long eta (A.Refused n) (λ q. let z : _≡_ {A = ℕ} 0 1 = cc in omega arith) j n
 
       point-way : 63 ≤ length state → (eta : Pair) → Stood setup counts (s .progress) → wantedAt setup (h s) ≡ Wants.Point eta
-          → (a : Admission) → judgement ≡ a → Judged (length counts) a → Way (ends-as (admittedOver setup trial said (record { admission = a; eta = eta }) 0 (length observations) a) s)
-      unfolding admittedOver finishReply Judged whenAdmitted
+          → (a : Admission) → judgement ≡ a → Judged (length counts) a → Way (ends-as (admittedOver setup trial said (awaited a eta) 0 (length observations) a) s)
+      unfolding admittedOver Judged whenAdmitted
       point-way long eta st wants A.Accepted q j =
           let os = take (length observations - 0) (drop 0 observations) in
           let e = addObservations trial said os (evaluating (begin said (setup .width) (setup .effects) (setup .«output_budget»)) work) in
@@ -312,13 +324,13 @@ module _ (setup : Setup) (counts : List ℕ) (observations : List Observation) (
           let n = length-take (length observations - 0) (drop 0 observations) in
           let few = few-lent q in
           let u = heldOf s tally cache (e .work) warm results in
-          way s long _ (done setup counts (h s) _ (goes-on setup counts (h s) u (record { work = l; calls = refl }) st eta wants j (e .work) l _
-          (late trial (setup .«output_budget») said os work (omega (arith, n, few)))))
+          by-own (awaited A.Accepted eta) (e .evaluation) u refl (way s long _ (done setup counts (h s) _ (goes-on setup counts (h s) u (record { work = l; calls = refl }) st eta wants j (e .work) l _
+          (late trial (setup .«output_budget») said os work (omega (arith, n, few))))))
       point-way long eta st wants (A.Refused n) q j = refused-way long eta n j
       point-way long eta st wants (A.Unsound at) q j = barred-way long eta (A.Unsound at) (λ q. let z : _≡_ {A = ℕ} 0 1 = cc in omega arith) j 4
 
       -- a point is awaited only where the positions are right, and then it is what the search wants
-      point-wanted : (eta : Pair) → awaitedPoint setup counts mostRows s tally ≡ Wants.Point eta
+      point-wanted : (eta : Pair) → awaitedPoint setup counts mostRows (fitOf setup (s .parameters)) (s .progress) tally ≡ Wants.Point eta
           → (isStanding setup counts mostRows tally (s .progress) ≡ true) × (wantedAt setup (h s) ≡ Wants.Point eta)
       unfolding awaitedPoint
       point-wanted eta =
@@ -327,11 +339,11 @@ module _ (setup : Setup) (counts : List ℕ) (observations : List Observation) (
           let P : Wanted → Type 0 = λ (w : Wanted). w ≡ Wants.Point eta → (st ≡ true) × (wantedAt setup (h s) ≡ Wants.Point eta) in
           cases P (s .progress .awaits) (λ t. cases P st (λ i q. (i, q)) (λ f q. absurd (never q))) (λ f q. absurd (never q))
 
-      wanted-way : 63 ≤ length state → (v : Wanted) → awaitedPoint setup counts mostRows s tally ≡ v → Way (wanting v)
+      wanted-way : 63 ≤ length state → (v : Wanted) → awaitedPoint setup counts mostRows (fitOf setup (s .parameters)) (s .progress) tally ≡ v → Way (wanting v)
       unfolding awaitedFor
       wanted-way long (Wants.Point eta) e = let w = point-wanted eta e in point-way long eta (stood setup counts (h s) mostRows (s .progress) (w .0)) (w .1) judgement refl judged
-      wanted-way long Wants.Mode e = refused-way long (unawaited .eta) 19 (unheard (length counts))
-      wanted-way long (Wants.Refused n) e = refused-way long (unawaited .eta) 19 (unheard (length counts))
+      wanted-way long Wants.Mode e = refused-way long _ 19 (unheard (length counts))
+      wanted-way long (Wants.Refused n) e = refused-way long _ 19 (unheard (length counts))
 
     subject-way : Way (subjectReplyOver setup counts observations tally state answer cache work warm results said)
     unfolding subjectReplyOver finishWith
@@ -381,11 +393,11 @@ module _ (setup : Setup) (counts : List ℕ) (observations : List Observation) (
   failure-refused a s e = pick-no _ _ _ (idle-is s e a)
 
   -- no reply is awaited, or the positions are not right
-  unwanted : (said : List ℕ) (s : State) → awaitedPoint setup counts mostRows s tally ≡ Wants.Refused 19 → told-to said (given s) .told .done .number ≡ 19
+  unwanted : (said : List ℕ) (s : State) → awaitedPoint setup counts mostRows (fitOf setup (s .parameters)) (s .progress) tally ≡ Wants.Refused 19 → told-to said (given s) .told .done .number ≡ 19
   unfolding awaitedFor admittedOver finishReply whenAdmitted onward H.told H.numberOf
   unwanted said s e = ap (λ (o : Out). o .told .done .number) (wanting-is said s) ∙ ap (λ (v : Wanted). wanting said s v .told .done .number) e
 
-  subject-refused : (said : List ℕ) → ((s : State) → loadedState state ≡ given s → awaitedPoint setup counts mostRows s tally ≡ Wants.Refused 19)
+  subject-refused : (said : List ℕ) → ((s : State) → loadedState state ≡ given s → awaitedPoint setup counts mostRows (fitOf setup (s .parameters)) (s .progress) tally ≡ Wants.Refused 19)
       → (l : Answer State) → loadedState state ≡ l → told-to said l .told .done .number ≡ 19
   unfolding withState admitSubjectWith
   subject-refused said f (given s) e = unwanted said s (f s e)
@@ -399,7 +411,7 @@ module _ (setup : Setup) (counts : List ℕ) (observations : List Observation) (
     barred (reply said) s e = both (λ m. m ≡ S.unaltered words 19 At.Nowhere (h s)) _ (pick-no _ _ _ (wrong _ s e)) refl
     barred failure s e = both (λ m. m ≡ S.unaltered words 19 At.Nowhere (h s)) _ (pick-no _ _ _ (wrong _ s e)) refl
 
-    unpointed : (s : State) → loadedState state ≡ given s → awaitedPoint setup counts mostRows s tally ≡ Wants.Refused 19
+    unpointed : (s : State) → loadedState state ≡ given s → awaitedPoint setup counts mostRows (fitOf setup (s .parameters)) (s .progress) tally ≡ Wants.Refused 19
     unfolding awaitedPoint
     unpointed s e = both (λ (v : Wanted). v ≡ Wants.Refused 19) _ (pick-no _ _ _ (wrong _ s e)) refl
 

@@ -22,6 +22,7 @@ use Rattle.setup.specs.declared.Admission.{Admission}
 use Rattle.setup.specs.declared.Admission.the-variants as A
 use Rattle.setup.proofs.Bounds.{not-first}
 use Rattle.setup.specs.SubjectChecks.{subjectChecks}
+use Rattle.search.specs.declared.Fit.{Fit}
 use Rattle.search.specs.declared.Progress.{Progress}
 use Rattle.search.specs.declared.Tally.{Tally}
 use Rattle.search.specs.Subjects.{fitOf, wantedBy}
@@ -29,14 +30,13 @@ use Rattle.search.specs.declared.Wanted.{Wanted}
 use Rattle.search.specs.declared.Wanted.the-variants as Wants
 use Rattle.population.specs.Kept.{words}
 use Rattle.population.specs.Population.{rowsOf}
-use Rattle.session.specs.Calls.{lentBy, trialBy, admitAwaited, admitReply}
+use Rattle.session.specs.Calls.{lentBy, awaitedPoint, awaitedFor, trialBy, admitAwaited, admittedOver, admitReply}
 use Rattle.session.specs.Session.{Held, allChecked, isPlaced, isStanding, admitted, reply}
 use Rattle.session.specs.declared.Admitted.{Admitted}
 use Rattle.session.specs.declared.Awaited.{Awaited}
 use Rattle.session.specs.declared.State.{State}
 use Rattle.state_words.specs.SessionWords.{loadedState}
-use Rattle.session.specs.SubjectReply.{awaitedPoint, awaitedFor, admittedOver, subjectAwaited, admitSubjectReply}
-use Rattle.session.proofs.Replies.{whole-awaited, by-admission}
+use Rattle.session.specs.SubjectReply.{subjectAwaited, admitSubjectReply}
 use Rattle.host_calls.specs.Hosting.{Out, admitWith, finishWith, callOver}
 use Rattle.host_calls.proofs.Whole.{reply-over}
 use Rattle.host_calls.specs.SubjectReplies.{subjectFirst, subjectChecked, admitSubjectWith, subjectReplyOver}
@@ -68,13 +68,13 @@ module _ (setup : Setup) (counts : List ℕ) (n : ℕ) (tally : Tally) (p : Prog
       sym (no _ (kept .0) (yes _ (inside .0) (no _ (le-ltb _ _ low) (sym (among .1)))))
 
 -- the point that is awaited is the same
-same-point : (setup : Setup) (counts : List ℕ) (n m : ℕ) (s : State) (tally : Tally) → isStanding setup counts n tally (s .progress) ≡ true → isStanding setup counts m tally (s .progress) ≡ true →
-    awaitedPoint setup counts n s tally ≡ awaitedPoint setup counts m s tally
+same-point : (setup : Setup) (counts : List ℕ) (n m : ℕ) (fit : Fit) (p : Progress) (tally : Tally) → isStanding setup counts n tally p ≡ true → isStanding setup counts m tally p ≡ true →
+    awaitedPoint setup counts n fit p tally ≡ awaitedPoint setup counts m fit p tally
 unfolding awaitedPoint
-same-point setup counts n m s tally a b =
-    let wanted = wantedBy (fitOf setup (s .parameters)) (s .progress) in
+same-point setup counts n m fit p tally a b =
+    let wanted = wantedBy fit p in
     let at : (b : Bool) → b ≡ true → pick b wanted (Wants.Refused 19) ≡ wanted = λ b t. pick-yes b wanted (Wants.Refused 19) t in
-    ap (λ (w : Wanted). pick (s .progress .awaits) w (Wants.Refused 19)) (at _ a ∙ sym (at _ b))
+    ap (λ (w : Wanted). pick (p .awaits) w (Wants.Refused 19)) (at _ a ∙ sym (at _ b))
 
 -- ---- the whole of it
 module _ (setup : Setup) (counts : List ℕ) (observations : List Observation) (tally : Tally) (state answer cache work warm results : List ℕ) (said : List ℕ) (s : State)
@@ -127,13 +127,12 @@ module _ (setup : Setup) (counts : List ℕ) (observations : List Observation) (
   -- so the same is awaited
   same-awaited : subjectAwaited setup counts (lent (length own)) (subjectChecked setup counts own state) s tally ≡ admitAwaited setup counts (lent (length observations))
       (allChecked setup counts observations) s tally
-  unfolding subjectAwaited
+  unfolding subjectAwaited admitAwaited
   same-awaited =
       let most : length observations ≤ mostRows = let n = count-in set counts (lent (length observations)) (lent (length own)) (allChecked setup counts observations) all subject (inside .0) in omega
       (arith, n .3, total-is) in
-      (λ i. awaitedFor ((sym own-accepted ∙ sym accepted) i) (same-point setup counts mostRows (length observations) s tally
+      (λ i. awaitedFor (fitOf setup (s .parameters)) ((sym own-accepted ∙ sym accepted) i) (same-point setup counts mostRows (length observations) (fitOf setup (s .parameters)) (s .progress) tally
       (stands-for-most setup counts (length observations) tally (s .progress) stands most) stands i))
-      ∙ whole-awaited setup counts (lent (length observations)) (allChecked setup counts observations) s tally
 
   abbrev trial : Trial
   trial = trialBy setup s rows
@@ -143,7 +142,7 @@ module _ (setup : Setup) (counts : List ℕ) (observations : List Observation) (
   evaluates os a = addObservations (a .trial) said (take (a .to - a .from) (drop (a .from) os)) (evaluating (a .evaluation) work)
 
   abbrev finishes : List Observation → Admitted → Out
-  finishes os a = let e = evaluates os a in finishWith setup counts (a .awaited) (e .evaluation) tally state answer cache (e .work) warm results
+  finishes os a = let e = evaluates os a in finishWith counts (a .awaited) (e .evaluation) tally state answer cache (e .work) warm results
 
   -- the observations that are added, with the subject's lent and with all
   of-own : take (length own - 0) (drop 0 own) ≡ own
@@ -159,7 +158,7 @@ module _ (setup : Setup) (counts : List ℕ) (observations : List Observation) (
   unfolding admittedOver
   same-end w A.Accepted =
       let after : List Observation → Evaluating = λ os. addObservations trial said os (evaluating (begin said (setup .width) (setup .effects) (setup .«output_budget»)) work) in
-      ap (λ (os : List Observation). finishWith setup counts w (after os .evaluation) tally state answer cache (after os .work) warm results) (of-own ∙ sym of-all)
+      ap (λ (os : List Observation). finishWith counts w (after os .evaluation) tally state answer cache (after os .work) warm results) (of-own ∙ sym of-all)
   same-end w (A.Refused number) = refl
   same-end w (A.Unsound at) = refl
 
@@ -176,21 +175,16 @@ module _ (setup : Setup) (counts : List ℕ) (observations : List Observation) (
     abbrev whole : Admitted
     whole = admitReply setup counts (lent (length observations)) (allChecked setup counts observations) s tally said
 
-    whole-is : (let w = admitAwaited setup counts (lent (length observations)) (allChecked setup counts observations) s tally in
-        admittedOver setup trial said w (s .progress .first) (smaller (s .progress .first + rows) (length observations)) (w .admission)) ≡ whole
-    unfolding admitReply
-    whole-is = by-admission setup counts (lent (length observations)) (allChecked setup counts observations) s tally said refl refl _ _
-
     pub subject-reply : subjectReplyOver setup counts own tally state answer cache work warm results said ≡ callOver setup counts observations tally state answer cache work warm results (reply said)
-    unfolding subjectReplyOver admitSubjectWith admitSubjectReply admitWith
+    unfolding subjectReplyOver admitSubjectWith admitSubjectReply admitWith admitReply
     subject-reply =
         let w = admitAwaited setup counts (lent (length observations)) (allChecked setup counts observations) s tally in
         let loaded = ap (λ (l : Answer State). finishes own (admitSubjectWith setup counts (lent (length own)) (subjectChecked setup counts own state) tally said l)) loads in
         let at = ap (λ (v : Awaited). finishes own (admittedOver setup trial said v 0 (length own) (v .admission))) same-awaited in
         let e = evaluates observations whole in
-        loaded ∙ at ∙ same-end w (w .admission) ∙ ap (finishes observations) whole-is
+        loaded ∙ at ∙ same-end w (w .admission)
         ∙ reply-over setup counts observations tally state answer cache work warm results said (e .evaluation) (e .work)
-        (subst (λ (a : Admitted). length (evaluates observations a .work) ≡ length work) whole-is (long w (w .admission))) (allChecked setup counts observations) refl refl
+        (long w (w .admission)) (allChecked setup counts observations) refl refl
         (ap (admitWith setup counts (lent (length observations)) (allChecked setup counts observations) tally said) (sym loads)) refl refl
 
 pub every-subject-reply : EverySubjectReply
