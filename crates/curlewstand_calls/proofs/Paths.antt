@@ -6,7 +6,7 @@ use Prim.Native.Nat.{ℕ, _-_}
 use lib.ListN.{length, take, drop, length-set}
 use Rattle.float64.specs.Pick.{pick-no}
 use Rattle.likelihood.specs.declared.population_focei.Observation.{Observation}
-use Rattle.subject.specs.Observations.{checkObservations}
+use Rattle.subject.specs.Observations.{firstCheck, checkObservations}
 use Rattle.subject.specs.Reply.{written}
 use Rattle.subject.specs.Subject.{Evaluating, evaluating, addAt, addTo, addAfter, addObservation, addObservations}
 use Rattle.subject.specs.declared.Check.{Check}
@@ -21,7 +21,7 @@ use Rattle.setup.specs.declared.Lent.{Lent}
 use Rattle.setup.specs.declared.Setup.{Setup}
 use Rattle.search.specs.declared.Tally.{Tally}
 use Rattle.session.specs.Calls.{lentBy}
-use Rattle.session.specs.Session.{firstCheck, allChecked, reply}
+use Rattle.session.specs.Session.{allChecked, reply}
 use Rattle.session.specs.declared.Admitted.{Admitted}
 use Rattle.session_calls.proofs.Whole.{whole-check}
 use Rattle.state_words.specs.SessionWords.{loadedState}

@@ -21,7 +21,7 @@ use subject::Check;
 fn check_lent(setup: SessionSetup, observations: &[Observation], counts: &[u64]) -> Check
     ensures { λ r. ⌜ r ≡ allChecked (setupOf setup) (now (counts .entry)) (now (observations .entry)) ⌝ }
 {
-    let first = session::first_check();
+    let first = subject::checks::first_check();
     let n = observations.len();
     observations::check_observations(observations, 0, n, first, setup.width, counts)
 }

@@ -13,6 +13,7 @@ use Rattle.float64.specs.Answer.{Answer, given, refused}
 use Rattle.float64.specs.Arithmetic.{word}
 use Rattle.float64.specs.Pick.{pick, yes, no}
 use Rattle.matrix.specs.declared.Pair.{Pair}
+use Rattle.subject.specs.Subject.{additiveSd}
 use Rattle.subject.specs.declared.AdditiveSd.{AdditiveSd}
 use Rattle.subject.specs.declared.Check.{Check}
 use Rattle.subject.specs.declared.Evaluation.{Evaluation}
@@ -35,7 +36,7 @@ use Rattle.session.specs.declared.State.{State}
 use Rattle.state_words.specs.SessionWords as W
 use Rattle.state_words.specs.declared.LoadedState.{LoadedState}
 use Rattle.state_words.specs.declared.LoadedState.the-variants.{Given, None}
-use Rattle.host_calls.specs.Hosting.{additiveSd, setupOf, parametersOf, setupFrom, setupBits, parametersFrom, parameterBits, answerWords, placeWords, answerOf, answered, numberOf, isUnaltered}
+use Rattle.host_calls.specs.Hosting.{setupOf, parametersOf, setupFrom, setupBits, parametersFrom, parameterBits, answerWords, placeWords, answerOf, answered, numberOf, isUnaltered}
 use Rattle.host_calls.specs.Hosting.{toldAs, told, noState, openedTo, opened, Out, outOf, out, did, unknown, withState, openWith, objectiveWith, failureWith, finishWith}
 use Rattle.host_calls.specs.declared.AnswerWords.{AnswerWords}
 use Rattle.host_calls.specs.declared.Done.{Done}

@@ -4,13 +4,12 @@ use mathlib.Core.List.{List}
 use Prim.Native.Nat.{ℕ, _%_, _^_}
 use lib.Dec.{ltb, eqb}
 use lib.ListN.{length, set}
-use lib.Ieee.{Float, binary64, toBits}
+use lib.Ieee.{binary64, toBits}
 use Rattle.float64.specs.Answer.{Answer, given, refused}
 use Rattle.float64.specs.Arithmetic.{word}
 use Rattle.float64.specs.Pick.{pick}
 use Rattle.likelihood.specs.declared.population_focei.Observation.{Observation}
-use Rattle.subject.specs.declared.AdditiveSd.{AdditiveSd}
-use Rattle.subject.specs.declared.AdditiveSd.the-variants.{Own, Override}
+use Rattle.subject.specs.Subject.{additiveSd}
 use Rattle.subject.specs.declared.Check.{Check}
 use Rattle.subject.specs.declared.Evaluation.{Evaluation}
 use Rattle.setup.specs.declared.Lent.{Lent}
@@ -39,9 +38,6 @@ use Rattle.host_calls.specs.declared.SessionParameters.{SessionParameter
 use Rattle.host_calls.specs.declared.SessionSetup.{SessionSetup}
 
 -- ---- what a host gives
-
-unfoldable pub additiveSd : Bool → Float → AdditiveSd
-additiveSd has additive = pick has (Override additive) Own
 
 unfoldable pub setupOf : SessionSetup → Setup
 setupOf s = record {

@@ -9,7 +9,7 @@
 // and 2 for an observation, the subject and the observation.
 ghost use mathlib.Core.Path.{_≡_};
 ghost use Rattle.search.specs.declared.Place.the-variants.{Nowhere};
-ghost use Rattle.host_calls.specs.Hosting.{additiveSd, setupOf, parametersOf, setupFrom, setupBits, parametersFrom, parameterBits};
+ghost use Rattle.host_calls.specs.Hosting.{setupOf, parametersOf, setupFrom, setupBits, parametersFrom, parameterBits};
 ghost use Rattle.host_calls.specs.Hosting.{placeWords, answerOf, answered, numberOf, isUnaltered, toldAs, told, noState, opened};
 
 pub mod calls;
@@ -24,7 +24,6 @@ use session::Called;
 use session::Opening;
 use setup::Parameters;
 use setup::Setup;
-use subject::AdditiveSd;
 
 // The setup of a session as a host gives it: `additive` overrides the observations' own deviations where
 // `has_additive`.
@@ -73,20 +72,11 @@ pub struct AnswerWords {
 
 // ---- what a host gives
 
-fn additive_sd(has_additive: bool, additive: f64) -> AdditiveSd
-    ensures { λ r. ⌜ r ≡ additiveSd «has_additive» additive ⌝ }
-{
-    if has_additive {
-        return AdditiveSd::Override(additive);
-    }
-    AdditiveSd::Own
-}
-
 // The setup as the session has it. Whatever a host gives, this is the setup that its bits stand for.
 pub fn setup_of(setup: SessionSetup) -> Setup
     ensures { λ r. ⌜ (r ≡ setupOf setup) × (setupOf setup ≡ setupFrom (setupBits setup)) ⌝ }
 {
-    let additive_sd = additive_sd(setup.has_additive, setup.additive);
+    let additive_sd = subject::additive_sd(setup.has_additive, setup.additive);
     Setup {
         effects: setup.effects,
         omega00: setup.omega_00,
@@ -108,7 +98,7 @@ pub fn setup_of(setup: SessionSetup) -> Setup
 pub fn parameters_of(parameters: SessionParameters) -> Parameters
     ensures { λ r. ⌜ (r ≡ parametersOf parameters) × (parametersOf parameters ≡ parametersFrom (parameterBits parameters)) ⌝ }
 {
-    let additive_sd = additive_sd(parameters.has_additive, parameters.additive);
+    let additive_sd = subject::additive_sd(parameters.has_additive, parameters.additive);
     Parameters {
         theta: Pair {
             first: parameters.theta,

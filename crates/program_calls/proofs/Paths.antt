@@ -7,12 +7,11 @@ use lib.ListN.{length, take, drop, getD, List·getD-eq-default}
 use lib.Ieee.{Float}
 use Rattle.float64.specs.Arithmetic.{word}
 use Rattle.likelihood.specs.declared.population_focei.Observation.{Observation}
-use Rattle.subject.specs.Observations.{checkObservation, checkObservations}
+use Rattle.subject.specs.Observations.{firstCheck, checkObservation, checkObservations}
 use Rattle.subject.specs.Subject.{Evaluating, addObservation, addObservations}
 use Rattle.subject.specs.declared.Check.{Check}
 use Rattle.subject.specs.declared.Trial.{Trial}
 use Rattle.words.proofs.Runs.{len-part}
-use Rattle.session.specs.Session.{firstCheck}
 use Rattle.words.specs.Words.{smaller}
 use Rattle.program_calls.specs.Recorded.{observationIn, observationsFrom, observationsOf}
 

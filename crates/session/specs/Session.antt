@@ -13,11 +13,10 @@ use Rattle.mode.specs.declared.population_focei.Stage.the-variants.{Grid, Warm,
 use Rattle.mode.specs.declared.population_focei.Search.{Search}
 use Rattle.mode_2d.specs.declared.population_focei_2d.Search2.{Search2}
 use Rattle.likelihood.specs.declared.population_focei.Observation.{Observation}
-use Rattle.subject.specs.Observations.{checkObservations}
+use Rattle.subject.specs.Observations.{firstCheck, checkObservations}
 use Rattle.subject.specs.Subject.{Evaluating, evaluating, begin, addObservations, finish}
 use Rattle.subject.specs.declared.Trial.{Trial}
 use Rattle.subject.specs.declared.Check.{Check}
-use Rattle.subject.specs.declared.Check.the-variants.{Sound}
 use Rattle.subject.specs.declared.Evaluation.{Evaluation}
 use Rattle.subject.specs.declared.Evaluation.the-variants as E
 use Rattle.words.specs.Words.{zeros}
@@ -91,9 +90,6 @@ lentOf S setup n w = record {
   warm = length (w .warm);
   results = length (w .results);
 }
-
-abbrev pub firstCheck : Check
-firstCheck = Sound (record { subject = 0; observation = 0 })
 
 abbrev pub noTally : Tally
 noTally = record { calls = record { 0 = 0 }; «cached_rows» = record { 0 = 0 } }

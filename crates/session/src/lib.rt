@@ -5,7 +5,6 @@
 ghost use mathlib.Core.Path.{_≡_};
 ghost use lib.ListN.{length};
 ghost use Rattle.session.specs.Calls.{lentBy, refusedAs, startOf, firstState, shrinkage};
-ghost use Rattle.session.specs.Session.{firstCheck};
 
 pub mod checks;
 
@@ -20,9 +19,7 @@ use setup::Admission;
 use setup::Lent;
 use setup::Parameters;
 use setup::Setup;
-use subject::Check;
 use subject::Evaluation;
-use subject::Position;
 use subject::Trial;
 
 // What a host hands from call to call: the objective's parameters, where it stands, and the positions of the
@@ -104,16 +101,6 @@ pub fn lent_of(observations: usize, cache: usize, work: usize, warm: usize, resu
         warm,
         results,
     }
-}
-
-// The check of the observations before the first of them.
-pub fn first_check() -> Check
-    ensures { λ r. ⌜ r ≡ firstCheck ⌝ }
-{
-    Check::Sound(Position {
-        subject: 0,
-        observation: 0,
-    })
 }
 
 // What a call gives back that is refused and alters nothing: state and tally as they were.

@@ -29,7 +29,7 @@ use Rattle.search.specs.declared.Step.the-variants.{Refused}
 use Rattle.search.specs.declared.Tally.{Tally}
 use Rattle.search.specs.declared.Wanted.{Wanted}
 use Rattle.search.specs.declared.Wanted.the-variants as Wants
-use Rattle.machine.specs.Machine.{Moved, on, halt, Ran, ran, onward, loop}
+use Rattle.machine.specs.Machine.{Moved, on, Ran, ran, onward, loop}
 use Rattle.population.specs.Kept.{words, cacheOf}
 use Rattle.population.specs.Population.{Whole, turn, spent, receive}
 use Rattle.population.specs.Answers.{KeptWith, keptWith, keep}
@@ -37,7 +37,7 @@ use Rattle.population.specs.declared.answers.Kept.{Kept}
 use Rattle.population.specs.Through.{taken}
 use Rattle.population.specs.declared.kept_points.InHand.the-variants as Hand
 use Rattle.population.specs.Steps.{wholeFrom}
-use Rattle.session.specs.Calls.{heldOf, called, run, runIn, entered, enteredIn, lentBy, refusedAs, endedAs, firstState, Setting, begunWith, opening, openedBy, startOf, admitObjective}
+use Rattle.session.specs.Calls.{heldOf, called, runIn, entered, enteredIn, lentBy, refusedAs, endedAs, firstState, Setting, begunWith, opening, openedBy, startOf, admitObjective}
 use Rattle.session.specs.Calls.{awaitedPoint, awaitedFor, admitAwaited, followed, finishReply}
 use Rattle.session.specs.Session.{Held, held, fuel, noTally, isStanding, lentOf, whenAdmitted, begun, admitted, enterObjective, atWanted, whenAwaited, enterFailure, over, replied, unaltered}
 use Rattle.session.proofs.Loops.{run-held}

@@ -1,19 +1,19 @@
 -- The calls over a list of observations, put together from their parts: what the parts answered is the session's call. Assumes nothing.
 use mathlib.Core.Path.{_≡_, refl, sym, ap, subst, _∙_}
 use mathlib.Core.Bool.{Bool, true, false}
-use mathlib.Core.List.{List, [], _∷_}
-use Prim.Native.Nat.{ℕ, zero, suc, _+_, _-_, _≤_}
+use mathlib.Core.List.{List}
+use Prim.Native.Nat.{ℕ, _+_, _-_, _≤_}
 use native.Mathlib.Omega.{arith}
 use borrow.Author.Tests.{ltb-false}
 use lib.Dec.{T, ltb, eqb}
 use lib.ListN.{length, take, drop}
 use lib.Seq.{take-all}
-use Rattle.float64.specs.Pick.{pick, cases}
+use Rattle.float64.specs.Pick.{cases}
 use Rattle.matrix.specs.Matrix.{Inverse, some, none, inversePositive}
 use Rattle.matrix.specs.declared.Pair.{Pair}
 use Rattle.likelihood.specs.declared.population_focei.Observation.{Observation}
 use Rattle.words.specs.Words.{smaller}
-use Rattle.subject.specs.Observations.{checkObservations}
+use Rattle.subject.specs.Observations.{firstCheck, checkObservations}
 use Rattle.subject.specs.Subject.{Evaluating, evaluating, begin, addObservations, finish}
 use Rattle.subject.specs.declared.AdditiveSd.{AdditiveSd}
 use Rattle.subject.specs.declared.Check.{Check}
@@ -41,7 +41,7 @@ use Rattle.machine.specs.Machine.{Moved, halt, Ran, call}
 use Rattle.population.specs.Kept.{words, cacheOf}
 use Rattle.population.specs.Population.{rowsOf, wholeOf}
 use Rattle.session.specs.Calls.{heldOf, entered, lentBy, awaitedPoint, awaitedFor, admitAwaited, trialBy, admittedOver, admitReply, finishReply}
-use Rattle.session.specs.Session.{Held, held, Call, firstCheck, isPlaced, isStanding, whenAdmitted, over, replied, trialOf, enterObjective, whenAwaited, enterFailure, allChecked, evaluated, answered}
+use Rattle.session.specs.Session.{Held, held, Call, isPlaced, isStanding, whenAdmitted, over, replied, enterObjective, whenAwaited, enterFailure, allChecked, evaluated, answered}
 use Rattle.session.specs.Session.{enterReply, enter, objective, reply, failure, session}
 use Rattle.session.proofs.Loops.{awaited-fit, own-finish}
 use Rattle.session.specs.declared.Admitted.{Admitted}

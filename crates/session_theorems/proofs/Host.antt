@@ -15,6 +15,7 @@ use Rattle.float64.specs.Answer.{Answer}
 use Rattle.float64.specs.Arithmetic.{word}
 use Rattle.float64.specs.Pick.{pick, both, cases, pick-yes}
 use Rattle.likelihood.specs.declared.population_focei.Observation.{Observation}
+use Rattle.subject.specs.Subject.{additiveSd}
 use Rattle.setup.specs.Admission.{checks, countObservations}
 use Rattle.setup.specs.declared.Setup.{Setup}
 use Rattle.setup.specs.declared.Admission.{Admission}
@@ -36,7 +37,7 @@ use Rattle.session.specs.declared.Opening.the-variants as Opens
 use Rattle.session.specs.declared.State.{State}
 use Rattle.state_words.specs.SessionWords.{loadedState, savedState}
 use Rattle.state_words.proofs.Back.{FitsState, back}
-use Rattle.host_calls.specs.Hosting.{additiveSd, SetupBits, setupFrom, ParameterBits, parametersFrom, Out, did, told, answered, answerOf, numberOf, isUnaltered, openedTo, callOver, setupOver}
+use Rattle.host_calls.specs.Hosting.{SetupBits, setupFrom, ParameterBits, parametersFrom, Out, did, told, answered, answerOf, numberOf, isUnaltered, openedTo, callOver, setupOver}
 use Rattle.host_calls.specs.Hosting.{openWith, withState, unknown}
 use Rattle.host_calls.specs.Hosting as H
 use Rattle.host_calls.specs.SubjectReplies.{subjectReplyOver}

@@ -45,6 +45,10 @@ unfoldable pub checkAt : ℕ → List ℕ → Observation → Position → Check
 checkAt width counts observation place =
     pick (isSound observation width) (Sound (nextPlace place (getD counts (place .subject) 0))) (Unsound place)
 
+-- before the first observation
+abbrev pub firstCheck : Check
+firstCheck = Sound (record { subject = 0; observation = 0 })
+
 -- one more; after the first that is not sound nothing changes
 unfoldable pub checkObservation : ℕ → List ℕ → Observation → Check → Check
 checkObservation width counts observation (Sound place) = checkAt width counts observation place

@@ -81,6 +81,10 @@ unfoldable pub atObservation : ℕ → Answer Sums → Evaluation
 atObservation n (given sums) = Running sums
 atObservation n (refused number) = RefusedAt number n
 
+-- one that overrides all, where there is one
+unfoldable pub additiveSd : Bool → Float → AdditiveSd
+additiveSd has additive = pick has (Override additive) Own
+
 unfoldable pub additiveOf : AdditiveSd → Observation → Float
 additiveOf Own observation = observation .additive
 additiveOf (Override additive) observation = additive

@@ -1,6 +1,6 @@
 // Document 01's check 4, of one observation after the other, by value. Each function is defined for all values.
 ghost use mathlib.Core.Path.{_≡_};
-ghost use Rattle.subject.specs.Observations.{isNoDeviation, isSound, nextPlace, checkAt, checkObservation};
+ghost use Rattle.subject.specs.Observations.{isNoDeviation, isSound, nextPlace, firstCheck, checkAt, checkObservation};
 use super::Check;
 use super::Position;
 use float64::LARGEST;
@@ -54,6 +54,16 @@ fn next_place(place: Position, count: u64) -> Position
         subject: std::num::wrapping_add_usize(place.subject, 1),
         observation: 0,
     }
+}
+
+// The check of the observations before the first of them.
+pub fn first_check() -> Check
+    ensures { λ r. ⌜ r ≡ firstCheck ⌝ }
+{
+    Check::Sound(Position {
+        subject: 0,
+        observation: 0,
+    })
 }
 
 // The check with the observation at the place that was reached.

@@ -8,7 +8,7 @@
 // derivatives for each effect.
 ghost use mathlib.Core.Path.{_≡_};
 ghost use Rattle.subject.specs.Reply.{outputValues, rowLength};
-ghost use Rattle.subject.specs.Subject.{answer, individual, isNoIndividual, individualValues, begin, hasNonfiniteSum, finish};
+ghost use Rattle.subject.specs.Subject.{additiveSd, answer, individual, isNoIndividual, individualValues, begin, hasNonfiniteSum, finish};
 
 pub mod checks;
 pub mod rows;
@@ -85,6 +85,18 @@ pub struct Position {
 pub enum Check {
     Sound(Position),
     Unsound(Position),
+}
+
+// ---- the additive deviation
+
+// The additive deviation as hosts give it: one that overrides them all where there is one.
+pub fn additive_sd(has_additive: bool, additive: f64) -> AdditiveSd
+    ensures { λ r. ⌜ r ≡ additiveSd «has_additive» additive ⌝ }
+{
+    if has_additive {
+        return AdditiveSd::Override(additive);
+    }
+    AdditiveSd::Own
 }
 
 // ---- individual values

@@ -4,11 +4,11 @@ use mathlib.Core.List.{List}
 use Prim.Native.Nat.{ℕ, _-_}
 use lib.ListN.{length, take, drop}
 use Rattle.likelihood.specs.declared.population_focei.Observation.{Observation}
-use Rattle.subject.specs.Observations.{checkObservations}
+use Rattle.subject.specs.Observations.{firstCheck, checkObservations}
 use Rattle.subject.specs.Subject.{Evaluating, evaluating, addObservations, finish}
 use Rattle.subject.specs.declared.Check.{Check}
 use Rattle.subject.specs.declared.Evaluation.{Evaluation}
-use Rattle.test_exports.specs.Evaluations.{Answered, answered, evaluated, beginning, told, evaluateFrom, evaluate, firstCheck, toldCheck, checkAll}
+use Rattle.test_exports.specs.Evaluations.{Answered, answered, evaluated, beginning, told, evaluateFrom, evaluate, toldCheck, checkAll}
 use Rattle.test_exports.specs.declared.evaluations.Begun.{Begun}
 use Rattle.test_exports.specs.declared.evaluations.Question.{Question}
 

@@ -1,18 +1,14 @@
 -- What the exported evaluations answer and write.
-use mathlib.Core.Bool.{Bool}
 use mathlib.Core.List.{List}
 use Prim.Native.Nat.{ℕ, _+_, _-_}
 use lib.ListN.{take, drop, length, set}
 use lib.Ieee.{Float, binary64, toBits}
 use Rattle.float64.specs.Answer.{Answer, through}
-use Rattle.float64.specs.Pick.{pick}
 use Rattle.matrix.specs.Matrix.{pair, at}
 use Rattle.matrix.specs.declared.Pair.{Pair}
 use Rattle.likelihood.specs.declared.population_focei.Observation.{Observation}
-use Rattle.subject.specs.Observations.{checkObservations}
-use Rattle.subject.specs.Subject.{begin, next, evaluating, addObservations, finish}
-use Rattle.subject.specs.declared.AdditiveSd.{AdditiveSd}
-use Rattle.subject.specs.declared.AdditiveSd.the-variants.{Own, Override}
+use Rattle.subject.specs.Observations.{firstCheck, checkObservations}
+use Rattle.subject.specs.Subject.{additiveSd, begin, next, evaluating, addObservations, finish}
 use Rattle.subject.specs.declared.Trial.{Trial}
 use Rattle.subject.specs.declared.Sums.{Sums}
 use Rattle.subject.specs.declared.Evaluation.{Evaluation}
@@ -49,9 +45,6 @@ abbrev pub evaluated : ℕ → List ℕ → List ℕ → Evaluated
 evaluated number work out = record { number = number; work = work; out = out }
 
 -- ---- a subject's evaluation
-
-unfoldable pub additiveSd : Bool → Float → AdditiveSd
-additiveSd has additive = pick has (Override additive) Own
 
 unfoldable pub beginning : Question → List ℕ → Begun
 beginning q reply = record {
@@ -91,9 +84,6 @@ unfoldable pub evaluate : List Observation → Question → List ℕ → List �
 evaluate observations question reply work out = evaluateFrom observations (beginning question reply) reply work out
 
 -- ---- the check of every observation
-
-abbrev pub firstCheck : Check
-firstCheck = Sound (record { subject = 0; observation = 0 })
 
 -- 0; or 4 and the place's words
 unfoldable pub toldCheck : Check → List ℕ → Answered

@@ -3,15 +3,13 @@ ghost use mathlib.Core.Path.{_≡_};
 ghost use lib.ListN.{set};
 ghost use Rattle.float64.specs.Answer.{numberOf, orOld};
 ghost use Rattle.subject.specs.Subject.{individualValues, finish};
-ghost use Rattle.test_exports.specs.Evaluations.{pairOf, floatsOf, additiveSd, beginning, sumsWritten, answered, told, evaluated};
-ghost use Rattle.test_exports.specs.Evaluations.{evaluate, firstCheck, toldCheck, checkAll};
+ghost use Rattle.test_exports.specs.Evaluations.{pairOf, floatsOf, beginning, sumsWritten, answered, told, evaluated};
+ghost use Rattle.test_exports.specs.Evaluations.{evaluate, toldCheck, checkAll};
 use likelihood::population_focei::Observation;
 use matrix::Pair;
-use subject::AdditiveSd;
 use subject::Check;
 use subject::Evaluation;
 use subject::IndividualValues;
-use subject::Position;
 use subject::Sums;
 use subject::Trial;
 
@@ -75,15 +73,6 @@ fn pair_of(floats: [f64; 2]) -> Pair
     }
 }
 
-fn additive_sd(has_additive: bool, additive: f64) -> AdditiveSd
-    ensures { λ r. ⌜ r ≡ additiveSd «has_additive» additive ⌝ }
-{
-    if has_additive {
-        return AdditiveSd::Override(additive);
-    }
-    AdditiveSd::Own
-}
-
 fn beginning(question: Question, reply: &[u64]) -> Begun
     ensures { λ r. ⌜ r ≡ beginning question (now (reply .entry)) ⌝ }
 {
@@ -97,7 +86,7 @@ fn beginning(question: Question, reply: &[u64]) -> Begun
         first: question.individual,
         second: question.individual_2,
     };
-    let additive_sd = additive_sd(question.has_additive, question.additive);
+    let additive_sd = subject::additive_sd(question.has_additive, question.additive);
     let trial = Trial {
         individual,
         additive_sd,
@@ -173,15 +162,6 @@ pub extern "C" fn curlewstand_evaluate(
     told(evaluation, out)
 }
 
-fn first_check() -> Check
-    ensures { λ r. ⌜ r ≡ firstCheck ⌝ }
-{
-    Check::Sound(Position {
-        subject: 0,
-        observation: 0,
-    })
-}
-
 // Answers 0; or 4, with the two words of the place written.
 fn told_check(check: Check, place: &mut [u64]) -> u32
     ensures { λ r. ⌜ answered r (now (place .exit)) ≡ toldCheck check (now (place .entry)) ⌝ }
@@ -208,7 +188,7 @@ pub extern "C" fn curlewstand_check_observations(
     ensures { λ r. ⌜ answered r (now (place .exit))
         ≡ checkAll (now (observations .entry)) width (now (counts .entry)) (now (place .entry)) ⌝ }
 {
-    let first = first_check();
+    let first = subject::checks::first_check();
     let check = observations::check_observations(
         observations,
         0,

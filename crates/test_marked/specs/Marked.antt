@@ -17,7 +17,7 @@ use Rattle.mode.specs.Rules.{gridPoint, etaTolerance}
 use Rattle.test_exports.specs.Leaves.{observationOf}
 use Rattle.setup.specs.Admission.{checks}
 use Rattle.setup.specs.declared.Admission.the-variants.{Accepted, Refused}
-use Rattle.session.specs.Session.{firstCheck}
+use Rattle.subject.specs.Observations.{firstCheck}
 use Rattle.focei_fit.specs.Output.{settings, output}
 use Rattle.test_marked.specs.Examples.{bytes, settingsWith, outputWith, example, exampleText, far, room}
 use Rattle.test_marked.specs.Session2.{session, firstValue, steep, asked, toMode, found, toBound, refusedAfter}

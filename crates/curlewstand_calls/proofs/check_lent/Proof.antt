@@ -60,13 +60,12 @@ use Rattle.subject.specs.declared.Check.{Check}
 use Rattle.subject.proofs.Check as K
 use Rattle.subject.proofs.Check.Laws as K′
 use lib.ListN.{take, drop as drop-list}
-use Rattle.subject.specs.Observations.{checkObservations}
-use Rattle.session.specs.Session.{firstCheck}
+use Rattle.subject.specs.Observations.{firstCheck, checkObservations}
 use Rattle.curlewstand_calls.proofs.Paths.{all-checked}
-use Rattle.session.proofs.first_check as g
-use Rattle.session.proofs.first_check.Symbol as g-def
-use Rattle.session.proofs.first_check.Symbol.{name as #g}
-use Rattle.session.proofs.first_check.Met as g-thm
+use Rattle.subject.proofs.checks.first_check as g
+use Rattle.subject.proofs.checks.first_check.Symbol as g-def
+use Rattle.subject.proofs.checks.first_check.Symbol.{name as #g}
+use Rattle.subject.proofs.checks.first_check.Met as g-thm
 use Rattle.observations.proofs.check_observations as h
 use Rattle.observations.proofs.check_observations.Symbol as h-def
 use Rattle.observations.proofs.check_observations.Symbol.{name as #h}
@@ -223,5 +222,5 @@ check-lent-spec 𝓤 H 𝓜 𝓖 𝓡 =
     entered 𝓤 H (tripleOf 𝓤 H (𝓖 .A) f.signature (f.spec 𝓤 H (𝓖 .A) (𝓜 .mem) (𝓡 .run)))
     (tables 𝓤 H 𝓜 𝓡 code.env .C) (tables 𝓤 H 𝓜 𝓡 code.env .Λ) #f code.function (code.unfolded 𝓤 H 𝓜 𝓡)
     (meets 𝓤 H (𝓖 .A) (givenOf 𝓤 H 𝓜 𝓖) (𝓜 .mem) (𝓡 .run) (tablesOf 𝓤 H 𝓜 (tables 𝓤 H 𝓜 𝓡 code.env))
-    (cited 𝓤 H (g-con 𝓤 H (𝓖 .A) (𝓜 .mem) (𝓡 .run)) 𝓜 𝓡 code.env #g g-def.routine code.calls-session·first-check (g-thm.met 𝓤 H 𝓜 𝓖 𝓡))
+    (cited 𝓤 H (g-con 𝓤 H (𝓖 .A) (𝓜 .mem) (𝓡 .run)) 𝓜 𝓡 code.env #g g-def.routine code.calls-subject·checks·first-check (g-thm.met 𝓤 H 𝓜 𝓖 𝓡))
     (cited 𝓤 H (h-con 𝓤 H (𝓖 .A) (𝓜 .mem) (𝓡 .run)) 𝓜 𝓡 code.env #h h-def.routine code.calls-observations·check-observations (h-thm.met 𝓤 H 𝓜 𝓖 𝓡)))

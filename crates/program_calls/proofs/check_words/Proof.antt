@@ -3,7 +3,7 @@ use borrow.Author.Needs.{needs}
 use mathlib.Core.Path.{_≡_, _∙_}
 use Prim.Native.Nat.{_-_}
 use Rattle.float64.proofs.Laws.{free}
-use Rattle.session.specs.Session.{firstCheck}
+use Rattle.subject.specs.Observations.{firstCheck}
 use Rattle.program_calls.proofs.Paths.{checkedFrom, check-first, check-next, check-end, check-all}
 use Rattle.program_calls.proofs.check_words.Statement.{statement}
 use Rattle.program_calls.proofs.check_words.Tie as tie

@@ -1,7 +1,6 @@
 -- `fail` meets its contract: each case by its law. Assumes nothing.
 use borrow.Author.Needs.{needs}
 use Rattle.float64.proofs.Laws.{free}
-use mathlib.Core.Path.{_∙_}
 use Rattle.search.specs.declared.Place.the-variants.{Subject}
 use Rattle.population.specs.Kept.{words}
 use Rattle.session.specs.Calls.{heldOf, run}

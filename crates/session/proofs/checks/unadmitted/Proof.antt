@@ -1,7 +1,6 @@
 -- `unadmitted` meets its contract: nothing is let in. Assumes nothing.
 use Rattle.float64.proofs.Laws.{free}
 use mathlib.Core.Path.{ap, _∙_}
-use Rattle.search.specs.declared.Fit.{Fit}
 use Rattle.session.specs.Calls.{nothingAdmitted, unawaited, unadmitted}
 use Rattle.session.specs.declared.Awaited.{Awaited}
 use Rattle.session.proofs.checks.unadmitted.Statement.{statement}

@@ -1,9 +1,9 @@
--- `additive_sd` meets its contract. Assumes nothing.
+-- `additive_sd` meets its contract: a test. Assumes nothing.
 use mathlib.Core.Path.{refl}
 use Rattle.float64.specs.Pick.{yes, no}
-use Rattle.test_exports.specs.Evaluations.{additiveSd}
-use Rattle.test_exports.proofs.evaluations.additive_sd.Statement.{statement}
-use Rattle.test_exports.proofs.evaluations.additive_sd.Tie as tie
+use Rattle.subject.specs.Subject.{additiveSd}
+use Rattle.subject.proofs.additive_sd.Statement.{statement}
+use Rattle.subject.proofs.additive_sd.Tie as tie
 
 returns : tie.Need-returns
 unfolding additiveSd
