@@ -5,6 +5,7 @@ use mathlib.Core.List.{List}
 use Prim.Native.Nat.{ℕ, _-_}
 use lib.Dec.{ltb, eqb}
 use lib.ListN.{length}
+use lib.Ieee.{Float}
 use Rattle.float64.specs.Pick.{pick, yesOf, noOf, both}
 use Rattle.matrix.specs.declared.Pair.{Pair}
 use Rattle.words.specs.Words.{zeros}
@@ -77,29 +78,31 @@ module _ (e : Ended) {t : Turned} {w a r : List ℕ} {b : Bool} (ee : ended t w 
   pub turn-on : b ≡ false → ended t w a r ≡ cleared e
   turn-on u = turns (noOf _ eb u refl)
 
--- ---- the first search of a subject is one with the objective's effects
-first-by : (b : Bool) {x : Search} {y : Search2} → let s = pick b (Two y) (One x) in s ≡ pick b (Two (B.twoOf s)) (One (B.oneOf s))
+-- ---- a subject begins with a search of the objective's effects
+first-by : (b : Bool) (x : Search) (y : Search2) → let s = pick b (Two y) (One x) in s ≡ pick b (Two (B.twoOf s)) (One (B.oneOf s))
 unfolding pick
-first-by true = refl
-first-by false = refl
+first-by true x y = refl
+first-by false x y = refl
 
-pub first-own : (effects : ℕ) → B.firstSearch effects ≡ asWith effects (B.firstSearch effects)
-unfolding asWith B.firstSearch
-first-own effects = first-by (eqb effects 2)
+abbrev pub own : Fit → Progress → Progress
+own fit p = B.withSearch p (asWith (fit .effects) (p .search))
+
+pub begun-own : (fit : Fit) (effects subject first : ℕ) (start : Pair) (ofv squares : Float) → fit .effects ≡ effects
+    → let p = B.beginSubject effects subject first start ofv squares in p ≡ own fit p
+unfolding asWith B.beginSubject B.withSearch B.firstSearch
+begun-own fit effects subject first start ofv squares e =
+    ap (B.withSearch (B.beginSubject effects subject first start ofv squares)) (first-by (eqb effects 2) _ _ ∙ ap (λ (n : ℕ). asWith n (B.firstSearch effects)) (sym e))
 
 -- ---- a turn goes on only where another subject begins, and then no reply is awaited, and the search is one of the objective's
 module _ (fit : Fit) (counts : List ℕ) (progress : Progress) (tally : Tally) (work warm results : List ℕ) where
-  abbrev own : Progress → Progress
-  own p = B.withSearch p (asWith (fit .effects) (p .search))
-
   Begins : Turned → Type 0
-  Begins (On p) = p ≡ own p
+  Begins (On p) = p ≡ own fit p
   Begins (Halt h) = Halt h ≡ Halt h
 
   next-begins : (mode : Mode) (rows : ℕ) (stored : List ℕ) → Begins (nextSubject fit counts progress tally mode rows stored work .value)
-  unfolding Begins nextSubject B.beginSubject B.withSearch
+  unfolding Begins nextSubject
   next-begins mode rows stored =
-      both (λ (z : Worked Turned). Begins (z .value)) (ltb (raised (progress .subject) 1) (length counts)) (ap (B.withSearch _) (first-own (fit .effects))) refl
+      both (λ (z : Worked Turned). Begins (z .value)) (ltb (raised (progress .subject) 1) (length counts)) (begun-own fit _ _ _ _ _ _ refl) refl
 
   closing-begins : (rows : ℕ) (c : Closed) → Begins (closing fit counts progress tally rows work warm results c .turned)
   unfolding Begins closing
@@ -112,7 +115,7 @@ module _ (fit : Fit) (counts : List ℕ) (progress : Progress) (tally : Tally) (
   begins Wants.Mode = closing-begins (rowsOf counts (progress .subject)) (B.closedBy fit progress (rowsOf counts (progress .subject)))
   begins (Wants.Refused number) = refl
 
-  on-begins : (x : Wanted) {t : Turned} {w a r : List ℕ} {next : Progress} → ended t w a r ≡ cleared (unkept fit counts progress tally work warm results x) → t ≡ On next → next ≡ own next
+  on-begins : (x : Wanted) {t : Turned} {w a r : List ℕ} {next : Progress} → ended t w a r ≡ cleared (unkept fit counts progress tally work warm results x) → t ≡ On next → next ≡ own fit next
   unfolding Begins
   on-begins x e q = subst Begins (sym (ap (λ (y : Ended). y .turned) e) ∙ q) (begins x)
 

@@ -263,7 +263,8 @@ pub fn through_kept(
     let rows = super::rows_of(counts, progress.subject);
     if fit.effects == 2 {
         let r = through_kept_2d(fit, rows, order, progress, hand, fuel, cache, work);
-        let search = SubjectSearch::Two(r.search);
+        let own = r.search;
+        let search = SubjectSearch::Two(own);
         let wanted = r.wanted;
         return Reached {
             progress: search::points::with_search(progress, search),
@@ -272,7 +273,8 @@ pub fn through_kept(
         };
     }
     let r = through_kept_1d(fit, rows, order, progress, hand, fuel, cache, work);
-    let search = SubjectSearch::One(r.search);
+    let own = r.search;
+    let search = SubjectSearch::One(own);
     let wanted = r.wanted;
     Reached {
         progress: search::points::with_search(progress, search),

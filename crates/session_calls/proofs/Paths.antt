@@ -19,24 +19,27 @@ use Rattle.setup.specs.declared.Admission.the-variants as A
 use Rattle.setup.specs.declared.Lent.{Lent}
 use Rattle.setup.specs.declared.Parameters.{Parameters}
 use Rattle.setup.specs.declared.Setup.{Setup}
-use Rattle.search.specs.Subjects.{fitOf, wantedBy, refusedBy, idle, withSearch, beginSubject}
+use Rattle.search.specs.Subjects.{fitOf, wantedBy, refusedBy}
 use Rattle.search.specs.declared.Fit.{Fit}
 use Rattle.search.specs.declared.Halted.{Halted}
 use Rattle.search.specs.declared.Place.{Place}
 use Rattle.search.specs.declared.Place.the-variants as At
+use Rattle.search.specs.declared.Progress.{Progress}
 use Rattle.search.specs.declared.Step.{Step}
 use Rattle.search.specs.declared.Step.the-variants.{Refused}
 use Rattle.search.specs.declared.Tally.{Tally}
 use Rattle.search.specs.declared.Wanted.{Wanted}
 use Rattle.search.specs.declared.Wanted.the-variants as Wants
+use Rattle.search.proofs.FitLaws.{fit-effects}
 use Rattle.machine.specs.Machine.{Moved, on, halt, Ran, ran, onward, loop}
 use Rattle.population.specs.Kept.{words, cacheOf}
-use Rattle.population.specs.Population.{Whole, turn, spent, receive}
+use Rattle.population.specs.Population.{Whole, whole, turn, spent, receive}
 use Rattle.population.specs.Answers.{KeptWith, keptWith, keep}
 use Rattle.population.specs.declared.answers.Kept.{Kept}
 use Rattle.population.specs.Through.{taken}
 use Rattle.population.specs.declared.kept_points.InHand.the-variants as Hand
 use Rattle.population.specs.Steps.{wholeFrom}
+use Rattle.population.proofs.StepsPaths.{begun-own}
 use Rattle.session.specs.Calls.{heldOf, called, run, entered, lentBy, refusedAs, endedAs, firstState, Setting, begunWith, opening, openedBy, startOf, admitObjective, unawaited, awaitedAt}
 use Rattle.session.specs.Calls.{admitAwaited, followed, finishReply}
 use Rattle.session.specs.Session.{Held, held, noTally, isStanding, lentOf, whenAdmitted, begun, admitted, enterObjective, atWanted, whenAwaited, enterFailure, over, replied, unaltered, heldBy}
@@ -152,10 +155,12 @@ module _ (setup : Setup) (counts : List ℕ) (n : ℕ) (check : Check) (paramete
   pub objective-starts : {s : State} {z : Ran (Held words) Step} → s ≡ startOf parameters warm (setup .effects) (state .order)
       → z ≡ run setup counts (held words (s .parameters) (wholeFrom (fitOf setup (s .parameters)) counts Hand.Nothing (s .progress) tally (cacheOf cache (s .order)) work warm results))
       → z ≡ entered setup counts (on (begun words setup counts parameters (h .whole)))
-  unfolding begun startOf onward taken idle withSearch beginSubject
+  unfolding begun startOf onward taken
   objective-starts es q =
       q ∙ ap (λ (x : State). run setup counts (held words (x .parameters) (wholeFrom (fitOf setup (x .parameters)) counts Hand.Nothing (x .progress) tally (cacheOf cache (x .order)) work warm
       results))) es
+      ∙ ap (λ (p : Progress). run setup counts (held words parameters (whole p tally (cacheOf cache (state .order)) work warm results)))
+      (sym (begun-own (fitOf setup parameters) (setup .effects) _ _ _ _ _ (fit-effects setup parameters)))
 
 -- ---- a reply or a failure is let in; go is what it does with the point that was asked for
 module _ (setup : Setup) (counts : List ℕ) (n : ℕ) (check : Check) (state : State) (tally : Tally) (cache work warm results : List ℕ) (go : Pair → Moved (Held words) Step) where

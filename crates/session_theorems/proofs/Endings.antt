@@ -33,6 +33,7 @@ use Rattle.search.specs.declared.Step.{Step}
 use Rattle.search.specs.declared.Step.the-variants as Answers
 use Rattle.search.specs.declared.Wanted.{Wanted}
 use Rattle.search.specs.declared.Wanted.the-variants as Wants
+use Rattle.search.proofs.FitLaws.{fit-effects, fit-most}
 use Rattle.machine.specs.Machine.{Moved, on, halt, Ran, onward, loop}
 use Rattle.population.specs.Kept.{Recalled, words}
 use Rattle.population.specs.Population.{rowsOf, take, answered, atPoint, Worked, nextSubject, raised, Ended, ended, closing, atMode, servedBy, served, isOver, turned, Whole, moved, turn, spent}
@@ -41,7 +42,7 @@ use Rattle.population.specs.declared.Turned.the-variants.{On, Halt}
 use Rattle.session.specs.Session.{Held, heldBy, turnHeld, fuel}
 use Rattle.session_theorems.proofs.Lengths.{zeros-length, move-rows-length, recalled-length}
 use Rattle.session_theorems.proofs.Remaining.{Goes, Numbered, LeftBy, stands, points, refusals, begins}
-use Rattle.session_theorems.proofs.Standing.{advanced-alike, fit-effects, fit-most}
+use Rattle.session_theorems.proofs.Standing.{advanced-alike}
 
 -- ---- any loop: `Going n` says that at most n turns are left, this one counted, and `Answered` is what every turn that halts gives
 module _ {State Answer : Type 0} (turn : State → Moved State Answer) (Going : ℕ → State → Type 0) (Answered : Answer → State → Type 0) where

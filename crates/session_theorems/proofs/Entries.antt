@@ -34,6 +34,7 @@ use Rattle.search.specs.declared.Progress.{Progress}
 use Rattle.search.specs.declared.Step.{Step}
 use Rattle.search.specs.declared.Wanted.{Wanted}
 use Rattle.search.specs.declared.Wanted.the-variants as Wants
+use Rattle.search.proofs.FitLaws.{fit-effects, fit-k, fit-bound}
 use Rattle.machine.specs.Lawful.{Enters}
 use Rattle.machine.specs.Lawful.Enters.{same, begins, replied, failed}
 use Rattle.machine.specs.Log.{OfEvaluation}
@@ -50,7 +51,7 @@ use Rattle.session_theorems.proofs.Fitting.{Fits, FitsBoth}
 use Rattle.session_theorems.proofs.Lengths.{AsLong, zeros-length, move-rows-length}
 use Rattle.session_theorems.proofs.Points.{Passed}
 use Rattle.session_theorems.proofs.Searches.{Suits}
-use Rattle.session_theorems.proofs.Standing.{Alike, advanced-alike, recallOf, Waiting, Standing, still, fit-effects, fit-k, fit-bound}
+use Rattle.session_theorems.proofs.Standing.{Alike, advanced-alike, recallOf, Waiting, Standing, still}
 use Rattle.session_theorems.proofs.Stores.{Fine, Trusted}
 use Rattle.session_theorems.proofs.Turns.{key-fine, warm-of-fits}
 

@@ -47,6 +47,7 @@ use Rattle.search.specs.declared.Step.{Step}
 use Rattle.search.specs.declared.Tally.{Tally}
 use Rattle.search.specs.declared.Wanted.{Wanted}
 use Rattle.search.specs.declared.Wanted.the-variants as Wants
+use Rattle.search.proofs.FitLaws.{fit-effects, fit-bound}
 use Rattle.machine.specs.Machine.{Moved, on}
 use Rattle.population.specs.Kept.{Recalled, words}
 use Rattle.population.specs.Population.{rowsOf, Worked, answered, atPoint, nextSubject, Ended, closing, atMode, servedBy, served, turned, Whole, moved, turn, receive, take as takes}
@@ -66,7 +67,7 @@ use Rattle.session_theorems.proofs.Formats.{kept-sums, point1, point2, 
 use Rattle.session_theorems.proofs.Limits.{Numbered}
 use Rattle.session_theorems.proofs.Placed.{Going}
 use Rattle.session_theorems.proofs.Searches.{Suits}
-use Rattle.session_theorems.proofs.Standing.{Standing, fit-effects, fit-bound}
+use Rattle.session_theorems.proofs.Standing.{Standing}
 use Rattle.session_theorems.proofs.Stores.{Trusted}
 
 zero-fits : Fits (word 0)

@@ -42,6 +42,7 @@ use Rattle.search.specs.declared.Fit.{Fit}
 use Rattle.search.specs.declared.Mode.{Mode}
 use Rattle.search.specs.declared.Progress.{Progress}
 use Rattle.search.specs.declared.Wanted.the-variants as Wants
+use Rattle.search.proofs.FitLaws.{fit-effects}
 use Rattle.machine.specs.Rules.{Trial}
 use Rattle.population.specs.Population.{warmOf, warmStored}
 use Rattle.session_theorems.specs.Inner.{Inner, rules1, inner1, inner2}
@@ -51,7 +52,6 @@ use Rattle.session_theorems.proofs.Middle.{middle-zero}
 use Rattle.session_theorems.proofs.Plain.{true-not-false}
 use Rattle.session_theorems.proofs.Results.{past-two}
 use Rattle.session_theorems.proofs.Searches.{one-not-two, wanted-one, point-one, is-two, wanted-two, point-two}
-use Rattle.session_theorems.proofs.Standing.{fit-effects}
 use Rattle.session_theorems.proofs.Trials.{Has, NthHas, nth-so, SameBlocks, Moves, Movable, Trial1, Carried1, begun1, same1, movable1, step1, end1, Trial2, Carried2, begun2, same2, movable2}
 use Rattle.session_theorems.proofs.Trials.{step2, end2}
 

@@ -36,6 +36,7 @@ use Rattle.search.specs.declared.Wanted.the-variants as Wants
 use Rattle.search.specs.declared.Mode.{Mode}
 use Rattle.search.specs.declared.Closed.{Closed}
 use Rattle.search.specs.declared.Closed.the-variants.{Positive, NotPositive}
+use Rattle.search.proofs.FitLaws.{fit-effects, fit-k, fit-most, fit-bound}
 use Rattle.cache.specs.declared.CacheKey.{CacheKey}
 use Rattle.machine.specs.Lawful.{Over, Turn}
 use Rattle.machine.specs.Lawful.Turn.{hit, short, wild, miss, next, barred, last, fails}
@@ -55,7 +56,7 @@ use Rattle.session_theorems.proofs.Fitting.{Fits, FitsBoth}
 use Rattle.session_theorems.proofs.Lengths.{AsLong, zeros-length, move-rows-length}
 use Rattle.session_theorems.proofs.Points.{WithinEdge, zero-in-16, Passed, values-within}
 use Rattle.session_theorems.proofs.Searches.{Suits, wantsOf}
-use Rattle.session_theorems.proofs.Standing.{Alike, advanced-alike, recallOf, Standing, still, fit-effects, fit-k, fit-most, fit-bound}
+use Rattle.session_theorems.proofs.Standing.{Alike, advanced-alike, recallOf, Standing, still}
 use Rattle.session_theorems.proofs.Stores.{Fine, Trusted}
 
 -- ---- the bits of a point tell it

@@ -39,6 +39,7 @@ use Rattle.search.specs.declared.Step.the-variants as Answers
 use Rattle.search.specs.declared.Tally.{Tally}
 use Rattle.search.specs.declared.Wanted.{Wanted}
 use Rattle.search.specs.declared.Wanted.the-variants as Wants
+use Rattle.search.proofs.FitLaws.{fit-effects}
 use Rattle.machine.specs.Machine.{Moved, on, halt, Ran, onward, loop, call, run}
 use Rattle.population.specs.Kept.{Recalled, words}
 use Rattle.population.specs.Population.{rowsOf, warmStored, raised, Worked, answered, atPoint, nextSubject, Ended, closing, atMode, servedBy, served, turned, Whole, wholeOf, moved, turn, spent, take}
@@ -57,7 +58,7 @@ use Rattle.session_theorems.proofs.Placed.{before-later, all-before, ro
 use Rattle.session_theorems.proofs.Results.{past-two, result-kept, result-past}
 use Rattle.session_theorems.proofs.Searches.{Suits, suits1, suits2}
 use Rattle.session_theorems.proofs.Session.{some-room}
-use Rattle.session_theorems.proofs.Standing.{fit-effects, advanced-alike}
+use Rattle.session_theorems.proofs.Standing.{advanced-alike}
 
 -- ---- the warm start of subject j is stored, and those of the later ones stay
 warm-past : (effects j : ℕ) (eta : Pair) (warm : List ℕ) (x : ℕ) → (effects ≡ 1) ⊎ (effects ≡ 2) → effects * suc j ≤ x → getD (warmStored effects j eta warm) x 0 ≡ getD warm x 0

@@ -51,6 +51,7 @@ use Rattle.search.specs.declared.Step.{Step}
 use Rattle.search.specs.declared.Tally.{Tally}
 use Rattle.search.specs.declared.Wanted.{Wanted}
 use Rattle.search.specs.declared.Wanted.the-variants as Wants
+use Rattle.search.proofs.FitLaws.{fit-effects}
 use Rattle.machine.specs.Log.{Searched}
 use Rattle.machine.specs.Machine.{Moved, on, Machine, Act}
 use Rattle.machine.specs.Observed.{View, wantedAt}
@@ -76,7 +77,7 @@ use Rattle.session_theorems.proofs.Placed.{before-later, all-before, ro
 use Rattle.session_theorems.proofs.Results.{Predicted, SameAt, result-kept, first-written, second-written, nll-written, fitted-written, grid-same, grid-other}
 use Rattle.session_theorems.proofs.Searches.{Suits, suits1, suits2, wantsOf}
 use Rattle.session_theorems.proofs.Session.{sets, lawful, opens-standing, some-room}
-use Rattle.session_theorems.proofs.Standing.{Standing, fit-effects, advanced-alike}
+use Rattle.session_theorems.proofs.Standing.{Standing, advanced-alike}
 use Rattle.session_theorems.proofs.Stores.{Trusted, words-trusted}
 use Rattle.session_theorems.proofs.Trials.{Has, NthHas, SameBlocks}
 use Rattle.session_theorems.proofs.Turns.{turns}

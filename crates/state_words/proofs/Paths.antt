@@ -5,8 +5,10 @@ use mathlib.Core.List.{List, [], _∷_, _++_}
 use Prim.Native.Nat.{ℕ, zero, suc, _+_, _≤_, _<_}
 use native.Mathlib.Nat.{not-suc-le-zero, le-of-suc-le-suc, add-zero}
 use native.Mathlib.Omega.{arith}
+use borrow.Author.Tests.{eq-eqb, ne-eqb}
 use lib.ListN.{getD, set, length, drop, drop-of-length-le}
-use Rattle.float64.specs.Answer.{Answer, given, refused}
+use Rattle.float64.specs.Answer.{Answer, given, refused, through}
+use Rattle.float64.specs.Pick.{yes, no}
 use Rattle.mode.specs.declared.population_focei.Search.{Search}
 use Rattle.mode_2d.specs.declared.population_focei_2d.Search2.{Search2}
 use Rattle.state_words.specs.SearchWords as one
@@ -21,38 +23,52 @@ use Rattle.subject.specs.declared.AdditiveSd.{AdditiveSd}
 use Rattle.subject.specs.declared.AdditiveSd.the-variants.{Own, Override}
 use Rattle.setup.specs.declared.Parameters.{Parameters}
 use Rattle.search.specs.Subjects.{hasAdditive, additiveWord}
-use Rattle.search.specs.declared.Progress.{Progress}
+use Rattle.search.specs.declared.SubjectSearch.{SubjectSearch}
+use Rattle.search.specs.declared.SubjectSearch.the-variants.{One, Two}
 use Rattle.session.specs.declared.State.{State}
 use Rattle.state_words.specs.declared.LoadedState.{LoadedState}
 use Rattle.state_words.specs.declared.LoadedState.the-variants.{Given, None}
-use Rattle.state_words.specs.SessionWords.{bits, flag, stateAt, withBoth, withSearch, withSearches, answer, objectiveWords, progressWords, orderWords, stateWords, putFrom, savedState}
+use Rattle.state_words.specs.SessionWords.{at, bits, flag, stateAt, loadedSearch, withSearch, answer, objectiveWords, progressWords, orderWords, effectsWord, searchWords, stateWords, putFrom}
+use Rattle.state_words.specs.SessionWords.{savedState}
 
--- ---- load: what the words of a search came to
-module _ (words : List ℕ) (search : Search) {r : Loaded2} {ws : List ℕ} (e : ws ≡ wordsFrom 25 words 38) (a : two.answer r ≡ two.loaded ws) where
-  pub both-given : (search2 : Search2) {s : State} → r ≡ Loads2.Given search2 → s ≡ stateAt words search search2 → answer (Given s) ≡ withSearch words search
-  unfolding answer withSearch withBoth two.answer
-  both-given search2 q p =
-      let g : given search2 ≡ two.loaded (wordsFrom 25 words 38) = ap two.answer (sym q) ∙ a ∙ ap two.loaded e in
-      ap {B = Answer State} (λ (x : State). given x) p ∙ ap (λ (x : Answer Search2). withBoth words search x) g
+-- ---- load: ws are the words of the search, r what they came to
+module _ (words : List ℕ) where
+  pub no-search : (at words 18 ≡ 1 → ⊥) → (at words 18 ≡ 2 → ⊥) → answer None ≡ withSearch words
+  unfolding answer through withSearch loadedSearch
+  no-search n m =
+      let q : refused 19 ≡ loadedSearch (at words 18) (wordsFrom 25 words 19) = no _ (ne-eqb _ _ n) (no _ (ne-eqb _ _ m) refl) in
+      ap (through (stateAt words)) q
 
-  pub both-none : r ≡ Loads2.None → answer None ≡ withSearch words search
-  unfolding answer withSearch withBoth two.answer
-  both-none q =
-      let g : refused 19 ≡ two.loaded (wordsFrom 25 words 38) = ap two.answer (sym q) ∙ a ∙ ap two.loaded e in
-      ap (λ (x : Answer Search2). withBoth words search x) g
+  module _ {ws : List ℕ} (e : ws ≡ wordsFrom 25 words 19) where
+    searched : {x : Answer SubjectSearch} {z : Answer State} → x ≡ loadedSearch (at words 18) ws → z ≡ through (stateAt words) x → z ≡ withSearch words
+    unfolding withSearch
+    searched p q = q ∙ ap (through (stateAt words)) (p ∙ ap (loadedSearch (at words 18)) e)
 
-module _ (words : List ℕ) {r : Loaded} {ws : List ℕ} (e : ws ≡ wordsFrom 20 words 18) (a : one.answer r ≡ one.loaded ws) where
-  pub one-given : (search : Search) {z : Answer State} → r ≡ Loads.Given search → z ≡ withSearch words search → z ≡ withSearches words (one.loaded (wordsFrom 20 words 18))
-  unfolding withSearches one.answer
-  one-given search q p =
-      let g : given search ≡ one.loaded (wordsFrom 20 words 18) = ap one.answer (sym q) ∙ a ∙ ap one.loaded e in
-      p ∙ ap (λ (x : Answer Search). withSearches words x) g
+    module _ {r : Loaded} (h : at words 18 ≡ 1) (a : one.answer r ≡ one.loaded ws) where
+      as-one : {v : Loaded} → r ≡ v → through One (one.answer v) ≡ loadedSearch (at words 18) ws
+      unfolding loadedSearch
+      as-one t = yes _ (eq-eqb _ _ h) (ap (through One) (ap one.answer (sym t) ∙ a))
 
-  pub one-none : r ≡ Loads.None → answer None ≡ withSearches words (one.loaded (wordsFrom 20 words 18))
-  unfolding answer withSearches one.answer
-  one-none q =
-      let g : refused 19 ≡ one.loaded (wordsFrom 20 words 18) = ap one.answer (sym q) ∙ a ∙ ap one.loaded e in
-      ap (λ (x : Answer Search). withSearches words x) g
+      pub one-given : {x : Search} {s : State} → r ≡ Loads.Given x → s ≡ stateAt words (One x) → answer (Given s) ≡ withSearch words
+      unfolding answer through one.answer
+      one-given t p = searched (as-one t) (ap {B = Answer State} (λ (s : State). given s) p)
+
+      pub one-none : r ≡ Loads.None → answer None ≡ withSearch words
+      unfolding answer through one.answer
+      one-none t = searched (as-one t) refl
+
+    module _ {r : Loaded2} (n : at words 18 ≡ 1 → ⊥) (h : at words 18 ≡ 2) (a : two.answer r ≡ two.loaded ws) where
+      as-two : {v : Loaded2} → r ≡ v → through Two (two.answer v) ≡ loadedSearch (at words 18) ws
+      unfolding loadedSearch
+      as-two t = no _ (ne-eqb _ _ n) (yes _ (eq-eqb _ _ h) (ap (through Two) (ap two.answer (sym t) ∙ a)))
+
+      pub two-given : {x : Search2} {s : State} → r ≡ Loads2.Given x → s ≡ stateAt words (Two x) → answer (Given s) ≡ withSearch words
+      unfolding answer through two.answer
+      two-given t p = searched (as-two t) (ap {B = Answer State} (λ (s : State). given s) p)
+
+      pub two-none : r ≡ Loads2.None → answer None ≡ withSearch words
+      unfolding answer through two.answer
+      two-none t = searched (as-two t) refl
 
 -- ---- the words before the progress's own, with no override and with one
 module _ (awaits : Bool) (p : Parameters) {f t u o : ℕ} (ef : f ≡ flag awaits) (et : t ≡ bits (p .theta .first)) (eu : u ≡ bits (p .theta .second)) (eo : o ≡ bits (p .omega)) where
@@ -98,17 +114,17 @@ then n a b w e = let z : 0 + length a ≡ n = omega (arith, e) in put-append 0 a
 
 -- the words up to each part, as many as stand before it
 module _ (s : State) where
-  abbrev upTo6 : List ℕ
+  abbrev pub upTo6 : List ℕ
   upTo6 = objectiveWords (s .progress .awaits) (s .parameters)
 
-  abbrev upTo14 : List ℕ
+  abbrev pub upTo14 : List ℕ
   upTo14 = upTo6 ++ progressWords (s .progress)
 
-  abbrev upTo18 : List ℕ
+  abbrev pub upTo18 : List ℕ
   upTo18 = upTo14 ++ orderWords (s .order)
 
-  abbrev upTo38 : List ℕ
-  upTo38 = upTo18 ++ one.saved (s .progress .search)
+  abbrev pub upTo19 : List ℕ
+  upTo19 = upTo18 ++ (effectsWord (s .progress .search) ∷ [])
 
   six : length upTo6 ≡ 6
   unfolding objectiveWords
@@ -122,35 +138,35 @@ module _ (s : State) where
   unfolding objectiveWords progressWords orderWords
   eighteen = refl
 
-  thirty-eight : length upTo38 ≡ 38
-  unfolding objectiveWords progressWords orderWords one.saved one.wordsOf
-  thirty-eight = refl
+  pub nineteen : length upTo19 ≡ 19
+  unfolding objectiveWords progressWords orderWords
+  nineteen = refl
 
   whole :
       (w : List ℕ) → savedState s w
-      ≡ putFrom 38 (two.saved (s .progress .«search_2d»))
-      (putFrom 18 (one.saved (s .progress .search))
+      ≡ putFrom 19 (searchWords (s .progress .search))
+      (putFrom 18 (effectsWord (s .progress .search) ∷ [])
       (putFrom 14 (orderWords (s .order))
       (putFrom 6 (progressWords (s .progress))
       (putFrom 0 upTo6 w))))
   unfolding savedState stateWords
   whole w =
-      then 38 upTo38 (two.saved (s .progress .«search_2d»)) w thirty-eight
-      ∙ ap (λ (l : List ℕ). putFrom 38 (two.saved (s .progress .«search_2d»)) l)
-      (then 18 upTo18 (one.saved (s .progress .search)) w eighteen
-      ∙ ap (λ (l : List ℕ). putFrom 18 (one.saved (s .progress .search)) l)
+      then 19 upTo19 (searchWords (s .progress .search)) w nineteen
+      ∙ ap (λ (l : List ℕ). putFrom 19 (searchWords (s .progress .search)) l)
+      (then 18 upTo18 (effectsWord (s .progress .search) ∷ []) w eighteen
+      ∙ ap (λ (l : List ℕ). putFrom 18 (effectsWord (s .progress .search) ∷ []) l)
       (then 14 upTo14 (orderWords (s .order)) w fourteen
       ∙ ap (λ (l : List ℕ). putFrom 14 (orderWords (s .order)) l) (then 6 upTo6 (progressWords (s .progress)) w six)))
 
 pub saved-all :
-    (s : State) (w : List ℕ) {o p r x y w1 w2 w3 w4 w5 : List ℕ} →
+    (s : State) (w : List ℕ) {n : ℕ} {o p r x w1 w2 w3 w4 w5 : List ℕ} →
     o ≡ objectiveWords (s .progress .awaits) (s .parameters) → p ≡ progressWords (s .progress) → r ≡ orderWords (s .order) →
-    x ≡ one.saved (s .progress .search) → y ≡ two.saved (s .progress .«search_2d») →
-    w1 ≡ putFrom 0 o w → w2 ≡ putFrom 6 p w1 → w3 ≡ putFrom 14 r w2 → w4 ≡ putFrom 18 x w3 → w5 ≡ putFrom 38 y w4 →
+    n ≡ effectsWord (s .progress .search) → x ≡ searchWords (s .progress .search) →
+    w1 ≡ putFrom 0 o w → w2 ≡ putFrom 6 p w1 → w3 ≡ putFrom 14 r w2 → w4 ≡ putFrom 18 (n ∷ []) w3 → w5 ≡ putFrom 19 x w4 →
     w5 ≡ savedState s w
-saved-all s w eo ep er ex ey e1 e2 e3 e4 e5 =
+saved-all s w eo ep er en ex e1 e2 e3 e4 e5 =
     let f1 = e1 ∙ (λ d. putFrom 0 (eo d) w) in
     let f2 = e2 ∙ (λ d. putFrom 6 (ep d) (f1 d)) in
     let f3 = e3 ∙ (λ d. putFrom 14 (er d) (f2 d)) in
-    let f4 = e4 ∙ (λ d. putFrom 18 (ex d) (f3 d)) in
-    e5 ∙ (λ d. putFrom 38 (ey d) (f4 d)) ∙ sym (whole s w)
+    let f4 = e4 ∙ (λ d. putFrom 18 (en d ∷ []) (f3 d)) in
+    e5 ∙ (λ d. putFrom 19 (ex d) (f4 d)) ∙ sym (whole s w)

@@ -1,6 +1,7 @@
-// A search with one effect as twenty words, for a host that keeps it: its stage (0 grid, 1 warm, 2 secant, 3
-// halving), count, first, latest, fall (0 or 1), left, right and best. A float is its word, and a point the
-// words of its eta, nll, score and information. Each public function is defined for all words and searches.
+// A search with one effect as twenty-five words, as many as one with two effects has, for a host that keeps
+// it: its stage (0 grid, 1 warm, 2 secant, 3 halving), count, first, latest, fall (0 or 1), left, right, best,
+// and five zeros, which are not looked at again. A float is its word, and a point the words of its eta, nll,
+// score and information. Each public function is defined for all words and searches.
 ghost use mathlib.Core.Path.{_≡_};
 ghost use Prim.Native.Nat.{_<_};
 ghost use Rattle.state_words.specs.SearchWords.{conditionalAt, wordsOf, stageOf, stageWord, fallWord, loaded, saved, answer};
@@ -8,7 +9,7 @@ use mode::population_focei::Conditional;
 use mode::population_focei::Search;
 use mode::population_focei::Stage;
 
-// The answer of load: the search that twenty words stand for, or that they are no search.
+// The answer of load: the search that twenty-five words stand for, or that they are no search.
 pub enum Loaded {
     Given(Search),
     None,
@@ -50,7 +51,7 @@ fn fall_word(fall: bool) -> u64
 }
 
 // The point of the four words from i on.
-fn conditional_at(words: [u64; 20], i: usize) -> Conditional
+fn conditional_at(words: [u64; 25], i: usize) -> Conditional
     requires { ⌜ i < 17 ⌝ }
     ensures { λ r. ⌜ r ≡ conditionalAt words i ⌝ }
 {
@@ -73,9 +74,9 @@ fn words_of(c: Conditional) -> [u64; 4]
     ]
 }
 
-// The search that twenty words stand for. They are no search where the stage is above 3, the count does not
+// The search that twenty-five words stand for. They are no search where the stage is above 3, the count does not
 // fit in a u32, or the fall is above 1.
-pub fn load(words: [u64; 20]) -> Loaded
+pub fn load(words: [u64; 25]) -> Loaded
     ensures { λ r. ⌜ answer r ≡ loaded words ⌝ }
 {
     if words[0] > 3 {
@@ -105,8 +106,8 @@ pub fn load(words: [u64; 20]) -> Loaded
     })
 }
 
-// The twenty words of a search.
-pub fn save(x: Search) -> [u64; 20]
+// The words of a search.
+pub fn save(x: Search) -> [u64; 25]
     ensures { λ r. ⌜ r ≡ saved x ⌝ }
 {
     let at = x.stage;
@@ -139,5 +140,10 @@ pub fn save(x: Search) -> [u64; 20]
         best[1],
         best[2],
         best[3],
+        0,
+        0,
+        0,
+        0,
+        0,
     ]
 }

@@ -65,6 +65,21 @@ shared-slice-read-t39 c = search needs
 shared-slice-read-t41 : tie.Need-shared-slice-read-t41
 shared-slice-read-t41 c = search needs
 
+shared-slice-read-t43 : tie.Need-shared-slice-read-t43
+shared-slice-read-t43 c = search needs
+
+shared-slice-read-t45 : tie.Need-shared-slice-read-t45
+shared-slice-read-t45 c = search needs
+
+shared-slice-read-t47 : tie.Need-shared-slice-read-t47
+shared-slice-read-t47 c = search needs
+
+shared-slice-read-t49 : tie.Need-shared-slice-read-t49
+shared-slice-read-t49 c = search needs
+
+shared-slice-read-t51 : tie.Need-shared-slice-read-t51
+shared-slice-read-t51 c = search needs
+
 returns : tie.Need-returns
 unfolding wordsFrom
 returns c = refl
@@ -93,4 +108,9 @@ search-at-spec =
     shared-slice-read-t37
     shared-slice-read-t39
     shared-slice-read-t41
+    shared-slice-read-t43
+    shared-slice-read-t45
+    shared-slice-read-t47
+    shared-slice-read-t49
+    shared-slice-read-t51
     returns)

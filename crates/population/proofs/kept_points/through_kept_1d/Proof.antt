@@ -43,9 +43,9 @@ kept-again c =
     let t = c .before .before .before .before .before .before .before .before .before .before .before in
     let at = t .before .before .before .before .before in
     let here = t .before .before .before .before .before .before in
-    let d = here .before .before .before .before .before in
-    let taken = one-taken (d .args .fit) (d .args .rows) (d .args .start) (d .pre) (here .before .before .settings .ensures) _ _ _ (t .before .before .before .take-1d .ensures) in
-    let wanted = one-wanted (d .args .fit) (d .args .rows) (d .args .start) (d .pre) (here .before .before .settings .ensures) _ (t .wanted-1d .ensures) in (
+    let d = here .before .before .before .before in
+    let taken = one-taken (d .args .fit) (d .args .rows) (d .args .start) (d .pre) (here .before .settings .ensures) _ _ _ (t .before .before .before .take-1d .ensures) in
+    let wanted = one-wanted (d .args .fit) (d .args .rows) (d .args .start) (d .pre) (here .before .settings .ensures) _ (t .wanted-1d .ensures) in (
       goes-on _ _ _ _ _ _ _ taken wanted (c .before .before .before .before .before .before .before .before .before .before .is-over .ensures)
           (c .before .before .before .before .before .before .before .before .before .eta-of .ensures) (c .before .before .before .before .before .before .before .before .kept-at .ensures)
           (c .before .before .before .before .before .before .slot .given .1) (c .before .before .before .recall-rows .ensures) (c .recall .ensures) ∙ at .kept .inv .0,
@@ -65,11 +65,11 @@ returns c =
     let t = c .before .before .before .before .before in
     let at = t .before .before .before .before .before in
     let here = t .before .before .before .before .before .before in
-    let d = here .before .before .before .before .before in
-    let taken = one-taken (d .args .fit) (d .args .rows) (d .args .start) (d .pre) (here .before .before .settings .ensures) _ _ _ (t .before .before .before .take-1d .ensures) in
-    let wanted = one-wanted (d .args .fit) (d .args .rows) (d .args .start) (d .pre) (here .before .before .settings .ensures) _ (t .wanted-1d .ensures) in
+    let d = here .before .before .before .before in
+    let taken = one-taken (d .args .fit) (d .args .rows) (d .args .start) (d .pre) (here .before .settings .ensures) _ _ _ (t .before .before .before .take-1d .ensures) in
+    let wanted = one-wanted (d .args .fit) (d .args .rows) (d .args .start) (d .pre) (here .before .settings .ensures) _ (t .wanted-1d .ensures) in
     stops _ _ _ _ _ _ _ taken wanted (c .before .before .before .before .is-over .ensures) (c .before .before .before .eta-of .ensures) (c .before .before .kept-at .ensures) (c .enum-told .given .1) ∙
-    at .kept .inv .0 ∙ from-one _ _ _ _ _ _ _ (d .pre) (here .before .one-of .ensures)
+    at .kept .inv .0 ∙ from-one _ _ _ _ _ _ _ (d .pre) (here .one-of .ensures)
 
 pub through-kept-1d-spec : {M : Type 1} → statement M
 through-kept-1d-spec =
