@@ -38,27 +38,27 @@ put-from-requires-5 c κs = search needs
 
 same-length : tie.Need-same-length
 same-length c =
-    let two = c .before .before in
-    let one = two .before .before .before .before .before in
-    let order = one .before .before .before .before .before in
+    let searched = c .before .before in
+    let effects = searched .before .before .before .before .before in
+    let order = effects .before .before .before .before .before in
     let position = order .before .before .before .before .before in
     let objective = position .before .before .before .before .before in
-    two .put-from5 .kept .1 .1 .0 ∙ one .put-from4 .kept .1 .1 .0 ∙ order .put-from3 .kept .1 .1 .0 ∙ position .put-from2 .kept .1 .1 .0 ∙ objective .put-from .kept .1 .1 .0
+    searched .put-from5 .kept .1 .1 .0 ∙ effects .put-from4 .kept .1 .1 .0 ∙ order .put-from3 .kept .1 .1 .0 ∙ position .put-from2 .kept .1 .1 .0 ∙ objective .put-from .kept .1 .1 .0
 
 returns : tie.Need-returns
 returns c =
-    let two = c .before .before in
-    let one = two .before .before .before .before .before in
-    let order = one .before .before .before .before .before in
+    let searched = c .before .before in
+    let effects = searched .before .before .before .before .before in
+    let order = effects .before .before .before .before .before in
     let position = order .before .before .before .before .before in
     let objective = position .before .before .before .before .before in
-    let two-words = objective .before .before .before in
-    let one-words = two-words .before in
-    let order-words = one-words .before in
+    let search-words = objective .before .before .before in
+    let effects-word = search-words .before in
+    let order-words = effects-word .before in
     let position-words = order-words .before in
-    saved-all _ _ (position-words .before .objective-words .ensures) (position-words .progress-words .ensures) (order-words .order-words .ensures) (one-words .save .ensures)
-    (two-words .save2 .ensures)
-    (objective .put-from .ensures) (position .put-from2 .ensures) (order .put-from3 .ensures) (one .put-from4 .ensures) (two .put-from5 .ensures)
+    saved-all _ _ (position-words .before .objective-words .ensures) (position-words .progress-words .ensures) (order-words .order-words .ensures) (effects-word .effects-word .ensures)
+    (search-words .search-words .ensures)
+    (objective .put-from .ensures) (position .put-from2 .ensures) (order .put-from3 .ensures) (effects .put-from4 .ensures) (searched .put-from5 .ensures)
 
 pub save-spec : {M : Type 1} → statement M
 save-spec =
