@@ -235,11 +235,11 @@ module _ (N : ℕ → Type 0) (Refuses : ℕ → Place → ℕ → Type 0) (setu
         cases (λ (x : Worked Turned). Ends (ended (x .value) (x .work) warm results)) (ltb subject (length counts))
         (λ t. record { turned = begun (ltb-true _ _ t) _ _ _ _; work = zeros-length _ ∙ g .work }) (λ f. record { turned = finishes _ _; work = g .work })
       where
-        begun : subject < length counts → (first : ℕ) (warmth : Pair) (ofv squares : Float) → Ahead n (B.beginSubject subject first warmth ofv squares)
+        begun : subject < length counts → (first : ℕ) (warmth : Pair) (ofv squares : Float) → Ahead n (B.beginSubject (fit .effects) subject first warmth ofv squares)
         begun l first warmth ofv squares = unfold B.beginSubject in record {
           subject = l;
           left = 6343;
-          search = begins N (tells .known) two subject first warmth ofv squares;
+          search = begins N (tells .known) two (fit .effects) subject first warmth ofv squares;
           enough = subst (λ (i : ℕ). 6343 + (length counts - i) * 6344 ≤ n + 6343) (sym raised-is) (go (a .left) (length counts) (p .subject) (a .subject) (a .enough));
         }
           where

@@ -279,7 +279,7 @@ module _ (setup : Setup) (counts : List ℕ) (h : Held words) where
         begun few some = unfold Enters S.begun B.beginSubject in (
           few,
           record {
-            ahead = record { subject = omega (arith, some); left = 6343; search = begins OfSearch (endings most c .known) _ 0 0 _ _ _; enough = omega (arith, few) };
+            ahead = record { subject = omega (arith, some); left = 6343; search = begins OfSearch (endings most c .known) _ _ 0 0 _ _ _; enough = omega (arith, few) };
             work = refl;
             calls = refl;
           },

@@ -119,7 +119,7 @@ module _ (S : Store) (setup : Setup) (counts : List ℕ) (observations : List Ob
             omega-in = a .omega-in;
             shape-in = a .shape-in;
             warm-fits = f;
-            pointed = Q .pointed-start 0 0 _ _ _;
+            pointed = Q .pointed-start (setup .effects) 0 0 _ _ _;
             count = s .count;
             trust = s .trust;
             few = s .few;
@@ -128,7 +128,7 @@ module _ (S : Store) (setup : Setup) (counts : List ℕ) (observations : List Ob
           domain = Q .domain setup parameters _ refl bound (a .omega-in) (a .shape-in) f;
           subject = refl;
           within = some-subject;
-          search = Q .starts 0 0 _ _ _;
+          search = Q .starts (setup .effects) 0 0 _ _ _;
           tally = refl;
         })
 

@@ -230,14 +230,14 @@ module _ (setup : Setup) (counts : List ℕ) where
         next-subject : raised j 1 ≡ suc j
         next-subject = let q = g .place .subject in mod-eq-of-lt (omega (arith, q, a .most)) ∙ omega arith
 
-        next-begins : (i first : ℕ) (warm : Pair) (ofv squares : Float) → i ≡ suc j → Ends (On (B.beginSubject i first warm ofv squares)) stored written
+        next-begins : (effects i first : ℕ) (warm : Pair) (ofv squares : Float) → i ≡ suc j → Ends (On (B.beginSubject effects i first warm ofv squares)) stored written
         unfolding Ends B.beginSubject
-        next-begins i first warm ofv squares e work =
-            let q = B.beginSubject i first warm ofv squares in subst (λ (n : ℕ). Stays setup counts n n ref (to q (w .tally) work stored written)) (sym e) (next-stays q work)
+        next-begins effects i first warm ofv squares e work =
+            let q = B.beginSubject effects i first warm ofv squares in subst (λ (n : ℕ). Stays setup counts n n ref (to q (w .tally) work stored written)) (sym e) (next-stays q work)
 
         next : Ends (nextSubject fit counts p (w .tally) m rows stored (w .work) .value) stored written
         unfolding nextSubject
-        next = both (λ (x : Worked Turned). Ends (x .value) stored written) _ (next-begins _ _ _ _ _ next-subject) (ends _ _)
+        next = both (λ (x : Worked Turned). Ends (x .value) stored written) _ (next-begins _ _ _ _ _ _ next-subject) (ends _ _)
 
         at-17 : Ends (Halt (B.refusedBy p (w .tally) 17 (At.Subject j))) stored (w .results)
         unfolding Ends B.refusedBy pick

@@ -388,9 +388,9 @@ module _ (setup : Setup) (counts : List ℕ) (observations : List Observation) (
     refuses n place work warm results f = (λ e. absurd (let z : _≡_ {A = ℕ} 0 1 = cc in omega arith), λ k e x i. f k (let q : k ≡ n = cc in q) x i)
 
     -- a search that has just begun carries nothing yet
-    nothing-carried : (st : I .rules .Settings) (subject first : ℕ) (warm : Pair) (ofv squares : Float) (rows : ℕ → List ℕ) → X .Carried st []
-        (I .searchOf (B.beginSubject subject first warm ofv squares)) rows
-    nothing-carried st subject first warm ofv squares rows = subst (λ (x : I .rules .Search). X .Carried st [] x rows) (sym (Q .starts subject first warm ofv squares)) (X .begun st rows)
+    nothing-carried : (st : I .rules .Settings) (effects subject first : ℕ) (warm : Pair) (ofv squares : Float) (rows : ℕ → List ℕ) → X .Carried st []
+        (I .searchOf (B.beginSubject effects subject first warm ofv squares)) rows
+    nothing-carried st effects subject first warm ofv squares rows = subst (λ (x : I .rules .Search). X .Carried st [] x rows) (sym (Q .starts effects subject first warm ofv squares)) (X .begun st rows)
 
     module _ (m : Mode) (o : OfMode I L m (I .rules .best (I .searchOf p))) (wants : B.wantedBy fit p ≡ Wants.Mode) (positive : B.closedBy fit p rows ≡ Positive m) where
       abbrev next : ℕ
@@ -404,14 +404,14 @@ module _ (setup : Setup) (counts : List ℕ) (observations : List Observation) (
 
       module _ (same : isSameGrid (w .work) rows ≡ true) where
         begins : (first : ℕ) (squares : Float) (work : List ℕ) → Ends h
-            (closeTurn (ended (On (B.beginSubject next first (warmOf (stored m o) (fit .effects) next) sum squares)) work (stored m o) (written m o)))
+            (closeTurn (ended (On (B.beginSubject (fit .effects) next first (warmOf (stored m o) (fit .effects) next) sum squares)) work (stored m o) (written m o)))
         unfolding Closes N.heldBy moved isOver pick B.beginSubject
         begins first squares work = (
           λ x i. (in-words m o wants x i _ _ _ same, adds-up m o wants x i positive),
-          X .starts setup (h .parameters) (B.beginSubject next first (warmOf (stored m o) (fit .effects) next) sum squares) (stored m o) next refl
+          X .starts setup (h .parameters) (B.beginSubject (fit .effects) next first (warmOf (stored m o) (fit .effects) next) sum squares) (stored m o) next refl
               (ap (λ (n : ℕ). warmOf (stored m o) n next) effects-are)
               ∙ ap (L .settings setup (h .parameters) (stored m o)) next-is ∙ warm-other m o (suc j) (λ e. omega (arith, e)),
-          nothing-carried _ next first (warmOf (stored m o) (fit .effects) next) sum squares _,
+          nothing-carried _ (fit .effects) next first (warmOf (stored m o) (fit .effects) next) sum squares _,
         )
 
         finishes : (squares : Float) → Ends h (closeTurn (ended (Halt (B.objectiveOf p (w .tally) sum squares)) (w .work) (stored m o) (written m o)))
@@ -654,7 +654,7 @@ module _ (setup : Setup) (counts : List ℕ) (observations : List Observation) (
 
     begun-opens : (parameters : Parameters) → Begins (objective parameters) h (on (N.begun words setup counts parameters w))
     unfolding Opens N.begun B.beginSubject
-    begun-opens parameters = (X .starts setup parameters _ (w .warm) 0 refl refl, λ i l. refl, refl, nothing-carried _ 0 0 (warmOf (w .warm) (setup .effects) 0) (word 0) (word 0) _, refl)
+    begun-opens parameters = (X .starts setup parameters _ (w .warm) 0 refl refl, λ i l. refl, refl, nothing-carried _ (setup .effects) 0 0 (warmOf (w .warm) (setup .effects) 0) (word 0) (word 0) _, refl)
 
     admitted-opens : (parameters : Parameters) (v : Admission) → Begins (objective parameters) h (N.whenAdmitted words setup counts h (on (N.begun words setup counts parameters w)) v)
     unfolding N.whenAdmitted
