@@ -27,6 +27,7 @@ use Rattle.setup.proofs.Bounds.{not-first}
 use Rattle.setup.specs.SubjectChecks.{subjectChecks}
 use Rattle.search.specs.Subjects as B
 use Rattle.search.specs.declared.Place.{Place}
+use Rattle.search.specs.declared.SubjectSearch.{SubjectSearch}
 use Rattle.search.specs.declared.Place.the-variants as At
 use Rattle.search.specs.declared.Step.{Step}
 use Rattle.search.specs.declared.Step.the-variants as Answers

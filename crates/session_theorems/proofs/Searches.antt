@@ -11,11 +11,13 @@ use Rattle.float64.specs.Arithmetic.{word}
 use Rattle.float64.specs.Float64.{nonfinite}
 use Rattle.float64.specs.Pick.{cases, pick-yes, pick-no}
 use Rattle.matrix.specs.declared.Pair.{Pair}
-use Rattle.mode.specs.Rules.{request}
+use Rattle.mode.specs.Rules.{request, start}
+use Rattle.mode.specs.declared.population_focei.Search.{Search}
 use Rattle.mode.specs.declared.population_focei.Request.{Request}
 use Rattle.mode.specs.declared.population_focei.Request.the-variants as One
 use Rattle.mode_2d.specs.Rules as R2
 use Rattle.mode_2d.specs.declared.population_focei_2d.Request2.{Request2}
+use Rattle.mode_2d.specs.declared.population_focei_2d.Search2.{Search2}
 use Rattle.mode_2d.specs.declared.population_focei_2d.Request2.the-variants as Two
 use Rattle.mode_theorems.specs.History as H1
 use Rattle.mode_theorems.specs.History2 as H2

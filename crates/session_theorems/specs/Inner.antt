@@ -36,7 +36,7 @@ use Rattle.cache.specs.Cache.{rowWords}
 use Rattle.cache.specs.Kept.{wordsFrom}
 use Rattle.work.specs.Work.{block}
 use Rattle.setup.specs.declared.Setup.{Setup}
-use Rattle.search.specs.Subjects.{fitOf, settings, settings2, wantedBy, keyOf, sumsOf}
+use Rattle.search.specs.Subjects.{fitOf, settings, settings2, oneOf, twoOf, wantedBy, keyOf, sumsOf}
 use Rattle.search.specs.declared.Fit.{Fit}
 use Rattle.search.specs.declared.Progress.{Progress}
 use Rattle.search.specs.declared.Step.{Step}

@@ -25,16 +25,15 @@ use Rattle.mode_2d.specs.declared.population_focei_2d.Stage2.the-variants.{Zero
 use Rattle.mode_2d.specs.declared.population_focei_2d.Search2.{Search2}
 use Rattle.state_words.specs.SearchWords as one
 use Rattle.state_words.specs.SearchWords2 as two
-use Rattle.cache.specs.Kept.{wordsFrom}
 use Rattle.subject.specs.declared.AdditiveSd.{AdditiveSd}
 use Rattle.subject.specs.declared.AdditiveSd.the-variants.{Own, Override}
 use Rattle.search.specs.Subjects.{oneOf, twoOf, hasAdditive, additiveWord}
 use Rattle.search.specs.declared.SubjectSearch.{SubjectSearch}
 use Rattle.search.specs.declared.SubjectSearch.the-variants.{One, Two}
 use Rattle.session.specs.declared.State.{State}
-use Rattle.state_words.specs.SessionWords.{stateSize, bits, flag, stateWords, putFrom, savedState, objectiveWords, progressWords, orderWords, effectsWord, searchWords, at, pairAt}
+use Rattle.state_words.specs.SessionWords.{stateSize, bits, flag, stateWords, putFrom, savedState, objectiveWords, progressWords, orderWords, searchWords, at, pairAt}
 use Rattle.state_words.specs.SessionWords.{additiveAt, parametersAt, progressAt, orderAt, stateAt, loadedSearch, withSearch, loadedState}
-use Rattle.state_words.proofs.Paths.{upTo19, nineteen}
+use Rattle.state_words.proofs.Paths.{upTo18, eighteen}
 
 -- ---- where the words go
 shift : (i : ℕ) (l : List ℕ) (x : ℕ) (w : List ℕ) → putFrom (suc i) l (x ∷ w) ≡ x ∷ putFrom i l w
@@ -50,14 +49,14 @@ first [] w h = refl
 first (x ∷ l) [] h = absurd (not-suc-le-zero h)
 first (x ∷ l) (y ∷ w) h = shift 0 l x w ∙ ap (λ (r : List ℕ). x ∷ r) (first l w (le-of-suc-le-suc h))
 
-search-length : (x : SubjectSearch) → length (searchWords x) ≡ 25
+search-length : (x : SubjectSearch) → length (searchWords x) ≡ 26
 unfolding searchWords one.saved one.wordsOf two.saved two.wordsOf
 search-length (One x) = refl
 search-length (Two x) = refl
 
 state-length : (s : State) → length (stateWords s) ≡ stateSize
 unfolding stateWords
-state-length s = omega (arith, length-append (upTo19 s) (searchWords (s .progress .search)), nineteen s, search-length (s .progress .search))
+state-length s = omega (arith, length-append (upTo18 s) (searchWords (s .progress .search)), eighteen s, search-length (s .progress .search))
 
 pub saved-first : (s : State) (w : List ℕ) → stateSize ≤ length w → savedState s w ≡ stateWords s ++ drop stateSize w
 unfolding savedState
@@ -117,9 +116,9 @@ unfolding one.fallWord pick
 fall-low true = refl
 fall-low false = refl
 
-search-of : (x : Search) → FitsSearch x → one.searchOf (one.saved x) ≡ x
+search-of : (x : Search) (rest : List ℕ) → FitsSearch x → one.searchOf (one.saved x ++ rest) ≡ x
 unfolding one.searchOf one.conditionalAt one.saved one.wordsOf
-search-of x f =
+search-of x rest f =
     let s = stage-back (x .stage) in
     let i = float-back _ (f .first) in
     let a = point-back _ (f .latest) in
@@ -129,14 +128,14 @@ search-of x f =
     let m = point-back _ (f .best) in
     λ d. record { stage = s d; count = x .count; first = i d; latest = a d; fall = b d; left = l d; right = r d; best = m d }
 
-pub search-back : (x : Search) → FitsSearch x → one.loaded (one.saved x) ≡ given x
+search-back : (x : Search) (rest : List ℕ) → FitsSearch x → one.loaded (one.saved x ++ rest) ≡ given x
 unfolding one.loaded one.saved one.wordsOf
-search-back x f =
+search-back x rest f =
     sym
     (no _ (stage-low (x .stage))
     (no _ (le-ltb _ _ (f .count))
     (no _ (fall-low (x .fall))
-    (ap {B = Answer Search} (λ (y : Search). given y) (sym (search-of x f))))))
+    (ap {B = Answer Search} (λ (y : Search). given y) (sym (search-of x rest f))))))
 
 -- ---- a search with two effects
 pub record FitsPair (p : Pair) : Type 0 where
@@ -211,9 +210,9 @@ stage2-back Trial = refl
 stage2-back Found = refl
 stage2-back (Halted n) = halted-back n (4 + n) refl
 
-search2-of : (x : Search2) → FitsSearch2 x → two.searchOf (two.saved x) ≡ x
+search2-of : (x : Search2) (rest : List ℕ) → FitsSearch2 x → two.searchOf (two.saved x ++ rest) ≡ x
 unfolding two.searchOf two.conditionalAt two.pairAt two.saved two.wordsOf
-search2-of x f =
+search2-of x rest f =
     let s = stage2-back (x .stage) in
     let c = point2-back _ (f .current) in
     let t = pair-back _ (f .trial) in
@@ -221,15 +220,15 @@ search2-of x f =
     let b = point2-back _ (f .best) in
     λ d. record { stage = s d; seed = x .seed; round = x .round; reduction = x .reduction; current = c d; trial = t d; decrease = e d; best = b d }
 
-pub search2-back : (x : Search2) → FitsSearch2 x → two.loaded (two.saved x) ≡ given x
+search2-back : (x : Search2) (rest : List ℕ) → FitsSearch2 x → two.loaded (two.saved x ++ rest) ≡ given x
 unfolding two.loaded two.saved two.wordsOf
-search2-back x f =
+search2-back x rest f =
     sym
     (no _ (le-ltb _ _ (f .stage))
     (no _ (le-ltb _ _ (f .seed))
     (no _ (le-ltb _ _ (f .round))
     (no _ (le-ltb _ _ (f .reduction))
-    (ap {B = Answer Search2} (λ (y : Search2). given y) (sym (search2-of x f)))))))
+    (ap {B = Answer Search2} (λ (y : Search2). given y) (sym (search2-of x rest f)))))))
 
 -- ---- a state
 unfoldable pub FitsAdditive : AdditiveSd → Type 0
@@ -266,11 +265,6 @@ unfolding flag pick
 flag-low true = refl
 flag-low false = refl
 
-subject-back : (x : SubjectSearch) → FitsSearch (oneOf x) → FitsSearch2 (twoOf x) → loadedSearch (effectsWord x) (searchWords x) ≡ given x
-unfolding loadedSearch effectsWord searchWords pick through
-subject-back (One x) f g = ap (through One) (search-back x f)
-subject-back (Two x) f g = ap (through Two) (search2-back x g)
-
 module _ (s : State) (rest : List ℕ) where
   abbrev words : List ℕ
   words = stateWords s ++ rest
@@ -283,18 +277,12 @@ module _ (s : State) (rest : List ℕ) where
   unfolding stateWords objectiveWords
   fourth = refl
 
-  eighteenth : at words 18 ≡ effectsWord (s .progress .search)
-  unfolding stateWords objectiveWords progressWords orderWords
-  eighteenth = refl
-
-  from-19 : (x : SubjectSearch) → wordsFrom 25 (upTo19 s ++ searchWords x ++ rest) 19 ≡ searchWords x
-  unfolding wordsFrom objectiveWords progressWords orderWords searchWords one.saved one.wordsOf two.saved two.wordsOf
-  from-19 (One x) = refl
-  from-19 (Two x) = refl
-
-  search-words : wordsFrom 25 words 19 ≡ searchWords (s .progress .search)
-  unfolding stateWords
-  search-words = from-19 (s .progress .search)
+  -- the search, at its place behind the other words
+  subject-back : (x : SubjectSearch) → FitsSearch (oneOf x) → FitsSearch2 (twoOf x)
+      → let w = upTo18 s ++ searchWords x ++ rest in loadedSearch (at w 18) (drop 19 w) ≡ given x
+  unfolding loadedSearch objectiveWords progressWords orderWords searchWords one.saved one.wordsOf two.saved two.wordsOf pick through
+  subject-back (One x) f g = ap (through One) (search-back x (0 ∷ 0 ∷ 0 ∷ 0 ∷ 0 ∷ rest) f)
+  subject-back (Two x) f g = ap (through Two) (search2-back x rest g)
 
   long : stateSize ≤ length words
   long = omega (arith, length-append (stateWords s) rest, state-length s)
@@ -328,11 +316,8 @@ module _ (s : State) (rest : List ℕ) where
       }
 
   searched : FitsState s → withSearch words ≡ given s
-  unfolding withSearch through
-  searched f =
-      (λ d. through (stateAt words) (loadedSearch (eighteenth d) (search-words d)))
-      ∙ ap (through (stateAt words)) (subject-back (s .progress .search) (f .one) (f .two))
-      ∙ ap {B = Answer State} (λ (x : State). given x) (state-of f)
+  unfolding withSearch stateWords through
+  searched f = ap (through (stateAt words)) (subject-back (s .progress .search) (f .one) (f .two)) ∙ ap {B = Answer State} (λ (x : State). given x) (state-of f)
 
   words-back : FitsState s → loadedState words ≡ given s
   unfolding loadedState

@@ -2,11 +2,12 @@
 use mathlib.Core.Path.{_≡_, refl, sym, ap, _∙_}
 use mathlib.Core.Bool.{Bool}
 use mathlib.Core.List.{List, [], _∷_, _++_}
-use Prim.Native.Nat.{ℕ, zero, suc, _+_, _≤_, _<_}
+use Prim.Native.Nat.{ℕ, zero, suc, _+_, _-_, _≤_, _<_}
 use native.Mathlib.Nat.{not-suc-le-zero, le-of-suc-le-suc, add-zero}
 use native.Mathlib.Omega.{arith}
 use borrow.Author.Tests.{eq-eqb, ne-eqb}
-use lib.ListN.{getD, set, length, drop, drop-of-length-le}
+use lib.ListN.{getD, set, length, length-drop, take, drop, drop-of-length-le}
+use lib.Seq.{take-all}
 use Rattle.float64.specs.Answer.{Answer, given, refused, through}
 use Rattle.float64.specs.Pick.{yes, no}
 use Rattle.mode.specs.declared.population_focei.Search.{Search}
@@ -17,7 +18,6 @@ use Rattle.state_words.specs.declared.one_effect.Loaded.the-variants as 
 use Rattle.state_words.specs.SearchWords2 as two
 use Rattle.state_words.specs.declared.two_effects.Loaded2.{Loaded2}
 use Rattle.state_words.specs.declared.two_effects.Loaded2.the-variants as Loads2
-use Rattle.cache.specs.Kept.{wordsFrom}
 use Rattle.cache.specs.declared.CacheOrder.{CacheOrder}
 use Rattle.subject.specs.declared.AdditiveSd.{AdditiveSd}
 use Rattle.subject.specs.declared.AdditiveSd.the-variants.{Own, Override}
@@ -28,47 +28,52 @@ use Rattle.search.specs.declared.SubjectSearch.the-variants.{One, Two}
 use Rattle.session.specs.declared.State.{State}
 use Rattle.state_words.specs.declared.LoadedState.{LoadedState}
 use Rattle.state_words.specs.declared.LoadedState.the-variants.{Given, None}
-use Rattle.state_words.specs.SessionWords.{at, bits, flag, stateAt, loadedSearch, withSearch, answer, objectiveWords, progressWords, orderWords, effectsWord, searchWords, stateWords, putFrom}
+use Rattle.state_words.specs.SessionWords.{at, bits, flag, stateAt, loadedSearch, withSearch, answer, objectiveWords, progressWords, orderWords, searchWords, stateWords, putFrom}
 use Rattle.state_words.specs.SessionWords.{savedState}
 
--- ---- load: ws are the words of the search, r what they came to
+-- ---- load: r is what the words of the search came to
 module _ (words : List ℕ) where
   pub no-search : (at words 18 ≡ 1 → ⊥) → (at words 18 ≡ 2 → ⊥) → answer None ≡ withSearch words
   unfolding answer through withSearch loadedSearch
   no-search n m =
-      let q : refused 19 ≡ loadedSearch (at words 18) (wordsFrom 25 words 19) = no _ (ne-eqb _ _ n) (no _ (ne-eqb _ _ m) refl) in
+      let q : refused 19 ≡ loadedSearch (at words 18) (drop 19 words) = no _ (ne-eqb _ _ n) (no _ (ne-eqb _ _ m) refl) in
       ap (through (stateAt words)) q
 
-  module _ {ws : List ℕ} (e : ws ≡ wordsFrom 25 words 19) where
-    searched : {x : Answer SubjectSearch} {z : Answer State} → x ≡ loadedSearch (at words 18) ws → z ≡ through (stateAt words) x → z ≡ withSearch words
-    unfolding withSearch
-    searched p q = q ∙ ap (through (stateAt words)) (p ∙ ap (loadedSearch (at words 18)) e)
+  -- the words from 19 on, as they are lent
+  abbrev lent : List ℕ
+  lent = take (length words - 19) (drop 19 words)
 
-    module _ {r : Loaded} (h : at words 18 ≡ 1) (a : one.answer r ≡ one.loaded ws) where
-      as-one : {v : Loaded} → r ≡ v → through One (one.answer v) ≡ loadedSearch (at words 18) ws
-      unfolding loadedSearch
-      as-one t = yes _ (eq-eqb _ _ h) (ap (through One) (ap one.answer (sym t) ∙ a))
+  searched : {x : Answer SubjectSearch} {z : Answer State} → x ≡ loadedSearch (at words 18) lent → z ≡ through (stateAt words) x → z ≡ withSearch words
+  unfolding withSearch
+  searched p q =
+      let all = take-all (length words - 19) (drop 19 words) (omega (arith, length-drop 19 words)) in
+      q ∙ ap (through (stateAt words)) (p ∙ ap (loadedSearch (at words 18)) all)
 
-      pub one-given : {x : Search} {s : State} → r ≡ Loads.Given x → s ≡ stateAt words (One x) → answer (Given s) ≡ withSearch words
-      unfolding answer through one.answer
-      one-given t p = searched (as-one t) (ap {B = Answer State} (λ (s : State). given s) p)
+  module _ {r : Loaded} (h : at words 18 ≡ 1) (a : one.answer r ≡ one.loaded lent) where
+    as-one : {v : Loaded} → r ≡ v → through One (one.answer v) ≡ loadedSearch (at words 18) lent
+    unfolding loadedSearch
+    as-one t = yes _ (eq-eqb _ _ h) (ap (through One) (ap one.answer (sym t) ∙ a))
 
-      pub one-none : r ≡ Loads.None → answer None ≡ withSearch words
-      unfolding answer through one.answer
-      one-none t = searched (as-one t) refl
+    pub one-given : {x : Search} {s : State} → r ≡ Loads.Given x → s ≡ stateAt words (One x) → answer (Given s) ≡ withSearch words
+    unfolding answer through one.answer
+    one-given t p = searched (as-one t) (ap {B = Answer State} (λ (s : State). given s) p)
 
-    module _ {r : Loaded2} (n : at words 18 ≡ 1 → ⊥) (h : at words 18 ≡ 2) (a : two.answer r ≡ two.loaded ws) where
-      as-two : {v : Loaded2} → r ≡ v → through Two (two.answer v) ≡ loadedSearch (at words 18) ws
-      unfolding loadedSearch
-      as-two t = no _ (ne-eqb _ _ n) (yes _ (eq-eqb _ _ h) (ap (through Two) (ap two.answer (sym t) ∙ a)))
+    pub one-none : r ≡ Loads.None → answer None ≡ withSearch words
+    unfolding answer through one.answer
+    one-none t = searched (as-one t) refl
 
-      pub two-given : {x : Search2} {s : State} → r ≡ Loads2.Given x → s ≡ stateAt words (Two x) → answer (Given s) ≡ withSearch words
-      unfolding answer through two.answer
-      two-given t p = searched (as-two t) (ap {B = Answer State} (λ (s : State). given s) p)
+  module _ {r : Loaded2} (n : at words 18 ≡ 1 → ⊥) (h : at words 18 ≡ 2) (a : two.answer r ≡ two.loaded lent) where
+    as-two : {v : Loaded2} → r ≡ v → through Two (two.answer v) ≡ loadedSearch (at words 18) lent
+    unfolding loadedSearch
+    as-two t = no _ (ne-eqb _ _ n) (yes _ (eq-eqb _ _ h) (ap (through Two) (ap two.answer (sym t) ∙ a)))
 
-      pub two-none : r ≡ Loads2.None → answer None ≡ withSearch words
-      unfolding answer through two.answer
-      two-none t = searched (as-two t) refl
+    pub two-given : {x : Search2} {s : State} → r ≡ Loads2.Given x → s ≡ stateAt words (Two x) → answer (Given s) ≡ withSearch words
+    unfolding answer through two.answer
+    two-given t p = searched (as-two t) (ap {B = Answer State} (λ (s : State). given s) p)
+
+    pub two-none : r ≡ Loads2.None → answer None ≡ withSearch words
+    unfolding answer through two.answer
+    two-none t = searched (as-two t) refl
 
 -- ---- the words before the progress's own, with no override and with one
 module _ (awaits : Bool) (p : Parameters) {f t u o : ℕ} (ef : f ≡ flag awaits) (et : t ≡ bits (p .theta .first)) (eu : u ≡ bits (p .theta .second)) (eo : o ≡ bits (p .omega)) where
@@ -123,9 +128,6 @@ module _ (s : State) where
   abbrev pub upTo18 : List ℕ
   upTo18 = upTo14 ++ orderWords (s .order)
 
-  abbrev pub upTo19 : List ℕ
-  upTo19 = upTo18 ++ (effectsWord (s .progress .search) ∷ [])
-
   six : length upTo6 ≡ 6
   unfolding objectiveWords
   six = refl
@@ -134,39 +136,43 @@ module _ (s : State) where
   unfolding objectiveWords progressWords
   fourteen = refl
 
-  eighteen : length upTo18 ≡ 18
+  pub eighteen : length upTo18 ≡ 18
   unfolding objectiveWords progressWords orderWords
   eighteen = refl
 
-  pub nineteen : length upTo19 ≡ 19
-  unfolding objectiveWords progressWords orderWords
-  nineteen = refl
-
   whole :
       (w : List ℕ) → savedState s w
-      ≡ putFrom 19 (searchWords (s .progress .search))
-      (putFrom 18 (effectsWord (s .progress .search) ∷ [])
+      ≡ putFrom 18 (searchWords (s .progress .search))
       (putFrom 14 (orderWords (s .order))
       (putFrom 6 (progressWords (s .progress))
-      (putFrom 0 upTo6 w))))
+      (putFrom 0 upTo6 w)))
   unfolding savedState stateWords
   whole w =
-      then 19 upTo19 (searchWords (s .progress .search)) w nineteen
-      ∙ ap (λ (l : List ℕ). putFrom 19 (searchWords (s .progress .search)) l)
-      (then 18 upTo18 (effectsWord (s .progress .search) ∷ []) w eighteen
-      ∙ ap (λ (l : List ℕ). putFrom 18 (effectsWord (s .progress .search) ∷ []) l)
+      then 18 upTo18 (searchWords (s .progress .search)) w eighteen
+      ∙ ap (λ (l : List ℕ). putFrom 18 (searchWords (s .progress .search)) l)
       (then 14 upTo14 (orderWords (s .order)) w fourteen
-      ∙ ap (λ (l : List ℕ). putFrom 14 (orderWords (s .order)) l) (then 6 upTo6 (progressWords (s .progress)) w six)))
+      ∙ ap (λ (l : List ℕ). putFrom 14 (orderWords (s .order)) l) (then 6 upTo6 (progressWords (s .progress)) w six))
 
 pub saved-all :
-    (s : State) (w : List ℕ) {n : ℕ} {o p r x w1 w2 w3 w4 w5 : List ℕ} →
+    (s : State) (w : List ℕ) {o p r w1 w2 w3 w4 : List ℕ} →
     o ≡ objectiveWords (s .progress .awaits) (s .parameters) → p ≡ progressWords (s .progress) → r ≡ orderWords (s .order) →
-    n ≡ effectsWord (s .progress .search) → x ≡ searchWords (s .progress .search) →
-    w1 ≡ putFrom 0 o w → w2 ≡ putFrom 6 p w1 → w3 ≡ putFrom 14 r w2 → w4 ≡ putFrom 18 (n ∷ []) w3 → w5 ≡ putFrom 19 x w4 →
-    w5 ≡ savedState s w
-saved-all s w eo ep er en ex e1 e2 e3 e4 e5 =
+    w1 ≡ putFrom 0 o w → w2 ≡ putFrom 6 p w1 → w3 ≡ putFrom 14 r w2 → w4 ≡ putFrom 18 (searchWords (s .progress .search)) w3 →
+    w4 ≡ savedState s w
+saved-all s w eo ep er e1 e2 e3 e4 =
     let f1 = e1 ∙ (λ d. putFrom 0 (eo d) w) in
     let f2 = e2 ∙ (λ d. putFrom 6 (ep d) (f1 d)) in
     let f3 = e3 ∙ (λ d. putFrom 14 (er d) (f2 d)) in
-    let f4 = e4 ∙ (λ d. putFrom 18 (en d ∷ []) (f3 d)) in
-    e5 ∙ (λ d. putFrom 19 (ex d) (f4 d)) ∙ sym (whole s w)
+    e4 ∙ ap (putFrom 18 (searchWords (s .progress .search))) f3 ∙ sym (whole s w)
+
+-- the search's own: y is what it was saved as
+module _ {x : SubjectSearch} (w : List ℕ) {y w1 w2 : List ℕ} where
+  pub one-put : {z : Search} {w3 : List ℕ} → x ≡ One z → y ≡ one.saved z → w1 ≡ set w 18 1 → w2 ≡ putFrom 19 y w1 → w3 ≡ putFrom 39 (0 ∷ 0 ∷ 0 ∷ 0 ∷ 0 ∷ []) w2 → w3 ≡ putFrom 18 (searchWords x) w
+  unfolding searchWords putFrom one.saved one.wordsOf
+  one-put {z} t ey e1 e2 e3 =
+      e3 ∙ ap (putFrom 39 (0 ∷ 0 ∷ 0 ∷ 0 ∷ 0 ∷ [])) (e2 ∙ (λ d. putFrom 19 (ey d) (e1 d)))
+      ∙ sym (put-append 19 (one.saved z) (0 ∷ 0 ∷ 0 ∷ 0 ∷ 0 ∷ []) (set w 18 1))
+      ∙ ap (λ (s : SubjectSearch). putFrom 18 (searchWords s) w) (sym t)
+
+  pub two-put : {z : Search2} → x ≡ Two z → y ≡ two.saved z → w1 ≡ set w 18 2 → w2 ≡ putFrom 19 y w1 → w2 ≡ putFrom 18 (searchWords x) w
+  unfolding searchWords putFrom
+  two-put t ey e1 e2 = e2 ∙ (λ d. putFrom 19 (ey d) (e1 d)) ∙ ap (λ (s : SubjectSearch). putFrom 18 (searchWords s) w) (sym t)

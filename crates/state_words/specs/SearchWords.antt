@@ -1,5 +1,4 @@
--- A search with one effect as twenty-five words, of which the last five are 0 and not looked at: the words of a search, and the search
--- of some words, or 19 where they are none.
+-- A search as twenty words: the words of a search, and the search of some words, or 19 where they are none.
 use mathlib.Core.Bool.{Bool}
 use mathlib.Core.List.{List, [], _∷_, _++_}
 use Prim.Native.Nat.{ℕ, _+_}
@@ -35,9 +34,9 @@ fallWord fall = pick fall 1 0
 unfoldable pub saved : Search → List ℕ
 saved x =
     stageWord (x .stage) ∷ x .count ∷ toBits binary64 (x .first) ∷ wordsOf (x .latest)
-    ++ fallWord (x .fall) ∷ wordsOf (x .left) ++ wordsOf (x .right) ++ wordsOf (x .best) ++ 0 ∷ 0 ∷ 0 ∷ 0 ∷ 0 ∷ []
+    ++ fallWord (x .fall) ∷ wordsOf (x .left) ++ wordsOf (x .right) ++ wordsOf (x .best)
 
--- ---- the search of twenty-five words
+-- ---- the search of twenty words
 unfoldable pub stageOf : ℕ → Stage
 stageOf n = pick (eqb n 0) Grid (pick (eqb n 1) Warm (pick (eqb n 2) Secant Halving))
 

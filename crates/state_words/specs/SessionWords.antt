@@ -3,7 +3,7 @@ use mathlib.Core.Bool.{Bool, true, false}
 use mathlib.Core.List.{List, [], _∷_, _++_}
 use Prim.Native.Nat.{ℕ, zero, suc, _+_}
 use lib.Dec.{ltb, eqb}
-use lib.ListN.{getD, set, length}
+use lib.ListN.{getD, set, length, drop}
 use lib.Ieee.{Float, binary64, toBits}
 use Rattle.float64.specs.Arithmetic.{word}
 use Rattle.float64.specs.Pick.{pick}
@@ -11,7 +11,6 @@ use Rattle.float64.specs.Answer.{Answer, given, refused, through}
 use Rattle.matrix.specs.declared.Pair.{Pair}
 use Rattle.state_words.specs.SearchWords as one
 use Rattle.state_words.specs.SearchWords2 as two
-use Rattle.cache.specs.Kept.{wordsFrom}
 use Rattle.cache.specs.declared.CacheOrder.{CacheOrder}
 use Rattle.subject.specs.declared.AdditiveSd.{AdditiveSd}
 use Rattle.subject.specs.declared.AdditiveSd.the-variants.{Own, Override}
@@ -60,13 +59,13 @@ orderAt words = record { oldest = at words 14; next = at words 15; «first_row»
 unfoldable pub stateAt : List ℕ → SubjectSearch → State
 stateAt words search = record { parameters = parametersAt words; progress = progressAt words search; order = orderAt words }
 
--- the search with one effect or two that twenty-five words stand for
+-- the search with so many effects that some words stand for
 unfoldable pub loadedSearch : ℕ → List ℕ → Answer SubjectSearch
 loadedSearch effects words =
     pick (eqb effects 1) (through One (one.loaded words)) (pick (eqb effects 2) (through Two (two.loaded words)) (refused 19))
 
 unfoldable pub withSearch : List ℕ → Answer State
-withSearch words = through (stateAt words) (loadedSearch (at words 18) (wordsFrom 25 words 19))
+withSearch words = through (stateAt words) (loadedSearch (at words 18) (drop 19 words))
 
 unfoldable pub loadedState : List ℕ → Answer State
 loadedState words =
@@ -101,20 +100,16 @@ progressWords p =
 unfoldable pub orderWords : CacheOrder → List ℕ
 orderWords o = o .oldest ∷ o .next ∷ o .«first_row» ∷ o .«next_row» ∷ []
 
--- how many effects the search has, and its words
-unfoldable pub effectsWord : SubjectSearch → ℕ
-effectsWord (One x) = 1
-effectsWord (Two x) = 2
-
+-- how many effects the search has, and its words; with one effect there are five less of them, and then five zeros
 unfoldable pub searchWords : SubjectSearch → List ℕ
-searchWords (One x) = one.saved x
-searchWords (Two x) = two.saved x
+searchWords (One x) = 1 ∷ one.saved x ++ (0 ∷ 0 ∷ 0 ∷ 0 ∷ 0 ∷ [])
+searchWords (Two x) = 2 ∷ two.saved x
 
 -- all of them
 unfoldable pub stateWords : State → List ℕ
 stateWords s =
     objectiveWords (s .progress .awaits) (s .parameters) ++ progressWords (s .progress) ++ orderWords (s .order)
-    ++ (effectsWord (s .progress .search) ∷ []) ++ searchWords (s .progress .search)
+    ++ searchWords (s .progress .search)
 
 -- some words with the values from word i on, and nothing beyond their end
 unfoldable pub putFrom : ℕ → List ℕ → List ℕ → List ℕ

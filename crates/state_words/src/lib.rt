@@ -3,15 +3,15 @@
 //  1 theta, 3 omega, 4 whether there is an additive override, 5 the override, or 0;
 //  6 individual values, 8 subject, 9 its first observation, 10 warm start, 12 ofv, 13 eta_squares;
 // 14 the kept evaluations' oldest, next, first_row and next_row;
-// 18 how many effects the search has, 1 or 2; 19 its twenty-five words (`one_effect` or `two_effects`).
+// 18 how many effects the search has, 1 or 2; 19 its twenty words (`one_effect`) and five zeros, which are not
+//    looked at again, or its twenty-five (`two_effects`).
 // A float is its word, and a bool is 1 or 0. Each public function is defined for all words and states.
 ghost use mathlib.Core.Path.{_≡_};
 ghost use Prim.Native.Nat.{_+_, _-_, _≤_, _<_};
 ghost use lib.ListN.{length};
-ghost use Rattle.cache.specs.Kept.{wordsFrom};
 ghost use Rattle.state_words.specs.SessionWords.{stateSize, pairAt, additiveAt, orderAt, parametersAt, progressAt, stateAt};
 ghost use Rattle.state_words.specs.SessionWords.{withSearch, loadedState, answer, flag, objectiveWords, progressWords, orderWords};
-ghost use Rattle.state_words.specs.SessionWords.{effectsWord, searchWords, putFrom, savedState};
+ghost use Rattle.state_words.specs.SessionWords.{searchWords, putFrom, savedState};
 
 pub mod one_effect;
 pub mod two_effects;
@@ -103,39 +103,6 @@ fn order_at(words: &[u64]) -> CacheOrder
     }
 }
 
-fn search_at(words: &[u64]) -> [u64; 25]
-    requires { ⌜ stateSize ≤ length (now words) ⌝ }
-    ensures { λ r. ⌜ r ≡ wordsFrom 25 (now (words .entry)) 19 ⌝ }
-{
-    [
-        words[19],
-        words[20],
-        words[21],
-        words[22],
-        words[23],
-        words[24],
-        words[25],
-        words[26],
-        words[27],
-        words[28],
-        words[29],
-        words[30],
-        words[31],
-        words[32],
-        words[33],
-        words[34],
-        words[35],
-        words[36],
-        words[37],
-        words[38],
-        words[39],
-        words[40],
-        words[41],
-        words[42],
-        words[43],
-    ]
-}
-
 fn state_at(words: &[u64], search: SubjectSearch) -> State
     requires { ⌜ stateSize ≤ length (now words) ⌝ }
     ensures { λ r. ⌜ r ≡ stateAt (now (words .entry)) search ⌝ }
@@ -156,7 +123,7 @@ fn with_search(words: &[u64]) -> LoadedState
     ensures { λ r. ⌜ answer r ≡ withSearch (now (words .entry)) ⌝ }
 {
     if words[18] == 1 {
-        match one_effect::load(search_at(words)) {
+        match one_effect::load(&words[19..]) {
             Loaded::Given(x) => {
                 return LoadedState::Given(state_at(words, SubjectSearch::One(x)));
             }
@@ -166,7 +133,7 @@ fn with_search(words: &[u64]) -> LoadedState
         }
     }
     if words[18] == 2 {
-        match two_effects::load(search_at(words)) {
+        match two_effects::load(&words[19..]) {
             Loaded2::Given(x) => {
                 return LoadedState::Given(state_at(words, SubjectSearch::Two(x)));
             }
@@ -253,24 +220,6 @@ fn order_words(order: CacheOrder) -> [u64; 4]
     ]
 }
 
-fn effects_word(search: SubjectSearch) -> u64
-    ensures { λ r. ⌜ r ≡ effectsWord search ⌝ }
-{
-    match search {
-        SubjectSearch::One(_) => 1,
-        SubjectSearch::Two(_) => 2,
-    }
-}
-
-fn search_words(search: SubjectSearch) -> [u64; 25]
-    ensures { λ r. ⌜ r ≡ searchWords search ⌝ }
-{
-    match search {
-        SubjectSearch::One(x) => one_effect::save(x),
-        SubjectSearch::Two(x) => two_effects::save(x),
-    }
-}
-
 // Writes the values from word `from` on, where they all have a place: a plain copy.
 fn put_lent(from: usize, values: &[u64], words: &mut [u64])
     requires { ⌜ from + length (now values) ≤ length (now words) ⌝ }
@@ -307,6 +256,27 @@ fn put_from(from: usize, values: &[u64], words: &mut [u64])
     put_each(from, values, words);
 }
 
+// Writes how many effects the search has, and its words. With one effect there are five less of them: the
+// last five words of the state are then 0.
+fn put_search(search: SubjectSearch, words: &mut [u64])
+    ensures { λ _. ⌜ now (words .exit) ≡ putFrom 18 (searchWords search) (now (words .entry)) ⌝ }
+{
+    match search {
+        SubjectSearch::One(x) => {
+            let own = one_effect::save(x);
+            let none = [0, 0, 0, 0, 0];
+            words::put(words, 18, 1);
+            put_from(19, &own, words);
+            put_from(39, &none, words);
+        }
+        SubjectSearch::Two(x) => {
+            let own = two_effects::save(x);
+            words::put(words, 18, 2);
+            put_from(19, &own, words);
+        }
+    }
+}
+
 // Writes the words of a state to the first of the lent words, or as many of them as are lent.
 pub fn save(state: State, words: &mut [u64])
     ensures { λ _. ⌜ now (words .exit) ≡ savedState state (now (words .entry)) ⌝ }
@@ -316,11 +286,8 @@ pub fn save(state: State, words: &mut [u64])
     let position = progress_words(progress);
     let order = order_words(state.order);
     let search = progress.search;
-    let effects = [effects_word(search)];
-    let searched = search_words(search);
     put_from(0, &objective, words);
     put_from(6, &position, words);
     put_from(14, &order, words);
-    put_from(18, &effects, words);
-    put_from(19, &searched, words);
+    put_search(search, words);
 }

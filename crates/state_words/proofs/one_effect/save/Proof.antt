@@ -19,7 +19,7 @@ laid :
     (x : Search) {stage first fall : ℕ} {latest left right best : List ℕ} →
     stage ≡ stageWord (x .stage) → first ≡ toBits binary64 (x .first) → latest ≡ wordsOf (x .latest) →
     fall ≡ fallWord (x .fall) → left ≡ wordsOf (x .left) → right ≡ wordsOf (x .right) → best ≡ wordsOf (x .best) →
-    stage ∷ x .count ∷ first ∷ four latest (fall ∷ four left (four right (four best (0 ∷ 0 ∷ 0 ∷ 0 ∷ 0 ∷ [])))) ≡ saved x
+    stage ∷ x .count ∷ first ∷ four latest (fall ∷ four left (four right (four best []))) ≡ saved x
 unfolding saved wordsOf
 laid x s f a d l r b = rw (s, f, a, d, l, r, b)
 
