@@ -75,7 +75,7 @@ pub extern "C" fn curlewstand_mode_2d_request(
 {
     let settings = settings_of(eta_bound, *precision, *warm);
     let words = *search;
-    match state_words::two_effects::load(words) {
+    match state_words::two_effects::load(&words) {
         Loaded2::Given(x) => match x.request(settings) {
             Request2::Point(p) => {
                 *point = [p.first, p.second];
@@ -112,7 +112,7 @@ pub extern "C" fn curlewstand_mode_2d_advance(
     let settings = settings_of(eta_bound, *precision, *warm);
     let c = point_of(*eta, nll, *score, *information);
     let words = *search;
-    match state_words::two_effects::load(words) {
+    match state_words::two_effects::load(&words) {
         Loaded2::Given(x) => {
             let next = state_words::two_effects::save(x.advance(settings, c));
             *search = next;

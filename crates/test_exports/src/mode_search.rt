@@ -50,7 +50,7 @@ pub extern "C" fn curlewstand_mode_request(
         warm,
     };
     let words = *search;
-    match state_words::one_effect::load(words) {
+    match state_words::one_effect::load(&words) {
         Loaded::Given(x) => match x.request(settings) {
             Request::Point(p) => {
                 *point = p;
@@ -96,7 +96,7 @@ pub extern "C" fn curlewstand_mode_advance(
         information,
     };
     let words = *search;
-    match state_words::one_effect::load(words) {
+    match state_words::one_effect::load(&words) {
         Loaded::Given(x) => {
             let next = state_words::one_effect::save(x.advance(settings, c));
             *search = next;

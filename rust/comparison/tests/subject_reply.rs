@@ -32,7 +32,7 @@ impl Lent {
             setup,
             counts: cohort.iter().map(|subject| subject.len() as u64).collect(),
             tally: Tally::default(),
-            state: vec![0; 63],
+            state: vec![0; 44],
             answer: vec![0; 5],
             cache: vec![0; 24 * setup.k],
             work: vec![0; 12 * largest],
