@@ -25,8 +25,8 @@ use Rattle.search.specs.declared.Fit.{Fit}
 use Rattle.search.specs.declared.Progress.{Progress}
 use Rattle.search.specs.declared.SubjectSearch.the-variants.{One, Two}
 use Rattle.search.specs.declared.Wanted.{Wanted}
-use Rattle.search.specs.Subjects.{settings, settings2, oneOf, twoOf, wants1, wanted1, wants2, wanted2, wantedBy, conditional1, conditional2, sourcesAt, sources1, currentAt, currentSource, isNewBest}
-use Rattle.search.specs.Subjects.{populationAt, populationSource, sources2, withSearch, advance1, advance2, advanceBy}
+use Rattle.search.specs.Subjects.{settings, settings2, oneOf, twoOf, wants1, wanted1, wants2, wanted2, wantedBy, conditional1, conditional2, sourcesAt, sources1, currentAt, currentSource}
+use Rattle.search.specs.Subjects.{isNewBest, populationAt, populationSource, sources2, withSearch, advance1, advance2, advanceBy}
 
 -- ---- what the search wants: r is what it asked for, v its variant
 pub wants-one : (s : Settings) (x : Search) {r v : Request} → r ≡ request s x → r ≡ v → wants1 v ≡ wanted1 s x
@@ -88,7 +88,8 @@ module _ (fit : Fit) (progress : Progress) (eta : Pair) (sums : Sums) {p : Progr
   advance-two {s} {c} h es ec ea ep ew =
       let x = twoOf (progress .search) in
       yes _ (eq-eqb _ _ h)
-      ((λ i. record { progress = (ep ∙ ap (λ (y : Search2). withSearch progress (Two y)) ea) i; sources = (ew ∙ ap (λ (y : Search2). sources2 s x y c) ea) i }) ∙ (λ i. advance2 (es i) progress (ec i)))
+      ((λ i. record { progress = (ep ∙ ap (λ (y : Search2). withSearch progress (Two y)) ea) i; sources = (ew ∙ ap (λ (y : Search2). sources2 s x y c) ea) i })
+      ∙ (λ i. advance2 (es i) progress (ec i)))
 
   pub advance-one : {s : Settings} {c : Conditional} {after : Search} → let x = oneOf (progress .search) in (fit .effects ≡ 2 → ⊥) → s ≡ settings fit progress → c ≡ conditional1 fit eta sums → after ≡
       advance s x c → p ≡ withSearch progress (One after) → w ≡ sources1 x c → record { progress = p; sources = w } ≡ advanceBy fit progress eta sums

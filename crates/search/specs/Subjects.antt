@@ -113,7 +113,7 @@ settings2 fit progress = record {
 
 -- ---- the search of the subject
 
--- with one effect, with two: a search of the other kind, which only a state from outside a session has, counts as one that has asked nothing
+-- with one effect, with two: a search of the other kind, which only a state from outside a session has, is as one that has asked nothing
 abbrev pub oneOf : SubjectSearch → Search
 oneOf (With.One x) = x
 oneOf (With.Two x) = start

@@ -318,7 +318,8 @@ module _ (l : Lending) (f : FitsSetup (l .setup)) (e : number l opens ≡ 0) whe
 
   settled-by : Settled (does l opens)
   unfolding setupOver openWith
-  settled-by = cases (λ (o : Out). o .told .done .number ≡ 0 → Settled o) (ltb (length (l .state)) stateSize) (λ t q. absurd (omega (arith, q))) (λ t q. record { long = ltb-false _ _ t; same = refl }) e
+  settled-by = cases (λ (o : Out). o .told .done .number ≡ 0 → Settled o) (ltb (length (l .state)) stateSize) (λ t q. absurd (omega (arith, q)))
+      (λ t q. record { long = ltb-false _ _ t; same = refl }) e
 
   opened-by : (adm : Admission) → Judged (length (l .counts)) adm → H.opened (opening (l .setup) (l .counts) (lent l) (l .tally) (l .cache) (l .work) (l .warm) (l .results) adm .begun)
       (l .state) (l .answer) .done .number ≡ 0

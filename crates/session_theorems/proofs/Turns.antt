@@ -304,16 +304,16 @@ module _ (S : Store) (setup : Setup) (counts : List ℕ) (observations : List Ob
         raised-is = mod-eq-of-lt (omega (arith, s .subject, most-subjects)) ∙ omega arith
 
         begins : (first : ℕ) (ofv squares : Float) → ltb subject (length counts) ≡ true
-            → Goes h (on (held S (h .parameters) (wholeOf S (B.beginSubject (fit .effects) subject first (warmOf warm (fit .effects) subject) ofv squares) (w .tally) (w .kept) (zeros (length (w .work))) warm
-            results)))
+            → Goes h (on (held S (h .parameters) (wholeOf S (B.beginSubject (fit .effects) subject first (warmOf warm (fit .effects) subject) ofv squares) (w .tally) (w .kept)
+            (zeros (length (w .work))) warm results)))
         unfolding B.beginSubject
         begins first ofv squares l =
             let f = warm-of-fits warm (fit .effects) subject in
             let q = B.beginSubject (fit .effects) subject first (warmOf warm (fit .effects) subject) ofv squares in
             let inside : subject < length counts = ltb-true _ _ l in
             next mode-is (record {
-              sound = still S setup counts observations I Q U h s q (w .tally) (zeros (length (w .work))) warm results inside refl f (Q .pointed-start (fit .effects) subject first _ ofv squares) (omega arith)
-                  (s .limit) (zeros-length _);
+              sound = still S setup counts observations I Q U h s q (w .tally) (zeros (length (w .work))) warm results inside refl f (Q .pointed-start (fit .effects) subject first _ ofv squares)
+                  (omega arith) (s .limit) (zeros-length _);
               domain = Q .domain setup (h .parameters) q refl bound (s .omega-in) (s .shape-in) f;
               subject = raised-is;
               within = subst (λ (i : ℕ). i < length counts) raised-is inside;

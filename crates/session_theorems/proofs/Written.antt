@@ -390,7 +390,8 @@ module _ (setup : Setup) (counts : List ℕ) (observations : List Observation) (
     -- a search that has just begun carries nothing yet
     nothing-carried : (st : I .rules .Settings) (effects subject first : ℕ) (warm : Pair) (ofv squares : Float) (rows : ℕ → List ℕ) → X .Carried st []
         (I .searchOf (B.beginSubject effects subject first warm ofv squares)) rows
-    nothing-carried st effects subject first warm ofv squares rows = subst (λ (x : I .rules .Search). X .Carried st [] x rows) (sym (Q .starts effects subject first warm ofv squares)) (X .begun st rows)
+    nothing-carried st effects subject first warm ofv squares rows =
+        subst (λ (x : I .rules .Search). X .Carried st [] x rows) (sym (Q .starts effects subject first warm ofv squares)) (X .begun st rows)
 
     module _ (m : Mode) (o : OfMode I L m (I .rules .best (I .searchOf p))) (wants : B.wantedBy fit p ≡ Wants.Mode) (positive : B.closedBy fit p rows ≡ Positive m) where
       abbrev next : ℕ
@@ -654,7 +655,8 @@ module _ (setup : Setup) (counts : List ℕ) (observations : List Observation) (
 
     begun-opens : (parameters : Parameters) → Begins (objective parameters) h (on (N.begun words setup counts parameters w))
     unfolding Opens N.begun B.beginSubject
-    begun-opens parameters = (X .starts setup parameters _ (w .warm) 0 refl refl, λ i l. refl, refl, nothing-carried _ (setup .effects) 0 0 (warmOf (w .warm) (setup .effects) 0) (word 0) (word 0) _, refl)
+    begun-opens parameters =
+        (X .starts setup parameters _ (w .warm) 0 refl refl, λ i l. refl, refl, nothing-carried _ (setup .effects) 0 0 (warmOf (w .warm) (setup .effects) 0) (word 0) (word 0) _, refl)
 
     admitted-opens : (parameters : Parameters) (v : Admission) → Begins (objective parameters) h (N.whenAdmitted words setup counts h (on (N.begun words setup counts parameters w)) v)
     unfolding N.whenAdmitted

@@ -40,7 +40,10 @@ shared-slice-read-from-word-4 c = search needs
 
 returns : tie.Need-returns
 unfolding conditionalAt
-returns c = rw (c .before .before .before .before .before .before .from-word .ensures, c .before .before .before .before .from-word2 .ensures, c .before .before .from-word3 .ensures, c .from-word4 .ensures)
+returns c =
+    let c3 = c .before .before in
+    let c2 = c3 .before .before in
+    rw (c2 .before .before .from-word .ensures, c2 .from-word2 .ensures, c3 .from-word3 .ensures, c .from-word4 .ensures)
 
 pub conditional-at-spec : {M : Type 1} → statement M
 conditional-at-spec =

@@ -59,7 +59,8 @@ shared-slice-read-from-word c = search needs
 returns-4 : tie.Need-returns-4
 unfolding answer loaded searchOf
 returns-4 c =
-    let best = c .before .before .before .before in
+    let stage = c .before .before in
+    let best = stage .before .before in
     let right = best .before in
     let left = right .before in
     let latest = left .before in
@@ -67,7 +68,7 @@ returns-4 c =
     no _ (le-ltb _ _ (c3 .before .before .before .before .if1 .left))
     (no _ (le-ltb _ _ (c3 .before .before .if2 .left))
     (no _ (le-ltb _ _ (c3 .if3 .left))
-    (rw (latest .conditional-at .ensures, left .conditional-at2 .ensures, right .conditional-at3 .ensures, best .conditional-at4 .ensures, c .before .before .stage-of .ensures, c .from-word .ensures))))
+    (rw (latest .conditional-at .ensures, left .conditional-at2 .ensures, right .conditional-at3 .ensures, best .conditional-at4 .ensures, stage .stage-of .ensures, c .from-word .ensures))))
 
 pub load-spec : {M : Type 1} → statement M
 load-spec =

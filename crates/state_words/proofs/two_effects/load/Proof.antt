@@ -35,7 +35,8 @@ shared-slice-read-if4 c = search needs
 
 returns-4 : tie.Need-returns-4
 unfolding answer loaded
-returns-4 c = no _ (le-ltb _ _ (c .before .before .before .before .before .before .if1 .left)) (no _ (le-ltb _ _ (c .before .before .before .before .if2 .left)) (no _ (le-ltb _ _ (c .before .before .if3 .left)) (yes _ (lt-ltb _ _ (c .if4 .taken)) refl)))
+returns-4 c = no _ (le-ltb _ _ (c .before .before .before .before .before .before .if1 .left)) (no _ (le-ltb _ _ (c .before .before .before .before .if2 .left))
+    (no _ (le-ltb _ _ (c .before .before .if3 .left)) (yes _ (lt-ltb _ _ (c .if4 .taken)) refl)))
 
 shared-slice-read-stage-of : tie.Need-shared-slice-read-stage-of
 shared-slice-read-stage-of c = search needs
@@ -53,25 +54,37 @@ conditional-at-requires-2 : tie.Need-conditional-at-requires-2
 conditional-at-requires-2 c κs = search needs
 
 shared-slice-read-t7 : tie.Need-shared-slice-read-t7
-shared-slice-read-t7 c = let h = c .before .before .before .before .before .before .before .before .before .before .before .before .before .before .before .pre in omega arith
+shared-slice-read-t7 c =
+    let start = c .before .before .before .before .before in
+    let h = start .before .before .before .before .before .before .before .before .before .before .pre in
+    omega arith
 
 cast-t14 : tie.Need-cast-t14
 cast-t14 c = search needs
 
 shared-slice-read-t16 : tie.Need-shared-slice-read-t16
-shared-slice-read-t16 c = let h = c .before .before .before .before .before .before .before .before .before .before .before .before .before .before .before .before .pre in omega arith
+shared-slice-read-t16 c =
+    let start = c .before .before .before .before .before .before in
+    let h = start .before .before .before .before .before .before .before .before .before .before .pre in
+    omega arith
 
 cast-t17 : tie.Need-cast-t17
 cast-t17 c = search needs
 
 shared-slice-read-t19 : tie.Need-shared-slice-read-t19
-shared-slice-read-t19 c = let h = c .before .before .before .before .before .before .before .before .before .before .before .before .before .before .before .before .before .pre in omega arith
+shared-slice-read-t19 c =
+    let start = c .before .before .before .before .before .before .before in
+    let h = start .before .before .before .before .before .before .before .before .before .before .pre in
+    omega arith
 
 cast-t20 : tie.Need-cast-t20
 cast-t20 c = search needs
 
 shared-slice-read-from-word : tie.Need-shared-slice-read-from-word
-shared-slice-read-from-word c = let h = c .before .before .before .before .before .before .before .before .before .before .before .before .before .before .before .before .before .before .pre in omega arith
+shared-slice-read-from-word c =
+    let start = c .before .before .before .before .before .before .before .before in
+    let h = start .before .before .before .before .before .before .before .before .before .before .pre in
+    omega arith
 
 returns-5 : tie.Need-returns-5
 unfolding answer loaded searchOf
