@@ -1,75 +1,62 @@
+-- `curlewstand_mode_2d_request` meets its contract: each exit by its law. Assumes nothing.
 use borrow.Author.Needs.{needs}
-use Rattle.test_exports.proofs.mode_2d_search.curlewstand_mode_2d_request.Statement.{
-  statement,
-}
+use mathlib.Core.Path.{sym, _∙_}
+use Rattle.float64.proofs.Laws.{free}
+use Rattle.test_exports.specs.Mode2d.{requestNumber, pointOr}
+use Rattle.test_exports.proofs.Paths.{request-given, request-none}
+use Rattle.test_exports.proofs.mode_2d_search.curlewstand_mode_2d_request.Statement.{statement}
 use Rattle.test_exports.proofs.mode_2d_search.curlewstand_mode_2d_request.Tie as tie
-use Rattle.test_exports.proofs.mode_2d_search.curlewstand_mode_2d_request.Reads as reads
-use Rattle.test_exports.proofs.mode_2d_search.curlewstand_mode_2d_request.Lts as lts
-use Rattle.mode_2d.proofs.population_focei_2d.Search2.request.Reads as request-reads
-use Rattle.state_words.proofs.two_effects.load.Reads as load-reads
-use Rattle.test_exports.proofs.mode_2d_search.settings_of.Reads as settings-of-reads
 
--- src/mode_2d_search.rt:76:9
-settings-of-requires : tie.Need-settings-of-requires
-settings-of-requires c κs = search needs
-
--- src/mode_2d_search.rt:78:42
-slice-aggregate-load : tie.Need-slice-aggregate-load
-slice-aggregate-load c = ?
-
--- src/mode_2d_search.rt:78:11
-load-requires : tie.Need-load-requires
-load-requires c κs = ?
-
--- src/mode_2d_search.rt:79:24
 enum-known-x : tie.Need-enum-known-x
 enum-known-x c = search needs
 
--- src/mode_2d_search.rt:79:36
-request-requires : tie.Need-request-requires
-request-requires c κs = search needs
-
--- src/mode_2d_search.rt:80:29
 enum-known-p : tie.Need-enum-known-p
 enum-known-p c = search needs
 
--- src/mode_2d_search.rt:84:31
 enum-told : tie.Need-enum-told
 enum-told c = search needs
 
--- src/mode_2d_search.rt:85:31
 enum-known-number : tie.Need-enum-known-number
 enum-known-number c = search needs
 
--- src/mode_2d_search.rt:87:26
 enum-told-2 : tie.Need-enum-told-2
 enum-told-2 c = search needs
 
--- src/mode_2d_search.rt:62:1
 returns : tie.Need-returns
-returns c = ?
+unfolding requestNumber pointOr
+returns c =
+    let request = c .before .before .before .before in
+    let x = request .before .before in
+    let load = x .before .before in
+    request-given _ (load .load .ensures) (load .before .before .settings-of .ensures) _ (x .x .given .1) (sym (c .before .before .p .given .1) ∙ request .request .ensures)
 
--- src/mode_2d_search.rt:62:1
 returns-2 : tie.Need-returns-2
-returns-2 c = ?
+unfolding requestNumber pointOr
+returns-2 c =
+    let request = c .before .before in
+    let x = request .before .before in
+    let load = x .before .before in
+    request-given _ (load .load .ensures) (load .before .before .settings-of .ensures) _ (x .x .given .1) (sym (c .enum-told .given .1) ∙ request .request .ensures)
 
--- src/mode_2d_search.rt:62:1
 returns-3 : tie.Need-returns-3
-returns-3 c = ?
+unfolding requestNumber pointOr
+returns-3 c =
+    let request = c .before .before .before in
+    let x = request .before .before in
+    let load = x .before .before in
+    request-given _ (load .load .ensures) (load .before .before .settings-of .ensures) _ (x .x .given .1) (sym (c .before .number .given .1) ∙ request .request .ensures)
 
--- src/mode_2d_search.rt:62:1
 returns-4 : tie.Need-returns-4
-returns-4 c = ?
+returns-4 c = request-none _ (c .before .before .load .ensures) (c .enum-told2 .given .1) _ _
 
 pub curlewstand-mode-2d-request-spec : {M : Type 1} → statement M
 curlewstand-mode-2d-request-spec =
     tie.close
     (tie.spec
-    settings-of-requires
-    slice-aggregate-load
-    load-requires
+    free
+    free
     enum-known-x
-    request-requires
+    free
     enum-known-p
     enum-told
     enum-known-number

@@ -1,53 +1,32 @@
+-- `curlewstand_mode_advance` meets its contract: the case of what is loaded is the case of the definition. Assumes nothing.
 use borrow.Author.Needs.{needs}
+use mathlib.Core.Path.{sym, ap, _∙_}
+use Rattle.float64.proofs.Laws.{free}
+use Rattle.float64.specs.Answer.{numberOf, through, orOld}
+use Rattle.state_words.specs.SearchWords.{saved, answer}
+use Rattle.test_exports.specs.Mode.{next, advanced}
 use Rattle.test_exports.proofs.mode_search.curlewstand_mode_advance.Statement.{statement}
 use Rattle.test_exports.proofs.mode_search.curlewstand_mode_advance.Tie as tie
-use Rattle.test_exports.proofs.mode_search.curlewstand_mode_advance.Reads as reads
-use Rattle.test_exports.proofs.mode_search.curlewstand_mode_advance.Lts as lts
-use Rattle.mode.proofs.population_focei.Search.advance.Reads as advance-reads
-use Rattle.state_words.proofs.one_effect.load.Reads as load-reads
-use Rattle.state_words.proofs.one_effect.save.Reads as save-reads
 
--- src/mode_search.rt:99:41
-slice-aggregate-load : tie.Need-slice-aggregate-load
-slice-aggregate-load c = ?
-
--- src/mode_search.rt:99:11
-load-requires : tie.Need-load-requires
-load-requires c κs = ?
-
--- src/mode_search.rt:100:23
 enum-known-x : tie.Need-enum-known-x
 enum-known-x c = search needs
 
--- src/mode_search.rt:101:54
-advance-requires : tie.Need-advance-requires
-advance-requires c κs = search needs
-
--- src/mode_search.rt:101:17
-save-requires : tie.Need-save-requires
-save-requires c κs = search needs
-
--- src/mode_search.rt:105:25
 enum-told : tie.Need-enum-told
 enum-told c = search needs
 
--- src/mode_search.rt:68:1
 returns : tie.Need-returns
-returns c = ?
+unfolding answer through advanced numberOf orOld
+returns c =
+    let x = c .before .before .before in
+    let found = ap (through (next _ _)) (sym (ap answer (x .x .given .1)) ∙ x .before .before .load .ensures) in
+    (ap numberOf found, c .save .ensures ∙ ap saved (c .before .advance .ensures) ∙ ap (orOld _) found)
 
--- src/mode_search.rt:68:1
 returns-2 : tie.Need-returns-2
-returns-2 c = ?
+unfolding answer through advanced numberOf orOld
+returns-2 c =
+    let found = ap (through (next _ _)) (sym (ap answer (c .enum-told .given .1)) ∙ c .before .before .load .ensures) in
+    (ap numberOf found, ap (orOld _) found)
 
 pub curlewstand-mode-advance-spec : {M : Type 1} → statement M
 curlewstand-mode-advance-spec =
-    tie.close
-    (tie.spec
-    slice-aggregate-load
-    load-requires
-    enum-known-x
-    advance-requires
-    save-requires
-    enum-told
-    returns
-    returns-2)
+    tie.close (tie.spec free enum-known-x free free enum-told returns returns-2)
