@@ -58,7 +58,7 @@ extern "C" {
 #endif
 
 /* The words of a session's state and of an answer. */
-#define CURLEWSTAND_STATE_WORDS 63
+#define CURLEWSTAND_STATE_WORDS 44
 #define CURLEWSTAND_ANSWER_WORDS 5
 
 /* The words of the state that have the subject which is searched, and the number of its first observation

@@ -28,8 +28,8 @@ fn check_lent(setup: SessionSetup, observations: &[Observation], counts: &[u64])
 
 // ---- the calls
 
-// Opens a session where the state has room for 63 words and 1 to 5 pass: tally, kept, work and warm words are
-// zeroed. Gives document 01's number, 0 where nothing is refused.
+// Opens a session where words enough are lent for its state and 1 to 5 pass: tally, kept, work and warm words
+// are zeroed. Gives document 01's number, 0 where nothing is refused.
 #[no_mangle]
 pub extern "C" fn curlewstand_setup(
     setup: SessionSetup,

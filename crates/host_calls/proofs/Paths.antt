@@ -223,13 +223,13 @@ pub unknown-out : (tally : Tally) (state answer cache work warm results : List �
 unknown-out tally state answer cache work warm results (er, ew) = λ i. out (er i) state (ew i) cache work warm results
 
 module _ (setup : Setup) (counts : List ℕ) (n : ℕ) (check : Check) (tally : Tally) (state answer cache work warm results : List ℕ) where
-  pub open-unknown : {r : Done} {w : List ℕ} → length state < 63 → (r ≡ noState tally) × (w ≡ answered (placeWords 19 At.Nowhere) answer) → out r state w cache work warm results ≡ openWith setup
-      counts n check tally state answer cache work warm results
+  pub open-unknown : {r : Done} {w : List ℕ} → length state < W.stateSize → (r ≡ noState tally) × (w ≡ answered (placeWords 19 At.Nowhere) answer) → out r state w cache work warm results ≡ openWith
+      setup counts n check tally state answer cache work warm results
   unfolding openWith
   open-unknown l q = yes _ (lt-ltb _ _ l) (unknown-out tally state answer cache work warm results q)
 
-  pub open-settled : {own : Setup} {r : Done} {s w c k m : List ℕ} {b : Begun} → 63 ≤ length state → own ≡ setup → begunWith b c k m ≡ openedBy own counts n check tally cache work warm results →
-      toldAs r s w ≡ opened b state answer
+  pub open-settled : {own : Setup} {r : Done} {s w c k m : List ℕ} {b : Begun} → W.stateSize ≤ length state → own ≡ setup → begunWith b c k m ≡ openedBy own counts n check tally cache work warm
+      results → toldAs r s w ≡ opened b state answer
       → out r s w c k m results ≡ openWith setup counts n check tally state answer cache work warm results
   unfolding openWith
   open-settled {c = c} {k = k} {m = m} l eo eb et =

@@ -31,7 +31,7 @@ use Rattle.session.specs.declared.Called.{Called}
 use Rattle.session.specs.declared.Opening.{Opening}
 use Rattle.session.specs.declared.Opening.the-variants as Opens
 use Rattle.session.specs.declared.State.{State}
-use Rattle.state_words.specs.SessionWords.{loadedState, savedState}
+use Rattle.state_words.specs.SessionWords.{stateSize, loadedState, savedState}
 use Rattle.host_calls.specs.declared.AnswerWords.{AnswerWords}
 use Rattle.host_calls.specs.declared.Done.{Done}
 use Rattle.host_calls.specs.declared.SessionParameters.{SessionParameters}
@@ -235,7 +235,7 @@ module _ (setup : Setup) (counts : List ℕ) (n : ℕ) (check : Check) (tally : 
 
   unfoldable pub openWith : Out
   openWith =
-      pick (ltb (length state) 63) (unknown tally state answer cache work warm results)
+      pick (ltb (length state) stateSize) (unknown tally state answer cache work warm results)
       (settled (openedBy setup counts n check tally cache work warm results))
 
   unfoldable pub objectiveWith : Parameters → Out

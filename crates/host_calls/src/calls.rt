@@ -1,7 +1,7 @@
 // Setup, new objective and failure with the state and the answer as words (see lib.rt). The tally goes by
 // value here, and of the observations there is what was found of them. Each function is defined for all
-// values and words. Words that are no state are refused with 19, and so is a setup that is lent fewer than
-// 63.
+// values and words. Words that are no state are refused with 19, and so is a setup that is lent too few for
+// one.
 ghost use mathlib.Core.Path.{_≡_};
 ghost use Rattle.host_calls.specs.Hosting.{setupOf, parametersOf, out, openWith, objectiveWith, failureWith};
 use super::Done;
@@ -11,11 +11,8 @@ use search::Tally;
 use state_words::LoadedState;
 use subject::Check;
 
-// The words of a state.
-pub const STATE_WORDS: usize = 63;
-
-// Setup: opens a session where the state has room for 63 words and 1 to 5 pass, and writes its state and the
-// answer.
+// Setup: opens a session where enough words are lent for its state and 1 to 5 pass, and writes the state and
+// the answer.
 pub fn open(
     setup: SessionSetup,
     tally: Tally,
@@ -34,7 +31,7 @@ pub fn open(
         ≡ openWith (setupOf setup) (now (counts .entry)) observations check tally (now (state .entry)) (now (answer .entry))
         (now (cache .entry)) (now (work .entry)) (now (warm .entry)) (now (results .entry)) ⌝ }
 {
-    if state.len() < STATE_WORDS {
+    if state.len() < state_words::STATE_WORDS {
         return super::no_state(tally, answer);
     }
     let own = super::setup_of(setup);

@@ -2,7 +2,7 @@
 // it gives them, and a call's answer, state and tally as it gets them. The calls are in `calls`, a reply's
 // two parts in `replies`. Each function is defined for all values and words.
 //
-// The state is the 63 words of `state_words`. A refusal with 1 to 5 or 19 alters nothing but the answer.
+// The state is the words of `state_words`. A refusal with 1 to 5 or 19 alters nothing but the answer.
 //
 // The answer is five words: 0 for a question, then both etas and both individual values; 1 for an end, then
 // the objective (0 for setup) and zeros; 2 for a refusal, then its number, 0 for no place, 1 for a subject

@@ -5,7 +5,7 @@ use mathlib.Core.List.{List}
 use Prim.Native.Nat.{ℕ, zero, suc, _-_, _≤_}
 use native.Mathlib.Numerals.{sub-one}
 use native.Mathlib.Omega.{arith}
-use borrow.Author.Tests.{ne-eqb}
+use borrow.Author.Tests.{eq-eqb, ne-eqb}
 use Rattle.float64.specs.Pick.{yes, no, pick-yes, pick-no}
 use Rattle.matrix.specs.declared.Pair.{Pair}
 use Rattle.subject.specs.declared.Sums.{Sums}
@@ -27,11 +27,13 @@ use Rattle.search.specs.Subjects as B
 use Rattle.search.specs.declared.Advanced.{Advanced}
 use Rattle.search.specs.declared.Fit.{Fit}
 use Rattle.search.specs.declared.Progress.{Progress}
+use Rattle.search.specs.declared.SubjectSearch.{SubjectSearch}
+use Rattle.search.specs.declared.SubjectSearch.the-variants.{One, Two}
 use Rattle.search.specs.declared.Wanted.{Wanted}
 use Rattle.search.specs.declared.Wanted.the-variants as Wants
 use Rattle.search.proofs.PointsPaths.{wanted-one, wanted-two, advance-one, advance-two}
 use Rattle.population.specs.Population.{Worked, worked, take}
-use Rattle.population.specs.Through.{isOver, etaOf, keptIn, keptAt, foundUnless, keptPoint, recalled, taken, taken1, taken2, reached, passed, through, throughFrom, reached1, reached2}
+use Rattle.population.specs.Through.{isOver, etaOf, keptIn, keptAt, foundUnless, keptPoint, recalled, asWith, taken, taken1, taken2, reached, passed, through, throughFrom, reached1, reached2}
 use Rattle.population.specs.declared.kept_points.InHand.{InHand}
 use Rattle.population.specs.declared.kept_points.InHand.the-variants as Hand
 use Rattle.population.specs.declared.kept_points.Reached.{Reached}
@@ -114,11 +116,11 @@ same-take fit rows progress eta sums work e = ap (λ (a : Advanced). worked (a .
 
 module _ (fit : Fit) (rows : ℕ) (progress : Progress) (effects : fit .effects ≡ 2 → ⊥) {s : Settings} (es : s ≡ B.settings fit progress) where
   abbrev with-one : Search → Progress
-  with-one x = B.withSearch progress x (progress .«search_2d»)
+  with-one x = B.withSearch progress (One x)
 
   one-by : (hand : InHand) (x : Search) (work : List ℕ) → worked (with-one (taken1 fit s rows hand x work .value)) (taken1 fit s rows hand x work .work) ≡ taken fit rows hand (with-one x) work
-  unfolding taken taken1 B.idle B.withSearch B.settings
-  one-by Hand.Nothing x work = refl
+  unfolding taken taken1 asWith B.withSearch B.settings
+  one-by Hand.Nothing x work = ap (λ (y : SubjectSearch). worked (B.withSearch progress y) work) (sym (pick-no _ _ _ (ne-eqb _ _ effects)))
   one-by (Hand.Evaluated eta sums) x work = same-take fit rows (with-one x) eta sums work (advance-one fit (with-one x) eta sums effects es refl refl refl refl)
 
   pub one-taken : (hand : InHand) (x : Search) (work : List ℕ) {y : Search} {w : List ℕ} → worked y w ≡ taken1 fit s rows hand x work → worked (with-one y) w ≡ taken fit rows hand (with-one x) work
@@ -126,15 +128,15 @@ module _ (fit : Fit) (rows : ℕ) (progress : Progress) (effects : fit .effects 
 
   pub one-wanted : (y : Search) {wanted : Wanted} → wanted ≡ B.wanted1 s y → wanted ≡ B.wantedBy fit (with-one y)
   unfolding B.withSearch B.settings
-  one-wanted y e = wanted-one fit (with-one y) effects es e
+  one-wanted y e = wanted-one fit (with-one y) effects es refl e
 
 module _ (fit : Fit) (rows : ℕ) (progress : Progress) (effects : fit .effects ≡ 2) {s : Settings2} (es : s ≡ B.settings2 fit progress) where
   abbrev with-two : Search2 → Progress
-  with-two x = B.withSearch progress (progress .search) x
+  with-two x = B.withSearch progress (Two x)
 
   two-by : (hand : InHand) (x : Search2) (work : List ℕ) → worked (with-two (taken2 s rows hand x work .value)) (taken2 s rows hand x work .work) ≡ taken fit rows hand (with-two x) work
-  unfolding taken taken2 B.idle B.withSearch B.settings2
-  two-by Hand.Nothing x work = refl
+  unfolding taken taken2 asWith B.withSearch B.settings2
+  two-by Hand.Nothing x work = ap (λ (y : SubjectSearch). worked (B.withSearch progress y) work) (sym (pick-yes _ _ _ (eq-eqb _ _ effects)))
   two-by (Hand.Evaluated eta sums) x work = same-take fit rows (with-two x) eta sums work (advance-two fit (with-two x) eta sums effects es refl refl refl refl)
 
   pub two-taken : (hand : InHand) (x : Search2) (work : List ℕ) {y : Search2} {w : List ℕ} → worked y w ≡ taken2 s rows hand x work → worked (with-two y) w ≡ taken fit rows hand (with-two x) work
@@ -142,7 +144,7 @@ module _ (fit : Fit) (rows : ℕ) (progress : Progress) (effects : fit .effects 
 
   pub two-wanted : (y : Search2) {wanted : Wanted} → wanted ≡ B.wanted2 s y → wanted ≡ B.wantedBy fit (with-two y)
   unfolding B.withSearch B.settings2
-  two-wanted y e = wanted-two fit (with-two y) effects es e
+  two-wanted y e = wanted-two fit (with-two y) effects es refl e
 
 -- ---- the loop, with n requests left: p is the objective and w the work words with what was in hand
 module _ (fit : Fit) (rows : ℕ) (kept : Cache) (n : ℕ) (hand : InHand) (progress : Progress) (work : List ℕ) {p : Progress} {w : List ℕ} {wanted : Wanted}
@@ -191,25 +193,43 @@ module _ (fit : Fit) (rows : ℕ) (kept : Cache) (n : ℕ) (hand : InHand) (prog
         from-taken
         ((λ i. through fit rows kept (n - 1) (take fit rows p (ee i) (es i) (ev i) .value) (take fit rows p (ee i) (es i) (ev i) .work)) ∙ goes-from n slot (sym found-is ∙ t))
 
-taken-idle : (fit : Fit) (rows : ℕ) (hand : InHand) (progress : Progress) (work : List ℕ) → taken fit rows hand (B.idle progress) work ≡ taken fit rows hand progress work
-unfolding taken take B.advanceBy B.advance1 B.advance2 B.settings B.settings2 B.idle B.withSearch
-taken-idle fit rows Hand.Nothing progress work = refl
-taken-idle fit rows (Hand.Evaluated eta sums) progress work = refl
+-- ---- the loop begins with the search of the objective: x is what `one_of` or `two_of` answered
+module _ (fit : Fit) (rows : ℕ) (kept : Cache) (n : ℕ) (hand : InHand) (progress : Progress) (work : List ℕ) where
+  abbrev advances : Advanced → Worked Progress
+  advances a = worked (a .progress) (moveRows rows (a .sources) work)
 
-pub from-idle : (fit : Fit) (rows : ℕ) (kept : Cache) (n : ℕ) (hand : InHand) (progress : Progress) (work : List ℕ) → throughFrom fit rows kept n hand
-    (B.withSearch progress (progress .search) (progress .«search_2d»)) work ≡ throughFrom fit rows kept n hand progress work
-unfolding throughFrom B.idle
-from-idle fit rows kept n hand progress work = ap (λ (t : Worked Progress). through fit rows kept n (t .value) (t .work)) (taken-idle fit rows hand progress work)
+  from-search : (x : SubjectSearch) → ((h : InHand) → taken fit rows h (B.withSearch progress x) work ≡ taken fit rows h progress work)
+      → throughFrom fit rows kept n hand (B.withSearch progress x) work ≡ throughFrom fit rows kept n hand progress work
+  unfolding throughFrom
+  from-search x q = ap (λ (t : Worked Progress). through fit rows kept n (t .value) (t .work)) (q hand)
+
+  taken-one : (fit .effects ≡ 2 → ⊥) → (h : InHand) → taken fit rows h (B.withSearch progress (One (B.oneOf (progress .search)))) work ≡ taken fit rows h progress work
+  unfolding taken take asWith B.advanceBy B.advance1 B.settings B.withSearch
+  taken-one e Hand.Nothing = let f = ne-eqb _ _ e in ap (λ (x : SubjectSearch). worked (B.withSearch progress x) work) (pick-no _ _ _ f ∙ sym (pick-no _ _ _ f))
+  taken-one e (Hand.Evaluated eta sums) = let f = ne-eqb _ _ e in ap advances (pick-no _ _ _ f ∙ sym (pick-no _ _ _ f))
+
+  taken-two : fit .effects ≡ 2 → (h : InHand) → taken fit rows h (B.withSearch progress (Two (B.twoOf (progress .search)))) work ≡ taken fit rows h progress work
+  unfolding taken take asWith B.advanceBy B.advance2 B.settings2 B.withSearch
+  taken-two e Hand.Nothing = let f = eq-eqb _ _ e in ap (λ (x : SubjectSearch). worked (B.withSearch progress x) work) (pick-yes _ _ _ f ∙ sym (pick-yes _ _ _ f))
+  taken-two e (Hand.Evaluated eta sums) = let f = eq-eqb _ _ e in ap advances (pick-yes _ _ _ f ∙ sym (pick-yes _ _ _ f))
+
+  pub from-one : {x : Search} → (fit .effects ≡ 2 → ⊥) → x ≡ B.oneOf (progress .search)
+      → throughFrom fit rows kept n hand (B.withSearch progress (One x)) work ≡ throughFrom fit rows kept n hand progress work
+  from-one e ex = ap (λ (x : Search). throughFrom fit rows kept n hand (B.withSearch progress (One x)) work) ex ∙ from-search (One (B.oneOf (progress .search))) (taken-one e)
+
+  pub from-two : {x : Search2} → fit .effects ≡ 2 → x ≡ B.twoOf (progress .search)
+      → throughFrom fit rows kept n hand (B.withSearch progress (Two x)) work ≡ throughFrom fit rows kept n hand progress work
+  from-two e ex = ap (λ (x : Search2). throughFrom fit rows kept n hand (B.withSearch progress (Two x)) work) ex ∙ from-search (Two (B.twoOf (progress .search))) (taken-two e)
 
 -- ---- either; p is what `with_search` made
 pub reaches-one : (fit : Fit) (rows : ℕ) (kept : Cache) (n : ℕ) (hand : InHand) (progress : Progress) (work : List ℕ) {m : ℕ} (r : Reached1) {p : Progress} {w : List ℕ} → rows ≡ m → worked
-    (reached1 progress r) w ≡ throughFrom fit rows kept n hand progress work → p ≡ B.withSearch progress (r .search) (progress .«search_2d») → worked
+    (reached1 progress r) w ≡ throughFrom fit rows kept n hand progress work → p ≡ B.withSearch progress (One (r .search)) → worked
     (record { progress = p; left = r .left; wanted = r .wanted }) w ≡ throughFrom fit m kept n hand progress work
 reaches-one fit rows kept n hand progress work r {w = w} er q ep =
     ap (λ (p : Progress). worked (record { progress = p; left = r .left; wanted = r .wanted }) w) ep ∙ q ∙ ap (λ (m : ℕ). throughFrom fit m kept n hand progress work) er
 
 pub reaches-two : (fit : Fit) (rows : ℕ) (kept : Cache) (n : ℕ) (hand : InHand) (progress : Progress) (work : List ℕ) {m : ℕ} (r : Reached2) {p : Progress} {w : List ℕ} → rows ≡ m → worked
-    (reached2 progress r) w ≡ throughFrom fit rows kept n hand progress work → p ≡ B.withSearch progress (progress .search) (r .search) → worked
+    (reached2 progress r) w ≡ throughFrom fit rows kept n hand progress work → p ≡ B.withSearch progress (Two (r .search)) → worked
     (record { progress = p; left = r .left; wanted = r .wanted }) w ≡ throughFrom fit m kept n hand progress work
 reaches-two fit rows kept n hand progress work r {w = w} er q ep =
     ap (λ (p : Progress). worked (record { progress = p; left = r .left; wanted = r .wanted }) w) ep ∙ q ∙ ap (λ (m : ℕ). throughFrom fit m kept n hand progress work) er

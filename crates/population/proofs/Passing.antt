@@ -37,7 +37,7 @@ unfolding take B.advanceBy B.advance1 B.advance2 B.withSearch
 take-subject fit rows p eta sums work = both (λ (a : Advanced). p .subject ≡ a .progress .subject) (eqb (fit .effects) 2) refl refl
 
 taken-subject : (fit : Fit) (rows : ℕ) (hand : InHand) (p : Progress) (work : List ℕ) → p .subject ≡ taken fit rows hand p work .value .subject
-unfolding taken B.idle B.withSearch
+unfolding taken B.withSearch
 taken-subject fit rows Hand.Nothing p work = refl
 taken-subject fit rows (Hand.Evaluated eta sums) p work = take-subject fit rows p eta sums work
 

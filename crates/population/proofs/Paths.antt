@@ -91,11 +91,11 @@ module _ (fit : Fit) (counts : List ℕ) (progress : Progress) (tally : Tally) (
   squares = progress .«eta_squares» +ᶠ mode .eta .first *ᶠ mode .eta .first
 
   pub next-begins : {first : ℕ} {start : Pair} {w : List ℕ} {next : Progress} → subject < length counts → first ≡ raised (progress .first) rows → start ≡ warmOf warm (fit .effects) subject → w ≡ zeros
-      (length work) → next ≡ B.beginSubject subject first start sum squares → worked (On next) w ≡ nextSubject fit counts progress tally mode rows warm work
+      (length work) → next ≡ B.beginSubject (fit .effects) subject first start sum squares → worked (On next) w ≡ nextSubject fit counts progress tally mode rows warm work
   unfolding nextSubject
   next-begins l ef ea ew en =
       yes _ (lt-ltb _ _ (subst (λ (x : ℕ). x < length counts) es l))
-      (λ i. worked (On ((en ∙ (λ j. B.beginSubject (es j) (ef j) ((ea ∙ ap (warmOf warm (fit .effects)) es) j) sum squares)) i)) (ew i))
+      (λ i. worked (On ((en ∙ (λ j. B.beginSubject (fit .effects) (es j) (ef j) ((ea ∙ ap (warmOf warm (fit .effects)) es) j) sum squares)) i)) (ew i))
 
   pub none-next : {h : Halted} → length counts ≤ subject → h ≡ B.objectiveOf progress tally sum squares → worked (Halt h) work ≡ nextSubject fit counts progress tally mode rows warm work
   unfolding nextSubject

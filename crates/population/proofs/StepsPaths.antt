@@ -3,14 +3,17 @@ use mathlib.Core.Path.{_≡_, refl, sym, ap, subst, _∙_}
 use mathlib.Core.Bool.{Bool, true, false}
 use mathlib.Core.List.{List}
 use Prim.Native.Nat.{ℕ, _-_}
-use lib.Dec.{ltb}
+use lib.Dec.{ltb, eqb}
 use lib.ListN.{length}
+use lib.Ieee.{Float}
 use Rattle.float64.specs.Pick.{pick, yesOf, noOf, both}
 use Rattle.matrix.specs.declared.Pair.{Pair}
 use Rattle.words.specs.Words.{zeros}
 use Rattle.work.specs.Work.{isSameGrid}
 use Rattle.cache.specs.Cache.{Cache}
 use Rattle.machine.specs.Machine.{loop}
+use Rattle.mode.specs.declared.population_focei.Search.{Search}
+use Rattle.mode_2d.specs.declared.population_focei_2d.Search2.{Search2}
 use Rattle.search.specs.Subjects as B
 use Rattle.search.specs.declared.Closed.{Closed}
 use Rattle.search.specs.declared.Closed.the-variants.{Positive, NotPositive}
@@ -19,6 +22,7 @@ use Rattle.search.specs.declared.Fit.{Fit}
 use Rattle.search.specs.declared.Mode.{Mode}
 use Rattle.search.specs.declared.Progress.{Progress}
 use Rattle.search.specs.declared.Place.the-variants.{Subject}
+use Rattle.search.specs.declared.SubjectSearch.the-variants.{One, Two}
 use Rattle.search.specs.declared.Halted.{Halted}
 use Rattle.search.specs.declared.Wanted.{Wanted}
 use Rattle.search.specs.declared.Wanted.the-variants as Wants
@@ -26,7 +30,7 @@ use Rattle.population.specs.Kept.{words}
 use Rattle.population.specs.Population.{rowsOf, Worked, worked, nextSubject, Ended, ended, closing, atMode, isOver, turned, moved, turn, spent, whole, ran, raised}
 use Rattle.population.specs.declared.Turned.{Turned}
 use Rattle.population.specs.declared.Turned.the-variants.{On, Halt}
-use Rattle.population.specs.Through.{throughFrom, taken}
+use Rattle.population.specs.Through.{asWith, throughFrom, taken}
 use Rattle.population.specs.declared.kept_points.InHand.{InHand}
 use Rattle.population.specs.declared.kept_points.InHand.the-variants as Hand
 use Rattle.population.specs.declared.kept_points.Reached.{Reached}
@@ -74,15 +78,31 @@ module _ (e : Ended) {t : Turned} {w a r : List ℕ} {b : Bool} (ee : ended t w 
   pub turn-on : b ≡ false → ended t w a r ≡ cleared e
   turn-on u = turns (noOf _ eb u refl)
 
--- ---- a turn goes on only where another subject begins, and then no reply is awaited
-Begins : Turned → Type 0
-Begins (On p) = p ≡ B.idle p
-Begins (Halt h) = Halt h ≡ Halt h
+-- ---- a subject begins with a search of the objective's effects
+first-by : (b : Bool) (x : Search) (y : Search2) → let s = pick b (Two y) (One x) in s ≡ pick b (Two (B.twoOf s)) (One (B.oneOf s))
+unfolding pick
+first-by true x y = refl
+first-by false x y = refl
 
+abbrev pub own : Fit → Progress → Progress
+own fit p = B.withSearch p (asWith (fit .effects) (p .search))
+
+pub begun-own : (fit : Fit) (effects subject first : ℕ) (start : Pair) (ofv squares : Float) → fit .effects ≡ effects
+    → let p = B.beginSubject effects subject first start ofv squares in p ≡ own fit p
+unfolding asWith B.beginSubject B.withSearch B.firstSearch
+begun-own fit effects subject first start ofv squares e =
+    ap (B.withSearch (B.beginSubject effects subject first start ofv squares)) (first-by (eqb effects 2) _ _ ∙ ap (λ (n : ℕ). asWith n (B.firstSearch effects)) (sym e))
+
+-- ---- a turn goes on only where another subject begins, and then no reply is awaited, and the search is one of the objective's
 module _ (fit : Fit) (counts : List ℕ) (progress : Progress) (tally : Tally) (work warm results : List ℕ) where
+  Begins : Turned → Type 0
+  Begins (On p) = p ≡ own fit p
+  Begins (Halt h) = Halt h ≡ Halt h
+
   next-begins : (mode : Mode) (rows : ℕ) (stored : List ℕ) → Begins (nextSubject fit counts progress tally mode rows stored work .value)
-  unfolding Begins nextSubject B.beginSubject B.idle B.withSearch
-  next-begins mode rows stored = both (λ (z : Worked Turned). Begins (z .value)) (ltb (raised (progress .subject) 1) (length counts)) refl refl
+  unfolding Begins nextSubject
+  next-begins mode rows stored =
+      both (λ (z : Worked Turned). Begins (z .value)) (ltb (raised (progress .subject) 1) (length counts)) (begun-own fit _ _ _ _ _ _ refl) refl
 
   closing-begins : (rows : ℕ) (c : Closed) → Begins (closing fit counts progress tally rows work warm results c .turned)
   unfolding Begins closing
@@ -95,7 +115,7 @@ module _ (fit : Fit) (counts : List ℕ) (progress : Progress) (tally : Tally) (
   begins Wants.Mode = closing-begins (rowsOf counts (progress .subject)) (B.closedBy fit progress (rowsOf counts (progress .subject)))
   begins (Wants.Refused number) = refl
 
-  on-begins : (x : Wanted) {t : Turned} {w a r : List ℕ} {next : Progress} → ended t w a r ≡ cleared (unkept fit counts progress tally work warm results x) → t ≡ On next → next ≡ B.idle next
+  on-begins : (x : Wanted) {t : Turned} {w a r : List ℕ} {next : Progress} → ended t w a r ≡ cleared (unkept fit counts progress tally work warm results x) → t ≡ On next → next ≡ own fit next
   unfolding Begins
   on-begins x e q = subst Begins (sym (ap (λ (y : Ended). y .turned) e) ∙ q) (begins x)
 

@@ -89,7 +89,8 @@ nextSubject fit counts progress tally mode rows warm work =
     let squares = progress .«eta_squares» +ᶠ mode .eta .first *ᶠ mode .eta .first in
     let subject = raised (progress .subject) 1 in
     pick (ltb subject (length counts))
-    (worked (On (B.beginSubject subject (raised (progress .first) rows) (warmOf warm (fit .effects) subject) ofv squares))
+    (worked
+    (On (B.beginSubject (fit .effects) subject (raised (progress .first) rows) (warmOf warm (fit .effects) subject) ofv squares))
     (zeros (length work)))
     (worked (Halt (B.objectiveOf progress tally ofv squares)) work)
 

@@ -19,6 +19,8 @@ use Rattle.cache.specs.declared.Found.the-variants as F
 use Rattle.search.specs.Subjects as B
 use Rattle.search.specs.declared.Fit.{Fit}
 use Rattle.search.specs.declared.Progress.{Progress}
+use Rattle.search.specs.declared.SubjectSearch.{SubjectSearch}
+use Rattle.search.specs.declared.SubjectSearch.the-variants.{One, Two}
 use Rattle.search.specs.declared.Wanted.{Wanted}
 use Rattle.search.specs.declared.Wanted.the-variants as Wants
 use Rattle.population.specs.Population.{Worked, worked, take}
@@ -53,8 +55,12 @@ recalled k slot rows cache work = worked (B.sumsOf (termsOf cache k slot)) (copi
 
 -- ---- what is in hand is taken; with nothing in hand no reply is awaited any more
 
+-- the search as one with so many effects
+unfoldable pub asWith : ℕ → SubjectSearch → SubjectSearch
+asWith effects x = pick (eqb effects 2) (Two (B.twoOf x)) (One (B.oneOf x))
+
 unfoldable pub taken : Fit → ℕ → InHand → Progress → List ℕ → Worked Progress
-taken fit rows Hand.Nothing progress work = worked (B.idle progress) work
+taken fit rows Hand.Nothing progress work = worked (B.withSearch progress (asWith (fit .effects) (progress .search))) work
 taken fit rows (Hand.Evaluated eta sums) progress work = take fit rows progress eta sums work
 
 -- the same, of the search alone
@@ -113,10 +119,10 @@ throughFrom fit rows kept n hand progress work =
     let t = taken fit rows hand progress work in
     through fit rows kept n (t .value) (t .work)
 
--- ---- where one of the two searches has come to
+-- ---- where a search of either kind has come to
 
 abbrev pub reached1 : Progress → Reached1 → Reached
-reached1 progress r = record { progress = B.withSearch progress (r .search) (progress .«search_2d»); left = r .left; wanted = r .wanted }
+reached1 progress r = record { progress = B.withSearch progress (One (r .search)); left = r .left; wanted = r .wanted }
 
 abbrev pub reached2 : Progress → Reached2 → Reached
-reached2 progress r = record { progress = B.withSearch progress (progress .search) (r .search); left = r .left; wanted = r .wanted }
+reached2 progress r = record { progress = B.withSearch progress (Two (r .search)); left = r .left; wanted = r .wanted }

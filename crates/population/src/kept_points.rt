@@ -18,6 +18,7 @@ use mode_2d::population_focei_2d::Search2;
 use mode_2d::population_focei_2d::Settings2;
 use search::Fit;
 use search::Progress;
+use search::SubjectSearch;
 use search::Wanted;
 use subject::Sums;
 
@@ -151,7 +152,8 @@ fn through_kept_1d(
         ≡ throughFrom fit rows (cacheOf (now (cache .entry)) order) fuel hand start (now (work .entry)) ⌝ }
 {
     let settings = search::points::settings(fit, start);
-    let mut search = start.search;
+    let begun = start.search;
+    let mut search = search::one_of(begun);
     let mut left = fuel;
     let mut given = hand;
     'kept: loop {
@@ -214,7 +216,8 @@ fn through_kept_2d(
         ≡ throughFrom fit rows (cacheOf (now (cache .entry)) order) fuel hand start (now (work .entry)) ⌝ }
 {
     let settings = search::points::settings_2d(fit, start);
-    let mut search = start.search_2d;
+    let begun = start.search;
+    let mut search = search::two_of(begun);
     let mut left = fuel;
     let mut given = hand;
     'kept: loop {
@@ -260,21 +263,21 @@ pub fn through_kept(
     let rows = super::rows_of(counts, progress.subject);
     if fit.effects == 2 {
         let r = through_kept_2d(fit, rows, order, progress, hand, fuel, cache, work);
-        let search = progress.search;
-        let search_2d = r.search;
+        let own = r.search;
+        let search = SubjectSearch::Two(own);
         let wanted = r.wanted;
         return Reached {
-            progress: search::points::with_search(progress, search, search_2d),
+            progress: search::points::with_search(progress, search),
             left: r.left,
             wanted,
         };
     }
     let r = through_kept_1d(fit, rows, order, progress, hand, fuel, cache, work);
-    let search = r.search;
-    let search_2d = progress.search_2d;
+    let own = r.search;
+    let search = SubjectSearch::One(own);
     let wanted = r.wanted;
     Reached {
-        progress: search::points::with_search(progress, search, search_2d),
+        progress: search::points::with_search(progress, search),
         left: r.left,
         wanted,
     }

@@ -94,15 +94,15 @@ fn next_subject(
         ≡ nextSubject fit (now (counts .entry)) progress tally mode rows (now (warm .entry)) (now (work .entry)) ⌝ }
 {
     let ofv = progress.ofv + mode.term;
-    let eta_squares = progress.eta_squares + mode.eta.first * mode.eta.first;
+    let squares = progress.eta_squares + mode.eta.first * mode.eta.first;
     let subject = std::num::wrapping_add_usize(progress.subject, 1);
     if subject < counts.len() {
         let first = std::num::wrapping_add_usize(progress.first, rows);
         let start = warm_of(warm, fit.effects, subject);
         words::clear(work);
-        return Turned::On(search::begin_subject(subject, first, start, ofv, eta_squares));
+        return Turned::On(search::begin_subject(fit.effects, subject, first, start, ofv, squares));
     }
-    Turned::Halt(search::objective::objective_of(progress, tally, ofv, eta_squares))
+    Turned::Halt(search::objective::objective_of(progress, tally, ofv, squares))
 }
 
 // What is done with a search's mode: check 16, the warm start is stored, check 17, the results are written,

@@ -15,7 +15,9 @@ use Rattle.matrix.specs.declared.InversePositive.{InversePositive}
 use Rattle.matrix.specs.declared.InversePositive.the-variants.{Exists, None}
 use Rattle.likelihood.specs.Terms.{log2pi}
 use Rattle.mode.specs.declared.population_focei.Conditional.{Conditional}
+use Rattle.mode.specs.declared.population_focei.Search.{Search}
 use Rattle.mode_2d.specs.declared.population_focei_2d.Conditional2.{Conditional2}
+use Rattle.mode_2d.specs.declared.population_focei_2d.Search2.{Search2}
 use Rattle.search.specs.declared.Tally.{Tally}
 use Rattle.search.specs.declared.Fit.{Fit}
 use Rattle.search.specs.declared.Progress.{Progress}
@@ -24,7 +26,7 @@ use Rattle.search.specs.declared.Step.the-variants.{Finished}
 use Rattle.search.specs.declared.Halted.{Halted}
 use Rattle.search.specs.declared.Closed.{Closed}
 use Rattle.search.specs.declared.Closed.the-variants.{Positive, NotPositive}
-use Rattle.search.specs.Subjects.{refusedBy, closed1, precisionOf, curvatureOf, closedWith, closed2, closedBy, finished, objectiveOf}
+use Rattle.search.specs.Subjects.{oneOf, twoOf, refusedBy, closed1, precisionOf, curvatureOf, closedWith, closed2, closedBy, finished, objectiveOf}
 use Rattle.search.proofs.Paths.{inverse-is}
 
 -- ---- a mode with one effect; b is what `is_nonfinite` answered of the curvature, l the logarithm
@@ -78,15 +80,15 @@ module _ (fit : Fit) (best : Conditional2) (rows : ℕ) {r : InversePositive} (e
       let eta = pair (best .eta .first) (best .eta .second) in
       closed-as t (λ i. modeTwo best rows ((ed ∙ ap (dot eta) ev) i) (el i))
 
--- z is what is closed
+-- z is what is closed, x the search
 module _ (fit : Fit) (progress : Progress) (rows : ℕ) {z : Closed} where
-  pub closed-two : fit .effects ≡ 2 → z ≡ closed2 fit (progress .«search_2d» .best) rows → z ≡ closedBy fit progress rows
+  pub closed-two : {x : Search2} → fit .effects ≡ 2 → x ≡ twoOf (progress .search) → z ≡ closed2 fit (x .best) rows → z ≡ closedBy fit progress rows
   unfolding closedBy
-  closed-two h q = yes _ (eq-eqb _ _ h) q
+  closed-two h e q = yes _ (eq-eqb _ _ h) (q ∙ ap (λ (x : Search2). closed2 fit (x .best) rows) e)
 
-  pub closed-one : (fit .effects ≡ 2 → ⊥) → z ≡ closed1 fit (progress .search .best) rows → z ≡ closedBy fit progress rows
+  pub closed-one : {x : Search} → (fit .effects ≡ 2 → ⊥) → x ≡ oneOf (progress .search) → z ≡ closed1 fit (x .best) rows → z ≡ closedBy fit progress rows
   unfolding closedBy
-  closed-one h q = no _ (ne-eqb _ _ h) q
+  closed-one h e q = no _ (ne-eqb _ _ h) (q ∙ ap (λ (x : Search). closed1 fit (x .best) rows) e)
 
 -- ---- question 18; b is what `is_nonfinite` answered, p the progress afterwards
 module _ (progress : Progress) (tally : Tally) (ofv eta-squares : Float) {b : Bool} (e : b ≡ nonfinite ofv) where

@@ -23,9 +23,10 @@ use Rattle.work.specs.declared.Sources.{Sources}
 use Rattle.subject.specs.declared.Sums.{Sums}
 use Rattle.search.specs.declared.Fit.{Fit}
 use Rattle.search.specs.declared.Progress.{Progress}
+use Rattle.search.specs.declared.SubjectSearch.the-variants.{One, Two}
 use Rattle.search.specs.declared.Wanted.{Wanted}
-use Rattle.search.specs.Subjects.{settings, settings2, wants1, wanted1, wants2, wanted2, wantedBy, conditional1, conditional2, sourcesAt, sources1, currentAt, currentSource, isNewBest}
-use Rattle.search.specs.Subjects.{populationAt, populationSource, sources2, withSearch, advance1, advance2, advanceBy}
+use Rattle.search.specs.Subjects.{settings, settings2, oneOf, twoOf, wants1, wanted1, wants2, wanted2, wantedBy, conditional1, conditional2, sourcesAt, sources1, currentAt, currentSource}
+use Rattle.search.specs.Subjects.{isNewBest, populationAt, populationSource, sources2, withSearch, advance1, advance2, advanceBy}
 
 -- ---- what the search wants: r is what it asked for, v its variant
 pub wants-one : (s : Settings) (x : Search) {r v : Request} → r ≡ request s x → r ≡ v → wants1 v ≡ wanted1 s x
@@ -36,15 +37,15 @@ pub wants-two : (s : Settings2) (x : Search2) {r v : Request2} → r ≡ R2.requ
 unfolding wanted2
 wants-two s x e t = ap wants2 (sym t ∙ e)
 
--- z is what is wanted
+-- z is what is wanted, x the search
 module _ (fit : Fit) (progress : Progress) {z : Wanted} where
-  pub wanted-two : {s : Settings2} → fit .effects ≡ 2 → s ≡ settings2 fit progress → z ≡ wanted2 s (progress .«search_2d») → z ≡ wantedBy fit progress
+  pub wanted-two : {s : Settings2} {x : Search2} → fit .effects ≡ 2 → s ≡ settings2 fit progress → x ≡ twoOf (progress .search) → z ≡ wanted2 s x → z ≡ wantedBy fit progress
   unfolding wantedBy
-  wanted-two h e q = yes _ (eq-eqb _ _ h) (q ∙ ap (λ (s : Settings2). wanted2 s (progress .«search_2d»)) e)
+  wanted-two h es ex q = yes _ (eq-eqb _ _ h) (q ∙ (λ i. wanted2 (es i) (ex i)))
 
-  pub wanted-one : {s : Settings} → (fit .effects ≡ 2 → ⊥) → s ≡ settings fit progress → z ≡ wanted1 s (progress .search) → z ≡ wantedBy fit progress
+  pub wanted-one : {s : Settings} {x : Search} → (fit .effects ≡ 2 → ⊥) → s ≡ settings fit progress → x ≡ oneOf (progress .search) → z ≡ wanted1 s x → z ≡ wantedBy fit progress
   unfolding wantedBy
-  wanted-one h e q = no _ (ne-eqb _ _ h) (q ∙ ap (λ (s : Settings). wanted1 s (progress .search)) e)
+  wanted-one h es ex q = no _ (ne-eqb _ _ h) (q ∙ (λ i. wanted1 (es i) (ex i)))
 
 -- ---- where the rows come from, by the stage of the search
 pub sources-at : (x : Search) (c : Conditional) {stage : Stage} {z : Sources} → x .stage ≡ stage → z ≡ sourcesAt stage x c → z ≡ sources1 x c
@@ -81,17 +82,18 @@ module _ (s : Settings2) (x y : Search2) where
 
 -- ---- the search with an evaluated point; after is the search afterwards, p the progress, w the sources
 module _ (fit : Fit) (progress : Progress) (eta : Pair) (sums : Sums) {p : Progress} {w : Sources} where
-  pub advance-two : {s : Settings2} {c : Conditional2} {after : Search2} → fit .effects ≡ 2 → s ≡ settings2 fit progress → c ≡ conditional2 eta sums → after ≡ R2.advance s (progress .«search_2d») c →
-      p ≡ withSearch progress (progress .search) after → w ≡ sources2 s (progress .«search_2d») after c → record { progress = p; sources = w } ≡ advanceBy fit progress eta sums
+  pub advance-two : {s : Settings2} {c : Conditional2} {after : Search2} → let x = twoOf (progress .search) in fit .effects ≡ 2 → s ≡ settings2 fit progress → c ≡ conditional2 eta sums → after ≡
+      R2.advance s x c → p ≡ withSearch progress (Two after) → w ≡ sources2 s x after c → record { progress = p; sources = w } ≡ advanceBy fit progress eta sums
   unfolding advanceBy advance2
   advance-two {s} {c} h es ec ea ep ew =
-      let x = progress .«search_2d» in
+      let x = twoOf (progress .search) in
       yes _ (eq-eqb _ _ h)
-      ((λ i. record { progress = (ep ∙ ap (withSearch progress (progress .search)) ea) i; sources = (ew ∙ ap (λ (y : Search2). sources2 s x y c) ea) i }) ∙ (λ i. advance2 (es i) progress (ec i)))
+      ((λ i. record { progress = (ep ∙ ap (λ (y : Search2). withSearch progress (Two y)) ea) i; sources = (ew ∙ ap (λ (y : Search2). sources2 s x y c) ea) i })
+      ∙ (λ i. advance2 (es i) progress (ec i)))
 
-  pub advance-one : {s : Settings} {c : Conditional} {after : Search} → (fit .effects ≡ 2 → ⊥) → s ≡ settings fit progress → c ≡ conditional1 fit eta sums → after ≡ advance s (progress .search) c → p
-      ≡ withSearch progress after (progress .«search_2d») → w ≡ sources1 (progress .search) c → record { progress = p; sources = w } ≡ advanceBy fit progress eta sums
+  pub advance-one : {s : Settings} {c : Conditional} {after : Search} → let x = oneOf (progress .search) in (fit .effects ≡ 2 → ⊥) → s ≡ settings fit progress → c ≡ conditional1 fit eta sums → after ≡
+      advance s x c → p ≡ withSearch progress (One after) → w ≡ sources1 x c → record { progress = p; sources = w } ≡ advanceBy fit progress eta sums
   unfolding advanceBy advance1
   advance-one {s} {c} h es ec ea ep ew =
       no _ (ne-eqb _ _ h)
-      ((λ i. record { progress = (ep ∙ ap (λ (y : Search). withSearch progress y (progress .«search_2d»)) ea) i; sources = ew i }) ∙ (λ i. advance1 (es i) progress (ec i)))
+      ((λ i. record { progress = (ep ∙ ap (λ (y : Search). withSearch progress (One y)) ea) i; sources = ew i }) ∙ (λ i. advance1 (es i) progress (ec i)))

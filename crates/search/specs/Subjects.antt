@@ -43,6 +43,8 @@ use Rattle.search.specs.declared.Calls.{Calls}
 use Rattle.search.specs.declared.CachedRows.{CachedRows}
 use Rattle.search.specs.declared.Tally.{Tally}
 use Rattle.search.specs.declared.Fit.{Fit}
+use Rattle.search.specs.declared.SubjectSearch.{SubjectSearch}
+use Rattle.search.specs.declared.SubjectSearch.the-variants as With
 use Rattle.search.specs.declared.Progress.{Progress}
 use Rattle.search.specs.declared.Place.{Place}
 use Rattle.search.specs.declared.Place.the-variants.{Nowhere, Subject, Observation}
@@ -112,6 +114,17 @@ settings2 fit progress = record {
   warm = progress .warm;
 }
 
+-- ---- the search of the subject
+
+-- with one effect, with two: a search of the other kind, which only a state from outside a session has, is as one that has asked nothing
+abbrev pub oneOf : SubjectSearch → Search
+oneOf (With.One x) = x
+oneOf (With.Two x) = start
+
+abbrev pub twoOf : SubjectSearch → Search2
+twoOf (With.One x) = R2.start
+twoOf (With.Two x) = x
+
 -- ---- what the search wants
 
 abbrev pub wants1 : Request → Wanted
@@ -132,8 +145,8 @@ wanted2 s x = wants2 (R2.request s x)
 
 unfoldable pub wantedBy : Fit → Progress → Wanted
 wantedBy fit progress =
-    pick (eqb (fit .effects) 2) (wanted2 (settings2 fit progress) (progress .«search_2d»))
-    (wanted1 (settings fit progress) (progress .search))
+    pick (eqb (fit .effects) 2) (wanted2 (settings2 fit progress) (twoOf (progress .search)))
+    (wanted1 (settings fit progress) (oneOf (progress .search)))
 
 -- ---- kept evaluations: subject, the bits of theta and eta, and with one effect of the optional override. Omega is not in the key.
 
@@ -268,29 +281,29 @@ sources2 s x y c =
 
 -- ---- the search with the evaluation of the point that it asked for
 
-unfoldable pub withSearch : Progress → Search → Search2 → Progress
-withSearch progress x y = record {
+unfoldable pub withSearch : Progress → SubjectSearch → Progress
+withSearch progress x = record {
   awaits = false;
   individual = progress .individual;
   subject = progress .subject;
   first = progress .first;
   warm = progress .warm;
   search = x;
-  «search_2d» = y;
   ofv = progress .ofv;
   «eta_squares» = progress .«eta_squares»;
 }
 
 unfoldable pub advance1 : Settings → Progress → Conditional → Advanced
 advance1 s progress c = record {
-  progress = withSearch progress (advance s (progress .search) c) (progress .«search_2d»);
-  sources = sources1 (progress .search) c;
+  progress = withSearch progress (With.One (advance s (oneOf (progress .search)) c));
+  sources = sources1 (oneOf (progress .search)) c;
 }
 
 unfoldable pub advance2 : Settings2 → Progress → Conditional2 → Advanced
 advance2 s progress c =
-    let after = R2.advance s (progress .«search_2d») c in
-    record { progress = withSearch progress (progress .search) after; sources = sources2 s (progress .«search_2d») after c }
+    let x = twoOf (progress .search) in
+    let after = R2.advance s x c in
+    record { progress = withSearch progress (With.Two after); sources = sources2 s x after c }
 
 unfoldable pub advanceBy : Fit → Progress → Pair → Sums → Advanced
 advanceBy fit progress eta sums =
@@ -300,7 +313,7 @@ advanceBy fit progress eta sums =
 -- ---- the answers of a step
 
 unfoldable pub idle : Progress → Progress
-idle progress = withSearch progress (progress .search) (progress .«search_2d»)
+idle progress = withSearch progress (progress .search)
 
 unfoldable pub awaiting : Progress → Pair → Progress
 awaiting progress individual = record {
@@ -310,7 +323,6 @@ awaiting progress individual = record {
   first = progress .first;
   warm = progress .warm;
   search = progress .search;
-  «search_2d» = progress .«search_2d»;
   ofv = progress .ofv;
   «eta_squares» = progress .«eta_squares»;
 }
@@ -380,19 +392,21 @@ closed2 fit best rows = closedWith fit best rows (inversePositive (curvatureOf f
 
 unfoldable pub closedBy : Fit → Progress → ℕ → Closed
 closedBy fit progress rows =
-    pick (eqb (fit .effects) 2) (closed2 fit (progress .«search_2d» .best) rows) (closed1 fit (progress .search .best) rows)
+    pick (eqb (fit .effects) 2) (closed2 fit (twoOf (progress .search) .best) rows) (closed1 fit (oneOf (progress .search) .best) rows)
 
 -- ---- a subject's search begins; the objective ends
 
-unfoldable pub beginSubject : ℕ → ℕ → Pair → Float → Float → Progress
-beginSubject subject first warm ofv eta-squares = record {
+unfoldable pub firstSearch : ℕ → SubjectSearch
+firstSearch effects = pick (eqb effects 2) (With.Two R2.start) (With.One start)
+
+unfoldable pub beginSubject : ℕ → ℕ → ℕ → Pair → Float → Float → Progress
+beginSubject effects subject first warm ofv eta-squares = record {
   awaits = false;
   individual = record { first = word 0; second = word 0 };
   subject = subject;
   first = first;
   warm = warm;
-  search = start;
-  «search_2d» = R2.start;
+  search = firstSearch effects;
   ofv = ofv;
   «eta_squares» = eta-squares;
 }
@@ -405,7 +419,6 @@ finished progress ofv eta-squares = record {
   first = progress .first;
   warm = progress .warm;
   search = progress .search;
-  «search_2d» = progress .«search_2d»;
   ofv = ofv;
   «eta_squares» = eta-squares;
 }

@@ -3,7 +3,7 @@
 // search wants and what an evaluated point makes of it, `questions` the key of an evaluation and the question
 // for it, `objective` what a mode adds to the objective. Each function is defined for all values.
 ghost use mathlib.Core.Path.{_≡_};
-ghost use Rattle.search.specs.Subjects.{fitWith, fit2, fitIn, beginSubject, idle, refusedBy, isOver};
+ghost use Rattle.search.specs.Subjects.{fitWith, fit2, fitIn, oneOf, twoOf, firstSearch, beginSubject, idle, refusedBy, isOver};
 
 pub mod objective;
 pub mod points;
@@ -52,17 +52,23 @@ pub struct Fit {
     pub max_evaluations: u32,
 }
 
+// A subject's search, by the number of effects. A session has searches of one kind only, so that its state
+// holds one of the two.
+pub enum SubjectSearch {
+    One(Search),
+    Two(Search2),
+}
+
 // Where an objective stands: whether a reply is awaited, and then the individual values that were asked for;
-// the subject, the number of its first observation among all, its warm start and its search (by the number of
-// effects, one of the two); the objective's sum so far, and the sum of the squares of eta.
+// the subject, the number of its first observation among all, its warm start and its search; the objective's
+// sum so far, and the sum of the squares of eta.
 pub struct Progress {
     pub awaits: bool,
     pub individual: Pair,
     pub subject: usize,
     pub first: usize,
     pub warm: Pair,
-    pub search: Search,
-    pub search_2d: Search2,
+    pub search: SubjectSearch,
     pub ofv: f64,
     pub eta_squares: f64,
 }
@@ -163,16 +169,49 @@ pub fn fit_of(own: Setup, theta: Pair) -> Fit
     fit_with(own, theta, [[0.0, 0.0], [0.0, 0.0]], 0.0)
 }
 
+// ---- a subject's search
+
+// The search with one effect. One with two, which only a state from outside a session has, counts as one that
+// has asked for nothing.
+pub fn one_of(search: SubjectSearch) -> Search
+    ensures { λ r. ⌜ r ≡ oneOf search ⌝ }
+{
+    match search {
+        SubjectSearch::One(own) => own,
+        SubjectSearch::Two(_) => Search::start(),
+    }
+}
+
+// The search with two effects; one with one counts as one that has asked for nothing.
+pub fn two_of(search: SubjectSearch) -> Search2
+    ensures { λ r. ⌜ r ≡ twoOf search ⌝ }
+{
+    match search {
+        SubjectSearch::One(_) => Search2::start(),
+        SubjectSearch::Two(own) => own,
+    }
+}
+
+fn first_search(effects: u32) -> SubjectSearch
+    ensures { λ r. ⌜ r ≡ firstSearch effects ⌝ }
+{
+    if effects == 2 {
+        return SubjectSearch::Two(Search2::start());
+    }
+    SubjectSearch::One(Search::start())
+}
+
 // Where an objective stands as a subject's search begins: `first` is the number of the subject's first
 // observation among all, `warm` its warm start, and the sums are those of the subjects before.
 pub fn begin_subject(
+    effects: u32,
     subject: usize,
     first: usize,
     warm: Pair,
     ofv: f64,
     eta_squares: f64,
 ) -> Progress
-    ensures { λ r. ⌜ r ≡ beginSubject subject first warm ofv «eta_squares» ⌝ }
+    ensures { λ r. ⌜ r ≡ beginSubject effects subject first warm ofv «eta_squares» ⌝ }
 {
     Progress {
         awaits: false,
@@ -183,8 +222,7 @@ pub fn begin_subject(
         subject,
         first,
         warm,
-        search: Search::start(),
-        search_2d: Search2::start(),
+        search: first_search(effects),
         ofv,
         eta_squares,
     }

@@ -73,12 +73,13 @@ fn closed_2d(fit: Fit, best: Conditional2, rows: u32) -> Closed
 pub fn closed_by(fit: Fit, progress: Progress, rows: u32) -> Closed
     ensures { λ r. ⌜ r ≡ closedBy fit progress rows ⌝ }
 {
-    if fit.effects == 2 {
-        let search = progress.search_2d;
-        return closed_2d(fit, search.best, rows);
-    }
     let search = progress.search;
-    closed_1d(fit, search.best, rows)
+    if fit.effects == 2 {
+        let own = super::two_of(search);
+        return closed_2d(fit, own.best, rows);
+    }
+    let own = super::one_of(search);
+    closed_1d(fit, own.best, rows)
 }
 
 // ---- the objective

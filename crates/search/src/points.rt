@@ -7,6 +7,7 @@ ghost use Rattle.search.specs.Subjects.{settings, settings2, wanted1, wa
 ghost use Rattle.search.specs.Subjects.{bracketSources, sources1, currentSource, isNewBest, populationSource, sources2, withSearch};
 use super::Fit;
 use super::Progress;
+use super::SubjectSearch;
 use super::Wanted;
 use matrix::Pair;
 use mode::population_focei::Conditional;
@@ -81,12 +82,11 @@ pub fn wanted_2d(settings: Settings2, search: Search2) -> Wanted
 pub fn wanted_by(fit: Fit, progress: Progress) -> Wanted
     ensures { λ r. ⌜ r ≡ wantedBy fit progress ⌝ }
 {
-    if fit.effects == 2 {
-        let search = progress.search_2d;
-        return wanted_2d(settings_2d(fit, progress), search);
-    }
     let search = progress.search;
-    wanted_1d(settings(fit, progress), search)
+    if fit.effects == 2 {
+        return wanted_2d(settings_2d(fit, progress), super::two_of(search));
+    }
+    wanted_1d(settings(fit, progress), super::one_of(search))
 }
 
 // ---- an evaluated point
@@ -235,13 +235,20 @@ pub fn sources_2d(settings: Settings2, search: Search2, after: Search2, c: Condi
     }
 }
 
-// The objective with these searches; no reply is awaited any more.
-pub fn with_search(progress: Progress, search: Search, search_2d: Search2) -> Progress
-    ensures { λ r. ⌜ r ≡ withSearch progress search «search_2d» ⌝ }
+// The objective with this search; no reply is awaited any more.
+pub fn with_search(progress: Progress, search: SubjectSearch) -> Progress
+    ensures { λ r. ⌜ r ≡ withSearch progress search ⌝ }
 {
-    let mut next = progress;
-    next.awaits = false;
-    next.search = search;
-    next.search_2d = search_2d;
-    next
+    let individual = progress.individual;
+    let warm = progress.warm;
+    Progress {
+        awaits: false,
+        individual,
+        subject: progress.subject,
+        first: progress.first,
+        warm,
+        search,
+        ofv: progress.ofv,
+        eta_squares: progress.eta_squares,
+    }
 }

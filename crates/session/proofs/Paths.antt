@@ -9,7 +9,9 @@ use Rattle.float64.specs.Pick.{yes, no, yesOf, noOf}
 use Rattle.float64.specs.Arithmetic.{word}
 use Rattle.work.specs.Work.{block}
 use Rattle.cache.specs.Cache.{order}
+use Rattle.mode.specs.declared.population_focei.Search.{Search}
 use Rattle.mode.specs.declared.population_focei.Stage.{Stage}
+use Rattle.mode_2d.specs.declared.population_focei_2d.Search2.{Search2}
 use Rattle.subject.specs.declared.Check.{Check}
 use Rattle.setup.specs.Admission.{checks, withParameters}
 use Rattle.setup.specs.declared.Admission.{Admission}
@@ -17,7 +19,7 @@ use Rattle.setup.specs.declared.Admission.the-variants as A
 use Rattle.setup.specs.declared.Lent.{Lent}
 use Rattle.setup.specs.declared.Parameters.{Parameters}
 use Rattle.setup.specs.declared.Setup.{Setup}
-use Rattle.search.specs.Subjects.{beginSubject}
+use Rattle.search.specs.Subjects.{oneOf, twoOf, beginSubject}
 use Rattle.search.specs.declared.Progress.{Progress}
 use Rattle.search.specs.declared.Tally.{Tally}
 use Rattle.population.specs.Population.{rowsOf}
@@ -43,16 +45,16 @@ module _ (effects : ℕ) (counts : List ℕ) (n : ℕ) (p : Progress) where
     fit : p .first + rows ≤ n → p .first + rowsOf counts (p .subject) ≤ n
     fit l = subst (λ (r : ℕ). p .first + r ≤ n) e l
 
-    pub placed-2d : {r : Bool} → p .first + rows ≤ n → effects ≡ 2 → r ≡ searchWithin2 (p .«search_2d») → r ≡ isPlaced effects counts n p
+    pub placed-2d : {x : Search2} {r : Bool} → p .first + rows ≤ n → effects ≡ 2 → x ≡ twoOf (p .search) → r ≡ searchWithin2 x → r ≡ isPlaced effects counts n p
     unfolding isPlaced
-    placed-2d l two q = yes _ (lt-ltb _ _ inside) (no _ (le-ltb _ _ (fit l)) (yes _ (eq-eqb _ _ two) q))
+    placed-2d l two ex q = yes _ (lt-ltb _ _ inside) (no _ (le-ltb _ _ (fit l)) (yes _ (eq-eqb _ _ two) (q ∙ ap searchWithin2 ex)))
 
-    pub placed : {r : Bool} → p .first + rows ≤ n → (effects ≡ 2 → ⊥) → r ≡ searchWithin (p .search) → r ≡ isPlaced effects counts n p
+    pub placed : {x : Search} {r : Bool} → p .first + rows ≤ n → (effects ≡ 2 → ⊥) → x ≡ oneOf (p .search) → r ≡ searchWithin x → r ≡ isPlaced effects counts n p
     unfolding isPlaced
-    placed l one q = yes _ (lt-ltb _ _ inside) (no _ (le-ltb _ _ (fit l)) (no _ (ne-eqb _ _ one) q))
+    placed l one ex q = yes _ (lt-ltb _ _ inside) (no _ (le-ltb _ _ (fit l)) (no _ (ne-eqb _ _ one) (q ∙ ap searchWithin ex)))
 
 -- ---- the first state; p is what `begin_subject` answered
-pub first-made : (setup : Setup) {p : Progress} → p ≡ beginSubject 0 0 (record { first = word 0; second = word 0 }) (word 0) (word 0)
+pub first-made : (setup : Setup) {p : Progress} → p ≡ beginSubject (setup .effects) 0 0 (record { first = word 0; second = word 0 }) (word 0) (word 0)
     → record { parameters = record { theta = record { first = word 0; second = word 0 }; omega = setup .omega00; «additive_sd» = setup .«additive_sd» }; progress = p; order = order 1 1 0 0 } ≡
     firstState setup
 first-made setup e =

@@ -128,7 +128,7 @@ openedBy setup counts n check tally cache work warm results =
 unfoldable pub startOf : Parameters → List ℕ → ℕ → CacheOrder → State
 startOf parameters warm effects order = record {
   parameters = parameters;
-  progress = beginSubject 0 0 (warmOf warm effects 0) (word 0) (word 0);
+  progress = beginSubject effects 0 0 (warmOf warm effects 0) (word 0) (word 0);
   order = order;
 }
 

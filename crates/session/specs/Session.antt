@@ -27,7 +27,7 @@ use Rattle.setup.specs.declared.Parameters.{Parameters}
 use Rattle.setup.specs.declared.Lent.{Lent}
 use Rattle.setup.specs.declared.Admission.{Admission}
 use Rattle.setup.specs.declared.Admission.the-variants as A
-use Rattle.search.specs.Subjects.{fitOf, wantedBy, idle, beginSubject}
+use Rattle.search.specs.Subjects.{fitOf, oneOf, twoOf, wantedBy, idle, beginSubject}
 use Rattle.search.specs.declared.Tally.{Tally}
 use Rattle.search.specs.declared.Fit.{Fit}
 use Rattle.search.specs.declared.Progress.{Progress}
@@ -75,7 +75,7 @@ unfoldable pub isPlaced : ℕ → List ℕ → ℕ → Progress → Bool
 isPlaced effects counts observations p =
     pick (ltb (p .subject) (length counts))
     (pick (ltb observations (p .first + rowsOf counts (p .subject))) false
-    (pick (eqb effects 2) (searchWithin2 (p .«search_2d»)) (searchWithin (p .search))))
+    (pick (eqb effects 2) (searchWithin2 (twoOf (p .search))) (searchWithin (oneOf (p .search)))))
     false
 
 -- and kept rows at most K, with n observations lent
@@ -138,13 +138,13 @@ module _ (S : Store) (setup : Setup) (counts : List ℕ) where
   abbrev pub opened : Lent → List ℕ → Held S
   opened lent results =
       held S noParameters
-      (wholeOf S (beginSubject 0 0 (record { first = word 0; second = word 0 }) (word 0) (word 0)) noTally (S .cleared (lent .cache))
-      (zeros (lent .work)) (zeros (lent .warm)) results)
+      (wholeOf S (beginSubject (setup .effects) 0 0 (record { first = word 0; second = word 0 }) (word 0) (word 0)) noTally
+      (S .cleared (lent .cache)) (zeros (lent .work)) (zeros (lent .warm)) results)
 
   -- a new objective
   unfoldable pub begun : Parameters → Whole S → Held S
   begun parameters w =
-      let start = beginSubject 0 0 (warmOf (w .warm) (setup .effects) 0) (word 0) (word 0) in
+      let start = beginSubject (setup .effects) 0 0 (warmOf (w .warm) (setup .effects) 0) (word 0) (word 0) in
       held S parameters (wholeOf S start (w .tally) (w .kept) (w .work) (w .warm) (w .results))
 
   abbrev pub trialOf : Fit → Progress → Trial

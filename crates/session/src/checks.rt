@@ -73,12 +73,11 @@ fn is_placed(effects: u32, counts: &[u64], observations: usize, progress: Progre
         if observations - rows < progress.first {
             return false;
         }
-        if effects == 2 {
-            let search = progress.search_2d;
-            return search_within_2d(search);
-        }
         let search = progress.search;
-        return search_within(search);
+        if effects == 2 {
+            return search_within_2d(search::two_of(search));
+        }
+        return search_within(search::one_of(search));
     }
     false
 }

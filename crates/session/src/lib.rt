@@ -132,7 +132,7 @@ pub fn first_state(setup: Setup) -> State
             omega: setup.omega00,
             additive_sd,
         },
-        progress: search::begin_subject(0, 0, zero, 0.0, 0.0),
+        progress: search::begin_subject(setup.effects, 0, 0, zero, 0.0, 0.0),
         order: CacheOrder {
             oldest: 1,
             next: 1,
@@ -152,7 +152,7 @@ pub fn start_of(parameters: Parameters, warm: &[u64], effects: u32, order: Cache
     let first = population::warm_of(warm, effects, 0);
     State {
         parameters,
-        progress: search::begin_subject(0, 0, first, 0.0, 0.0),
+        progress: search::begin_subject(effects, 0, 0, first, 0.0, 0.0),
         order,
     }
 }

@@ -19,24 +19,27 @@ use Rattle.setup.specs.declared.Admission.the-variants as A
 use Rattle.setup.specs.declared.Lent.{Lent}
 use Rattle.setup.specs.declared.Parameters.{Parameters}
 use Rattle.setup.specs.declared.Setup.{Setup}
-use Rattle.search.specs.Subjects.{fitOf, wantedBy, refusedBy, idle, withSearch, beginSubject}
+use Rattle.search.specs.Subjects.{fitOf, wantedBy, refusedBy}
 use Rattle.search.specs.declared.Fit.{Fit}
 use Rattle.search.specs.declared.Halted.{Halted}
 use Rattle.search.specs.declared.Place.{Place}
 use Rattle.search.specs.declared.Place.the-variants as At
+use Rattle.search.specs.declared.Progress.{Progress}
 use Rattle.search.specs.declared.Step.{Step}
 use Rattle.search.specs.declared.Step.the-variants.{Refused}
 use Rattle.search.specs.declared.Tally.{Tally}
 use Rattle.search.specs.declared.Wanted.{Wanted}
 use Rattle.search.specs.declared.Wanted.the-variants as Wants
+use Rattle.search.proofs.Fits.{fit-effects}
 use Rattle.machine.specs.Machine.{Moved, on, Ran, ran, onward, loop}
 use Rattle.population.specs.Kept.{words, cacheOf}
-use Rattle.population.specs.Population.{Whole, turn, spent, receive}
+use Rattle.population.specs.Population.{Whole, whole, turn, spent, receive}
 use Rattle.population.specs.Answers.{KeptWith, keptWith, keep}
 use Rattle.population.specs.declared.answers.Kept.{Kept}
 use Rattle.population.specs.Through.{taken}
 use Rattle.population.specs.declared.kept_points.InHand.the-variants as Hand
 use Rattle.population.specs.Steps.{wholeFrom}
+use Rattle.population.proofs.StepsPaths.{begun-own}
 use Rattle.session.specs.Calls.{heldOf, called, runIn, entered, enteredIn, lentBy, refusedAs, endedAs, firstState, Setting, begunWith, opening, openedBy, startOf, admitObjective}
 use Rattle.session.specs.Calls.{awaitedPoint, awaitedFor, admitAwaited, followed, finishReply}
 use Rattle.session.specs.Session.{Held, held, fuel, noTally, isStanding, lentOf, whenAdmitted, begun, admitted, enterObjective, atWanted, whenAwaited, enterFailure, over, replied, unaltered}
@@ -135,10 +138,12 @@ module _ (setup : Setup) (counts : List ℕ) (n : ℕ) (check : Check) (paramete
   pub objective-starts : {s : State} {fit : Fit} {z : Ran (Held words) Step} → fit ≡ fitOf setup parameters → s ≡ startOf parameters warm (setup .effects) (state .order)
       → z ≡ runIn fit counts (held words (s .parameters) (wholeFrom fit counts Hand.Nothing (s .progress) tally (cacheOf cache (s .order)) work warm results))
       → z ≡ entered setup counts (on (begun words setup counts parameters (h .whole)))
-  unfolding begun startOf onward taken idle withSearch beginSubject
+  unfolding begun startOf onward taken
   objective-starts ef es q =
       q
       ∙ (λ i. runIn (ef i) counts (held words (es i .parameters) (wholeFrom (ef i) counts Hand.Nothing (es i .progress) tally (cacheOf cache (es i .order)) work warm results)))
+      ∙ ap (λ (p : Progress). runIn (fitOf setup parameters) counts (held words parameters (whole p tally (cacheOf cache (state .order)) work warm results)))
+      (sym (begun-own (fitOf setup parameters) (setup .effects) _ _ _ _ _ (fit-effects setup parameters)))
       ∙ sym (run-held setup counts parameters (begun words setup counts parameters (h .whole) .whole))
 
 -- ---- a reply or a failure is let in; go is what it does with the point that was asked for

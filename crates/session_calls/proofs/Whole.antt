@@ -5,11 +5,10 @@ use mathlib.Core.List.{List}
 use Prim.Native.Nat.{ℕ, _+_, _-_, _≤_}
 use native.Mathlib.Omega.{arith}
 use borrow.Author.Tests.{ltb-false}
-use lib.Dec.{T, ltb, eqb}
+use lib.Dec.{T, ltb}
 use lib.ListN.{length, take, drop}
 use lib.Seq.{take-all}
 use Rattle.float64.specs.Pick.{cases}
-use Rattle.matrix.specs.Matrix.{Inverse, some, none, inversePositive}
 use Rattle.matrix.specs.declared.Pair.{Pair}
 use Rattle.likelihood.specs.declared.population_focei.Observation.{Observation}
 use Rattle.words.specs.Words.{smaller}
@@ -22,13 +21,14 @@ use Rattle.subject.specs.declared.Evaluation.the-variants as E
 use Rattle.subject.specs.declared.Trial.{Trial}
 use Rattle.words.specs.Words.{zeros}
 use Rattle.work.specs.Work.{block}
-use Rattle.setup.specs.Admission.{checks, withParameters, omegaOf}
+use Rattle.setup.specs.Admission.{checks, withParameters}
 use Rattle.setup.specs.declared.Admission.{Admission}
 use Rattle.setup.specs.declared.Admission.the-variants as A
 use Rattle.setup.specs.declared.Lent.{Lent}
 use Rattle.setup.specs.declared.Parameters.{Parameters}
 use Rattle.setup.specs.declared.Setup.{Setup}
-use Rattle.search.specs.Subjects.{fitWith, fitBy, fit2, fitOf, idle}
+use Rattle.search.proofs.Fits.{fit-additive}
+use Rattle.search.specs.Subjects.{fitOf, idle}
 use Rattle.search.specs.declared.Fit.{Fit}
 use Rattle.search.specs.declared.Place.{Place}
 use Rattle.search.specs.declared.Place.the-variants as At
@@ -99,17 +99,6 @@ awaited-within setup counts lent check state tally =
     (λ _ e. refused-never 19 e))
     (λ _ e. refused-never 19 e)
 
--- ---- the objective's own additive deviation is in its fit
-additive-by : (setup : Setup) (p : Parameters) (i : Inverse) → fitBy (withParameters setup p) (p .theta) i .«additive_sd» ≡ p .«additive_sd»
-unfolding fitBy fitWith withParameters
-additive-by setup p (some m det) = refl
-additive-by setup p none = refl
-
-additive-of-fit : (setup : Setup) (p : Parameters) → p .«additive_sd» ≡ fitOf setup p .«additive_sd»
-unfolding fitOf fit2 fitWith withParameters
-additive-of-fit setup p =
-    sym (cases (λ (f : Fit). f .«additive_sd» ≡ p .«additive_sd») (eqb (setup .effects) 2) (λ _. additive-by setup p (inversePositive (omegaOf (withParameters setup p)))) (λ _. refl))
-
 -- ---- a refusal ends the objective alike, whether the work words are those before the evaluation or after it
 module _ (counts : List ℕ) (fit : Fit) (eta : Pair) (state : State) (tally : Tally) (cache work warm results : List ℕ) (w : List ℕ) (same : length w ≡ length work) where
   ends : ℕ → Place → ℕ → Moved (Held words) Step
@@ -168,7 +157,7 @@ module _ (setup : Setup) (counts : List ℕ) (observations : List Observation) (
         let trial : AdditiveSd → Trial =
         λ a. record { individual = state .progress .individual; «additive_sd» = a; width = setup .width; effects = setup .effects; block = block rows 3 } in
         let whole : evaluating e w ≡ evaluated words setup counts observations fit v (state .progress) work =
-        q ∙ (λ i. addObservations (trial (additive-of-fit setup (state .parameters) i)) v (take (count i) (drop first observations))
+        q ∙ (λ i. addObservations (trial (sym (fit-additive setup (state .parameters)) i)) v (take (count i) (drop first observations))
         (evaluating (begin v (setup .width) (setup .effects) (setup .«output_budget»)) work)) in
         replied-after counts fit eta state tally cache work warm results w same (finish e)
         ∙ ap (λ (x : Evaluating). replied words counts fit eta h (x .work) (finish (x .evaluation))) whole

@@ -37,6 +37,7 @@ use Rattle.search.specs.declared.Step.the-variants as Answers
 use Rattle.search.specs.declared.Tally.{Tally}
 use Rattle.search.specs.declared.Wanted.{Wanted}
 use Rattle.search.specs.declared.Wanted.the-variants as Wants
+use Rattle.search.proofs.Fits.{fit-effects}
 use Rattle.machine.specs.Machine.{Moved, on, halt, Ran, onward, loop, call}
 use Rattle.population.specs.Kept.{Recalled, words}
 use Rattle.population.specs.Population.{rowsOf, Worked, answered, atPoint, nextSubject, Ended, closing, atMode, servedBy, served, turned, Whole, moved, turn, spent}
@@ -45,7 +46,6 @@ use Rattle.population.specs.declared.Turned.the-variants.{On, Halt}
 use Rattle.session.specs.Session as N
 use Rattle.session.specs.Session.{Held, Call, objective, reply, failure}
 use Rattle.session_theorems.specs.Evaluations.{M, second}
-use Rattle.session_theorems.proofs.Standing.{fit-effects}
 
 -- ---- an objective's fit has its own theta and deviation
 pub record Given (parameters : Parameters) (fit : Fit) : Type 0 where

@@ -33,6 +33,7 @@ use Rattle.search.specs.declared.Step.{Step}
 use Rattle.search.specs.declared.Step.the-variants as Answers
 use Rattle.search.specs.declared.Wanted.{Wanted}
 use Rattle.search.specs.declared.Wanted.the-variants as Wants
+use Rattle.search.proofs.Fits.{fit-effects, fit-most}
 use Rattle.machine.specs.Machine.{Moved, on, halt, Ran, onward, loop}
 use Rattle.population.specs.Kept.{Recalled, words}
 use Rattle.population.specs.Population.{rowsOf, take, answered, atPoint, Worked, nextSubject, raised, Ended, ended, closing, atMode, servedBy, served, isOver, turned, Whole, moved, turn, spent}
@@ -41,7 +42,7 @@ use Rattle.population.specs.declared.Turned.the-variants.{On, Halt}
 use Rattle.session.specs.Session.{Held, heldBy, turnHeld, fuel}
 use Rattle.session_theorems.proofs.Lengths.{zeros-length, move-rows-length, recalled-length}
 use Rattle.session_theorems.proofs.Remaining.{Goes, Numbered, LeftBy, stands, points, refusals, begins}
-use Rattle.session_theorems.proofs.Standing.{advanced-alike, fit-effects, fit-most}
+use Rattle.session_theorems.proofs.Standing.{advanced-alike}
 
 -- ---- any loop: `Going n` says that at most n turns are left, this one counted, and `Answered` is what every turn that halts gives
 module _ {State Answer : Type 0} (turn : State → Moved State Answer) (Going : ℕ → State → Type 0) (Answered : Answer → State → Type 0) where
@@ -234,11 +235,11 @@ module _ (N : ℕ → Type 0) (Refuses : ℕ → Place → ℕ → Type 0) (setu
         cases (λ (x : Worked Turned). Ends (ended (x .value) (x .work) warm results)) (ltb subject (length counts))
         (λ t. record { turned = begun (ltb-true _ _ t) _ _ _ _; work = zeros-length _ ∙ g .work }) (λ f. record { turned = finishes _ _; work = g .work })
       where
-        begun : subject < length counts → (first : ℕ) (warmth : Pair) (ofv squares : Float) → Ahead n (B.beginSubject subject first warmth ofv squares)
+        begun : subject < length counts → (first : ℕ) (warmth : Pair) (ofv squares : Float) → Ahead n (B.beginSubject (fit .effects) subject first warmth ofv squares)
         begun l first warmth ofv squares = unfold B.beginSubject in record {
           subject = l;
           left = 6343;
-          search = begins N (tells .known) two subject first warmth ofv squares;
+          search = begins N (tells .known) two (fit .effects) subject first warmth ofv squares;
           enough = subst (λ (i : ℕ). 6343 + (length counts - i) * 6344 ≤ n + 6343) (sym raised-is) (go (a .left) (length counts) (p .subject) (a .subject) (a .enough));
         }
           where

@@ -39,6 +39,7 @@ use Rattle.search.specs.declared.Step.{Step}
 use Rattle.search.specs.declared.Step.the-variants as Answers
 use Rattle.search.specs.declared.Wanted.{Wanted}
 use Rattle.search.specs.declared.Wanted.the-variants as Wants
+use Rattle.search.proofs.Fits.{fit-effects}
 use Rattle.machine.specs.Machine.{Moved, on, halt, onward, loop}
 use Rattle.population.specs.Kept.{words}
 use Rattle.population.specs.Population.{rowsOf, spent, receive, take as takes}
@@ -51,7 +52,7 @@ use Rattle.session_theorems.proofs.Evaluated.{work-length}
 use Rattle.session_theorems.proofs.Lengths.{move-rows-length}
 use Rattle.session_theorems.proofs.Plain.{false-not-true}
 use Rattle.session_theorems.proofs.Remaining.{Goes, StandsBy, LeftBy, points, begins, placed}
-use Rattle.session_theorems.proofs.Standing.{advanced-alike, fit-effects}
+use Rattle.session_theorems.proofs.Standing.{advanced-alike}
 
 -- ---- 1 to 5: accepted only with 4,096 subjects at most
 unfoldable pub Judged : ℕ → Admission → Type 0
@@ -278,7 +279,7 @@ module _ (setup : Setup) (counts : List ℕ) (h : Held words) where
         begun few some = unfold Enters S.begun B.beginSubject in (
           few,
           record {
-            ahead = record { subject = omega (arith, some); left = 6343; search = begins OfSearch (endings most c .known) _ 0 0 _ _ _; enough = omega (arith, few) };
+            ahead = record { subject = omega (arith, some); left = 6343; search = begins OfSearch (endings most c .known) _ _ 0 0 _ _ _; enough = omega (arith, few) };
             work = refl;
             calls = refl;
           },

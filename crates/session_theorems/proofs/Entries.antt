@@ -34,6 +34,7 @@ use Rattle.search.specs.declared.Progress.{Progress}
 use Rattle.search.specs.declared.Step.{Step}
 use Rattle.search.specs.declared.Wanted.{Wanted}
 use Rattle.search.specs.declared.Wanted.the-variants as Wants
+use Rattle.search.proofs.Fits.{fit-effects, fit-k, fit-bound}
 use Rattle.machine.specs.Lawful.{Enters}
 use Rattle.machine.specs.Lawful.Enters.{same, begins, replied, failed}
 use Rattle.machine.specs.Log.{OfEvaluation}
@@ -50,7 +51,7 @@ use Rattle.session_theorems.proofs.Fitting.{Fits, FitsBoth}
 use Rattle.session_theorems.proofs.Lengths.{AsLong, zeros-length, move-rows-length}
 use Rattle.session_theorems.proofs.Points.{Passed}
 use Rattle.session_theorems.proofs.Searches.{Suits}
-use Rattle.session_theorems.proofs.Standing.{Alike, advanced-alike, recallOf, Waiting, Standing, still, fit-effects, fit-k, fit-bound}
+use Rattle.session_theorems.proofs.Standing.{Alike, advanced-alike, recallOf, Waiting, Standing, still}
 use Rattle.session_theorems.proofs.Stores.{Fine, Trusted}
 use Rattle.session_theorems.proofs.Turns.{key-fine, warm-of-fits}
 
@@ -118,7 +119,7 @@ module _ (S : Store) (setup : Setup) (counts : List ℕ) (observations : List Ob
             omega-in = a .omega-in;
             shape-in = a .shape-in;
             warm-fits = f;
-            pointed = Q .pointed-start 0 0 _ _ _;
+            pointed = Q .pointed-start (setup .effects) 0 0 _ _ _;
             count = s .count;
             trust = s .trust;
             few = s .few;
@@ -127,7 +128,7 @@ module _ (S : Store) (setup : Setup) (counts : List ℕ) (observations : List Ob
           domain = Q .domain setup parameters _ refl bound (a .omega-in) (a .shape-in) f;
           subject = refl;
           within = some-subject;
-          search = Q .starts 0 0 _ _ _;
+          search = Q .starts (setup .effects) 0 0 _ _ _;
           tally = refl;
         })
 

@@ -35,6 +35,7 @@ use Rattle.search.specs.Subjects as B
 use Rattle.search.specs.declared.Fit.{Fit}
 use Rattle.search.specs.declared.Progress.{Progress}
 use Rattle.search.specs.declared.Step.the-variants as Answers
+use Rattle.search.proofs.Fits.{fit-effects, fit-k}
 use Rattle.machine.specs.Machine.{call, set, Act, run}
 use Rattle.population.specs.Kept.{words, orderRows}
 use Rattle.population.specs.Population.{rowsOf, answered, receive, take as takes}
@@ -51,7 +52,7 @@ use Rattle.session_theorems.proofs.LetIn.{both-hold, let-in}
 use Rattle.session_theorems.proofs.Placed.{rows-exact, Going, observations-lent}
 use Rattle.session_theorems.proofs.Searches.{Suits, suits1, suits2}
 use Rattle.session_theorems.proofs.Session.{some-room}
-use Rattle.session_theorems.proofs.Standing.{Standing, fit-effects, fit-k}
+use Rattle.session_theorems.proofs.Standing.{Standing}
 use Rattle.session_theorems.proofs.Stores.{words-trusted, kept-few, kept-rows, not-found, cleared-words}
 use Rattle.session_theorems.proofs.Asked.{fit-given, Values, Good, Leaves, Left, over, objectives, failures, unawaited, called}
 

@@ -47,6 +47,7 @@ use Rattle.search.specs.declared.Step.{Step}
 use Rattle.search.specs.declared.Tally.{Tally}
 use Rattle.search.specs.declared.Wanted.{Wanted}
 use Rattle.search.specs.declared.Wanted.the-variants as Wants
+use Rattle.search.proofs.Fits.{fit-effects, fit-bound}
 use Rattle.machine.specs.Machine.{Moved, on}
 use Rattle.population.specs.Kept.{Recalled, words}
 use Rattle.population.specs.Population.{rowsOf, Worked, answered, atPoint, nextSubject, Ended, closing, atMode, servedBy, served, turned, Whole, moved, turn, receive, take as takes}
@@ -58,6 +59,7 @@ use Rattle.session.specs.Calls.{stateOf}
 use Rattle.state_words.specs.SearchWords2 as words2
 use Rattle.state_words.proofs.Back.{FitsPair, FitsAdditive, FitsState}
 use Rattle.session_theorems.specs.Inner.{Inner}
+use Rattle.session_theorems.proofs.FirstSearch.{first-one, first-two}
 use Rattle.session_theorems.proofs.Accepted.{Accepts}
 use Rattle.session_theorems.proofs.Always.{After}
 use Rattle.session_theorems.proofs.Evaluated.{FitsSums, sums-fit}
@@ -66,7 +68,7 @@ use Rattle.session_theorems.proofs.Formats.{kept-sums, point1, point2, 
 use Rattle.session_theorems.proofs.Limits.{Numbered}
 use Rattle.session_theorems.proofs.Placed.{Going}
 use Rattle.session_theorems.proofs.Searches.{Suits}
-use Rattle.session_theorems.proofs.Standing.{Standing, fit-effects, fit-bound}
+use Rattle.session_theorems.proofs.Standing.{Standing}
 use Rattle.session_theorems.proofs.Stores.{Trusted}
 
 zero-fits : Fits (word 0)
@@ -77,13 +79,20 @@ pub record FitsProgress (p : Progress) : Type 0 where
   pub individual : FitsPair (p .individual)
   pub ofv : Fits (p .ofv)
   pub squares : Fits (p .«eta_squares»)
-  pub one : Fit1 (p .search)
-  pub two : Fit2 (p .«search_2d»)
-  pub trial : TrialFits (p .«search_2d»)
+  pub one : Fit1 (B.oneOf (p .search))
+  pub two : Fit2 (B.twoOf (p .search))
+  pub trial : TrialFits (B.twoOf (p .search))
 
-pub begins : (subject first : ℕ) (warm : Pair) (ofv squares : Float) → Fits ofv → Fits squares → FitsProgress (B.beginSubject subject first warm ofv squares)
+pub begins : (effects subject first : ℕ) (warm : Pair) (ofv squares : Float) → Fits ofv → Fits squares → FitsProgress (B.beginSubject effects subject first warm ofv squares)
 unfolding B.beginSubject
-begins subject first warm ofv squares o q = record { individual = record { first = zero-fits; second = zero-fits }; ofv = o; squares = q; one = start1; two = start2; trial = start-fits }
+begins effects subject first warm ofv squares o q = record {
+  individual = record { first = zero-fits; second = zero-fits };
+  ofv = o;
+  squares = q;
+  one = first-one Fit1 effects start1;
+  two = first-two Fit2 effects start2;
+  trial = first-two TrialFits effects start-fits;
+}
 
 module _ (p : Progress) (s : FitsProgress p) where
   idles : FitsProgress (B.idle p)
@@ -106,11 +115,11 @@ module _ (p : Progress) (s : FitsProgress p) where
         individual = s .individual;
         ofv = s .ofv;
         squares = s .squares;
-        one = s .one;
+        one = start1;
         two = advance2 _ _ _ (s .two) (point2 eta sums e f);
         trial = advance-fits (B.settings2 fit p) bound _ _ (s .trial);
       })
-      (record { individual = s .individual; ofv = s .ofv; squares = s .squares; one = advance1 _ _ _ (s .one) (point1 fit eta sums e f); two = s .two; trial = s .trial })
+      (record { individual = s .individual; ofv = s .ofv; squares = s .squares; one = advance1 _ _ _ (s .one) (point1 fit eta sums e f); two = start2; trial = start-fits })
 
 -- ---- individual values
 unfoldable Valued : Answer Pair → Type 0
@@ -195,7 +204,7 @@ module _ (setup : Setup) (counts : List ℕ) (observations : List Observation) (
 
   next-ends : (m : Mode) (warm : List ℕ) → FitsTurned (nextSubject fit counts p (w .tally) m rows warm (w .work) .value)
   unfolding nextSubject FitsTurned
-  next-ends m warm = both (λ (x : Worked Turned). FitsTurned (x .value)) _ (begins _ _ _ _ _ (add-fits binary64 _ _) (add-fits binary64 _ _))
+  next-ends m warm = both (λ (x : Worked Turned). FitsTurned (x .value)) _ (begins _ _ _ _ _ _ (add-fits binary64 _ _) (add-fits binary64 _ _))
       (objective-ends _ _ (add-fits binary64 _ _) (add-fits binary64 _ _))
 
   by-closed : (c : Closed) → FitsTurned (closing fit counts p (w .tally) rows (w .work) (w .warm) (w .results) c .turned)
@@ -230,7 +239,7 @@ module _ (setup : Setup) (counts : List ℕ) (observations : List Observation) (
 
   begun-fits : (parameters : Parameters) → FitsParameters parameters → After {Answer = Step} Formatted (on (N.begun words setup counts parameters w))
   unfolding N.begun After
-  begun-fits parameters f = record { parameters = f; progress = begins _ _ _ _ _ zero-fits zero-fits }
+  begun-fits parameters f = record { parameters = f; progress = begins _ _ _ _ _ _ zero-fits zero-fits }
 
   at-wanted : (go : Pair → Moved (Held words) Step) (v : Wanted) → ((eta : Pair) → v ≡ Wants.Point eta → After Formatted (go eta)) → (n : ℕ) → After Formatted
       (N.atWanted words setup counts n (N.allChecked setup counts observations) h go v)

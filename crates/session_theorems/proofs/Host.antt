@@ -35,7 +35,7 @@ use Rattle.session.specs.Calls.{heldOf, stateOf, Setting, opening, openedBy}
 use Rattle.session.specs.declared.Opening.{Opening}
 use Rattle.session.specs.declared.Opening.the-variants as Opens
 use Rattle.session.specs.declared.State.{State}
-use Rattle.state_words.specs.SessionWords.{loadedState, savedState}
+use Rattle.state_words.specs.SessionWords.{stateSize, loadedState, savedState}
 use Rattle.state_words.proofs.Back.{FitsState, back}
 use Rattle.host_calls.specs.Hosting.{SetupBits, setupFrom, ParameterBits, parametersFrom, Out, did, told, answered, answerOf, numberOf, isUnaltered, openedTo, callOver, setupOver}
 use Rattle.host_calls.specs.Hosting.{openWith, withState, unknown}
@@ -228,7 +228,7 @@ module _ (l : Lending) (I : Inner) (Q : Suits I (l .setup .effects)) (f : FitsSe
       record {
         stands = opens-standing words (l .setup) (l .counts) (l .observations) I Q U (f .bound) (f .most) (lent l) (l .results) a;
         goes = opens-going (l .setup) (l .counts) (l .observations) (lent l) a (l .results) refl;
-        fits = record { parameters = record { theta = z; theta-2 = z; variance = f .variance; additive = f .additive }; progress = begins 0 0 _ _ _ z z };
+        fits = record { parameters = record { theta = z; theta-2 = z; variance = f .variance; additive = f .additive }; progress = begins _ 0 0 _ _ _ z z };
       }
 
   words-tell : (h : Held words) → Sound h → FitsState (stateOf h)
@@ -314,12 +314,13 @@ module _ (l : Lending) (f : FitsSetup (l .setup)) (e : number l opens ≡ 0) whe
       (l .warm) (l .results) setting
 
   record Settled (o : Out) : Type 0 where
-    long : 63 ≤ length (l .state)
+    long : stateSize ≤ length (l .state)
     same : o ≡ settledOut
 
   settled-by : Settled (does l opens)
   unfolding setupOver openWith
-  settled-by = cases (λ (o : Out). o .told .done .number ≡ 0 → Settled o) (ltb (length (l .state)) 63) (λ t q. absurd (omega (arith, q))) (λ t q. record { long = ltb-false _ _ t; same = refl }) e
+  settled-by = cases (λ (o : Out). o .told .done .number ≡ 0 → Settled o) (ltb (length (l .state)) stateSize) (λ t q. absurd (omega (arith, q)))
+      (λ t q. record { long = ltb-false _ _ t; same = refl }) e
 
   opened-by : (adm : Admission) → Judged (length (l .counts)) adm → H.opened (opening (l .setup) (l .counts) (lent l) (l .tally) (l .cache) (l .work) (l .warm) (l .results) adm .begun)
       (l .state) (l .answer) .done .number ≡ 0

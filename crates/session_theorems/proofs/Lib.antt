@@ -6,7 +6,8 @@
 -- the requests are enough: Entered, Requests, Remaining, Limits, Endings;
 -- where a session stands: Placed, Lengths; SubjectChecks is for SubjectReply, Copies for Refined;
 -- what words show: Words, ModeWords, Blocks, Trials, Results, Middle; what is asked for and kept: Asked, Evaluated;
--- floats of the format: Formats, Formatted, Fitting. Plain has small facts that the others share.
+-- floats of the format: Formats, Formatted, Fitting. Plain has small facts that the others share, FirstSearch what
+-- holds of a subject's first search.
 pub mod Accepted
 pub mod Always
 pub mod Asked
@@ -18,6 +19,7 @@ pub mod Entered
 pub mod Entries
 pub mod Evaluated
 pub mod Evaluations
+pub mod FirstSearch
 pub mod Fitting
 pub mod Formats
 pub mod Formatted

@@ -166,6 +166,6 @@ other2 Trial s x n = tt
 other2 Found s x n = tt
 other2 (Halted number) s x n = one-not-19 number 13 14 16 n (before-19 (omega arith)) (before-19 (omega arith)) (before-19 (omega arith))
 
-pub wanted-other : (fit : Fit) (p : Progress) → Within2 (p .«search_2d») → Other (B.wantedBy fit p)
+pub wanted-other : (fit : Fit) (p : Progress) → Within2 (B.twoOf (p .search)) → Other (B.wantedBy fit p)
 unfolding B.wantedBy B.wanted1 B.wanted2
-wanted-other fit p w = both Other _ (other2 _ _ (p .«search_2d») (w .number)) (other1 _ _ (p .search))
+wanted-other fit p w = both Other _ (other2 _ _ (B.twoOf (p .search)) (w .number)) (other1 _ _ (B.oneOf (p .search)))

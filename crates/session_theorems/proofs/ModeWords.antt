@@ -42,6 +42,7 @@ use Rattle.search.specs.declared.Fit.{Fit}
 use Rattle.search.specs.declared.Mode.{Mode}
 use Rattle.search.specs.declared.Progress.{Progress}
 use Rattle.search.specs.declared.Wanted.the-variants as Wants
+use Rattle.search.proofs.Fits.{fit-effects}
 use Rattle.machine.specs.Rules.{Trial}
 use Rattle.population.specs.Population.{warmOf, warmStored}
 use Rattle.session_theorems.specs.Inner.{Inner, rules1, inner1, inner2}
@@ -51,7 +52,6 @@ use Rattle.session_theorems.proofs.Middle.{middle-zero}
 use Rattle.session_theorems.proofs.Plain.{true-not-false}
 use Rattle.session_theorems.proofs.Results.{past-two}
 use Rattle.session_theorems.proofs.Searches.{one-not-two, wanted-one, point-one, is-two, wanted-two, point-two}
-use Rattle.session_theorems.proofs.Standing.{fit-effects}
 use Rattle.session_theorems.proofs.Trials.{Has, NthHas, nth-so, SameBlocks, Moves, Movable, Trial1, Carried1, begun1, same1, movable1, step1, end1, Trial2, Carried2, begun2, same2, movable2}
 use Rattle.session_theorems.proofs.Trials.{step2, end2}
 
@@ -145,36 +145,36 @@ mode-one (One.Refused n) e = let z : _≡_ {A = ℕ} 0 1 = cc in absurd (omega a
 
 steps-one : (fit : Fit) (p : Progress) (eta : Pair) (sums : Sums) → fit .effects ≡ 1 → B.wantedBy fit p ≡ Wants.Point eta → (ts : List Trial1) (rows after : ℕ → List ℕ) (t : Trial1)
     → t .point ≡ B.conditional1 fit eta sums → t .rows ≡ rows 3
-    → Moves (B.advanceBy fit p eta sums .sources) rows after → Carried1 (B.settings fit p) ts (p .search) rows → Carried1 (B.settings fit p) (ts ++ (t ∷ []))
-    (B.advanceBy fit p eta sums .progress .search) after
+    → Moves (B.advanceBy fit p eta sums .sources) rows after → Carried1 (B.settings fit p) ts (B.oneOf (p .search)) rows → Carried1 (B.settings fit p) (ts ++ (t ∷ []))
+    (B.oneOf (B.advanceBy fit p eta sums .progress .search)) after
 unfolding B.advance1 B.withSearch B.conditional1
 steps-one fit p eta sums e w ts rows after t is own m h =
     let a = advance-one fit e p eta sums in
-    let q = point-one (request (B.settings fit p) (p .search)) eta (sym (wanted-one fit e p) ∙ w) .0 in
-    let n : Moves (B.sources1 (p .search) (t .point)) rows after = subst (λ (c : Conditional). Moves (B.sources1 (p .search) c) rows after) (sym is)
+    let q = point-one (request (B.settings fit p) (B.oneOf (p .search))) eta (sym (wanted-one fit e p) ∙ w) .0 in
+    let n : Moves (B.sources1 (B.oneOf (p .search)) (t .point)) rows after = subst (λ (c : Conditional). Moves (B.sources1 (B.oneOf (p .search)) c) rows after) (sym is)
     (subst (λ (x : Advanced). Moves (x .sources) rows after) a m) in
-    subst (λ (x : Advanced). Carried1 (B.settings fit p) (ts ++ (t ∷ [])) (x .progress .search) after) (sym a)
-    (subst (λ (c : Conditional). Carried1 (B.settings fit p) (ts ++ (t ∷ [])) (advance (B.settings fit p) (p .search) c) after) is
-    (step1 (B.settings fit p) ts (p .search) rows after t own (eta .first) (ap (λ (c : Conditional). c .eta) is) q n h))
+    subst (λ (x : Advanced). Carried1 (B.settings fit p) (ts ++ (t ∷ [])) (B.oneOf (x .progress .search)) after) (sym a)
+    (subst (λ (c : Conditional). Carried1 (B.settings fit p) (ts ++ (t ∷ [])) (advance (B.settings fit p) (B.oneOf (p .search)) c) after) is
+    (step1 (B.settings fit p) ts (B.oneOf (p .search)) rows after t own (eta .first) (ap (λ (c : Conditional). c .eta) is) q n h))
 
 moves-one : (s : Settings) (p : Progress) (c : Conditional) → Movable (B.advance1 s p c .sources)
 unfolding B.advance1
-moves-one s p c = movable1 (p .search) c
+moves-one s p c = movable1 (B.oneOf (p .search)) c
 
 adds-one : (setup : Setup) (parameters : Parameters) (p : Progress) (rows : ℕ) (m : Mode) → setup .effects ≡ 1 → isNoOmega (withParameters setup parameters) ≡ false → B.closedBy
     (B.fitOf setup parameters) p rows ≡ Positive m
-    → m .term ≡ reads1 .term setup (B.settings (B.fitOf setup parameters) p) rows (p .search .best)
+    → m .term ≡ reads1 .term setup (B.settings (B.fitOf setup parameters) p) rows (B.oneOf (p .search) .best)
 unfolding B.closedBy B.settings
 adds-one setup parameters p rows m e o q =
     let fit = B.fitOf setup parameters in
-    one-term fit (p .search .best) rows m (sym (pick-no _ _ _ (one-not-two fit (fit-effects setup parameters ∙ e))) ∙ q)
+    one-term fit (B.oneOf (p .search) .best) rows m (sym (pick-no _ _ _ (one-not-two fit (fit-effects setup parameters ∙ e))) ∙ q)
 
 pub tells1 : Tells inner1 reads1 1
 unfolding warmStored pick B.closedBy B.conditional1 B.settings
 tells1 = record {
   starts = starts1;
-  modes = λ fit p rows m e q. one-mode fit (p .search .best) rows m (sym (pick-no _ _ _ (ap (λ (n : ℕ). eqb n 2) e)) ∙ q);
-  flat = λ fit p rows e q. one-flat fit (p .search .best) rows (sym (pick-no _ _ _ (ap (λ (n : ℕ). eqb n 2) e)) ∙ q);
+  modes = λ fit p rows m e q. one-mode fit (B.oneOf (p .search) .best) rows m (sym (pick-no _ _ _ (ap (λ (n : ℕ). eqb n 2) e)) ∙ q);
+  flat = λ fit p rows e q. one-flat fit (B.oneOf (p .search) .best) rows (sym (pick-no _ _ _ (ap (λ (n : ℕ). eqb n 2) e)) ∙ q);
   stores = λ j m b warm o l. getD-set-same warm j (toBits binary64 (m .eta .first)) 0 (omega (arith, l)) ∙ o .first;
   others = λ setup parameters i j d eta warm. let x = getD-set-other warm j i (toBits binary64 (eta .first)) 0 d in cc;
   stays = λ i j d eta warm b h. getD-set-other warm j i (toBits binary64 (eta .first)) 0 d ∙ h;
@@ -185,7 +185,7 @@ tells1 = record {
   movable = λ fit p eta sums e. subst (λ (x : Advanced). Movable (x .sources)) (sym (advance-one fit e p eta sums)) (moves-one (B.settings fit p) p (B.conditional1 fit eta sums));
   steps = steps-one;
   ends = λ fit p e d w ts rows h.
-      let z = end1 (B.settings fit p) ts (p .search) rows (mode-one (request (B.settings fit p) (p .search)) (sym (wanted-one fit e p) ∙ w)) h in
+      let z = end1 (B.settings fit p) ts (B.oneOf (p .search)) rows (mode-one (request (B.settings fit p) (B.oneOf (p .search))) (sym (wanted-one fit e p) ∙ w)) h in
       (nth-so rules1 (z .0) (λ c m. m ∙ middle-zero (B.settings fit p .«eta_bound») (d .fitsBound) (d .boundLow) (d .boundHigh)), z .1);
 }
 
@@ -277,25 +277,25 @@ mode-two (Two.Refused n) e = let z : _≡_ {A = ℕ} 0 1 = cc in absurd (omega a
 
 steps-two : (fit : Fit) (p : Progress) (eta : Pair) (sums : Sums) → fit .effects ≡ 2 → B.wantedBy fit p ≡ Wants.Point eta → (ts : List Trial2) (rows after : ℕ → List ℕ) (t : Trial2)
     → t .point ≡ B.conditional2 eta sums → t .rows ≡ rows 3
-    → Moves (B.advanceBy fit p eta sums .sources) rows after → Carried2 ts (p .«search_2d») rows → Carried2 (ts ++ (t ∷ [])) (B.advanceBy fit p eta sums .progress .«search_2d») after
+    → Moves (B.advanceBy fit p eta sums .sources) rows after → Carried2 ts (B.twoOf (p .search)) rows → Carried2 (ts ++ (t ∷ [])) (B.twoOf (B.advanceBy fit p eta sums .progress .search)) after
 unfolding B.advance2 B.withSearch B.conditional2
 steps-two fit p eta sums e w ts rows after t is own m h =
     let a = advance-two fit e p eta sums in
     let s = B.settings2 fit p in
-    let x = p .«search_2d» in
+    let x = B.twoOf (p .search) in
     let q = point-two (R2.request s x) eta (sym (wanted-two fit e p) ∙ w) in
     let n : Moves (B.sources2 s x (R2.advance s x (t .point)) (t .point)) rows after =
     subst (λ (c : Conditional2). Moves (B.sources2 s x (R2.advance s x c) c) rows after) (sym is) (subst (λ (v : Advanced). Moves (v .sources) rows after) a m) in
-    subst (λ (v : Advanced). Carried2 (ts ++ (t ∷ [])) (v .progress .«search_2d») after) (sym a)
+    subst (λ (v : Advanced). Carried2 (ts ++ (t ∷ [])) (B.twoOf (v .progress .search)) after) (sym a)
     (subst (λ (c : Conditional2). Carried2 (ts ++ (t ∷ [])) (R2.advance s x c) after) is (step2 s ts x rows t own after eta (ap (λ (c : Conditional2). c .eta) is) q n h))
 
 adds-two : (setup : Setup) (parameters : Parameters) (p : Progress) (rows : ℕ) (m : Mode) → setup .effects ≡ 2 → isNoOmega (withParameters setup parameters) ≡ false → B.closedBy
     (B.fitOf setup parameters) p rows ≡ Positive m
-    → m .term ≡ reads2 .term setup (B.settings2 (B.fitOf setup parameters) p) rows (p .«search_2d» .best)
+    → m .term ≡ reads2 .term setup (B.settings2 (B.fitOf setup parameters) p) rows (B.twoOf (p .search) .best)
 unfolding B.closedBy B.closed2 B.settings2 dot product determinant
 adds-two setup parameters p rows m e o q =
     let fit = B.fitOf setup parameters in
-    let best = p .«search_2d» .best in
+    let best = B.twoOf (p .search) .best in
     let d = det-omega setup parameters e o ∙ ap determinant (same-omega setup parameters e) in
     two-term fit best rows m (inversePositive (B.curvatureOf fit best)) refl (sym (pick-yes _ _ _ (is-two fit (fit-effects setup parameters ∙ e))) ∙ q)
     ∙ ap (λ (x : Float). two *ᶠ best .nll -ᶠ ofInt binary64 (pos rows) *ᶠ log2pi +ᶠ dot (pair (best .eta .first) (best .eta .second))
@@ -304,14 +304,14 @@ adds-two setup parameters p rows m e o q =
 
 moves-two : (s : Settings2) (p : Progress) (c : Conditional2) → Movable (B.advance2 s p c .sources)
 unfolding B.advance2
-moves-two s p c = movable2 s (p .«search_2d») (R2.advance s (p .«search_2d») c) c
+moves-two s p c = movable2 s (B.twoOf (p .search)) (R2.advance s (B.twoOf (p .search)) c) c
 
 pub tells2 : Tells inner2 reads2 2
 unfolding warmStored pick B.closedBy B.closed2 B.conditional2 B.settings2
 tells2 = record {
   starts = starts2;
-  modes = λ fit p rows m e q. with-mode fit (p .«search_2d» .best) rows m (inversePositive (B.curvatureOf fit (p .«search_2d» .best))) (sym (pick-yes _ _ _ (eq-eqb _ _ e)) ∙ q);
-  flat = λ fit p rows e q. two-flat fit (p .«search_2d» .best) rows (inversePositive (B.curvatureOf fit (p .«search_2d» .best))) refl (sym (pick-yes _ _ _ (eq-eqb _ _ e)) ∙ q);
+  modes = λ fit p rows m e q. with-mode fit (B.twoOf (p .search) .best) rows m (inversePositive (B.curvatureOf fit (B.twoOf (p .search) .best))) (sym (pick-yes _ _ _ (eq-eqb _ _ e)) ∙ q);
+  flat = λ fit p rows e q. two-flat fit (B.twoOf (p .search) .best) rows (inversePositive (B.curvatureOf fit (B.twoOf (p .search) .best))) refl (sym (pick-yes _ _ _ (eq-eqb _ _ e)) ∙ q);
   stores = λ j m b warm o l. (
     getD-set-other (set warm (2 * j) (toBits binary64 (m .eta .first))) (2 * j + 1) (2 * j) (toBits binary64 (m .eta .second)) 0 (λ e. omega (arith, e)) ∙ getD-set-same warm (2 * j)
         (toBits binary64 (m .eta .first)) 0 (omega (arith, l)) ∙ o .first,
@@ -327,7 +327,7 @@ tells2 = record {
   movable = λ fit p eta sums e. subst (λ (x : Advanced). Movable (x .sources)) (sym (advance-two fit e p eta sums)) (moves-two (B.settings2 fit p) p (B.conditional2 eta sums));
   steps = steps-two;
   ends = λ fit p e d w ts rows h.
-      end2 (B.settings2 fit p) ts (p .«search_2d») rows (mode-two (R2.request (B.settings2 fit p) (p .«search_2d»)) (sym (wanted-two fit e p) ∙ w)) h;
+      end2 (B.settings2 fit p) ts (B.twoOf (p .search)) rows (mode-two (R2.request (B.settings2 fit p) (B.twoOf (p .search))) (sym (wanted-two fit e p) ∙ w)) h;
 }
   where
     two-others : (i j : ℕ) → (i ≡ j → ⊥) → (eta : Pair) (warm : List ℕ) → let v = set (set warm (2 * j) (toBits binary64 (eta .first))) (2 * j + 1) (toBits binary64 (eta .second)) in

@@ -55,6 +55,7 @@ use Rattle.population.specs.declared.Turned.the-variants.{On, Halt}
 use Rattle.session.specs.Session as N
 use Rattle.session.specs.Session.{Held, held, Call, objective, reply, failure}
 use Rattle.session_theorems.specs.Shown.{before}
+use Rattle.session_theorems.proofs.FirstSearch.{first-one, first-two}
 use Rattle.session_theorems.proofs.Accepted.{Accepts, each-count}
 use Rattle.session_theorems.proofs.Always.{After, Says}
 use Rattle.session_theorems.proofs.Evaluated.{work-length}
@@ -134,12 +135,12 @@ module _ (counts : List ℕ) where
   pub record Placed (p : Progress) : Type 0 where
     pub subject : p .subject < length counts
     pub first : p .first ≡ before counts (p .subject)
-    pub one : Within (p .search)
-    pub two : Within2 (p .«search_2d»)
+    pub one : Within (B.oneOf (p .search))
+    pub two : Within2 (B.twoOf (p .search))
 
-  begins : (subject first : ℕ) (warm : Pair) (ofv squares : Float) → subject < length counts → first ≡ before counts subject → Placed (B.beginSubject subject first warm ofv squares)
+  begins : (effects subject first : ℕ) (warm : Pair) (ofv squares : Float) → subject < length counts → first ≡ before counts subject → Placed (B.beginSubject effects subject first warm ofv squares)
   unfolding B.beginSubject
-  begins subject first warm ofv squares l m = record { subject = l; first = m; one = start-within; two = start-within2 }
+  begins effects subject first warm ofv squares l m = record { subject = l; first = m; one = first-one Within effects start-within; two = first-two Within2 effects start-within2 }
 
   module _ (p : Progress) (s : Placed p) where
     idles : Placed (B.idle p)
@@ -157,8 +158,8 @@ module _ (counts : List ℕ) where
     advances : (fit : Fit) (eta : Pair) (sums : Sums) → Placed (B.advanceBy fit p eta sums .progress)
     unfolding B.advanceBy B.advance1 B.advance2 B.withSearch
     advances fit eta sums =
-        both (λ (a : Advanced). Placed (a .progress)) _ (record { subject = s .subject; first = s .first; one = s .one; two = advance-within2 _ _ _ (s .two) })
-        (record { subject = s .subject; first = s .first; one = advance-within _ _ _ (s .one); two = s .two })
+        both (λ (a : Advanced). Placed (a .progress)) _ (record { subject = s .subject; first = s .first; one = start-within; two = advance-within2 _ _ _ (s .two) })
+        (record { subject = s .subject; first = s .first; one = advance-within _ _ _ (s .one); two = start-within2 })
 
 -- ---- a session's place
 module _ (setup : Setup) (counts : List ℕ) (observations : List Observation) (lent : Lent) (accepted : Accepts setup counts lent) where
@@ -256,7 +257,7 @@ module _ (setup : Setup) (counts : List ℕ) (observations : List Observation) (
     unfolding nextSubject PlacedTurned
     next-ends m warm results a b =
         cases (λ (x : Worked Turned). Ends (ended (x .value) (x .work) warm results)) (ltb (raised (p .subject) 1) (length counts))
-        (λ t. record { turned = begins counts (raised (p .subject) 1) (raised (p .first) rows) _ _ _ (ltb-true _ _ t) next-first; work = zeros-length _; warm = a; results = b })
+        (λ t. record { turned = begins counts (fit .effects) (raised (p .subject) 1) (raised (p .first) rows) _ _ _ (ltb-true _ _ t) next-first; work = zeros-length _; warm = a; results = b })
         (λ t. record { turned = objective-ends _ _; work = refl; warm = a; results = b })
       where
         next-first : raised (p .first) rows ≡ before counts (raised (p .subject) 1)
@@ -309,7 +310,7 @@ module _ (setup : Setup) (counts : List ℕ) (observations : List Observation) (
 
     begun-going : (parameters : Parameters) → Going (N.begun words setup counts parameters w)
     unfolding N.begun
-    begun-going parameters = record { place = begins counts 0 0 _ _ _ (accepted .some) (unfold before in refl); work = g .work; warm = g .warm; results = g .results; rows = g .rows }
+    begun-going parameters = record { place = begins counts (setup .effects) 0 0 _ _ _ (accepted .some) (unfold before in refl); work = g .work; warm = g .warm; results = g .results; rows = g .rows }
 
     objective-going : (n : ℕ) (check : Check) (parameters : Parameters) → After Going (N.enterObjective words setup counts n check parameters h)
     unfolding After N.enterObjective
@@ -358,7 +359,7 @@ module _ (setup : Setup) (counts : List ℕ) (observations : List Observation) (
   -- ---- setup
   pub opens-going : (results : List ℕ) → length results ≡ lent .results → Going (N.opened words setup counts lent results)
   unfolding orderRows
-  opens-going results e = record { place = begins counts 0 0 _ _ _ (accepted .some) (unfold before in refl); work = zeros-length _; warm = zeros-length _; results = e; rows = refl }
+  opens-going results e = record { place = begins counts (setup .effects) 0 0 _ _ _ (accepted .some) (unfold before in refl); work = zeros-length _; warm = zeros-length _; results = e; rows = refl }
 
   -- ---- the subject's observations are lent
   pub observations-lent : (n largest : ℕ) → countObservations counts ≡ CountsWithin n largest → (h : Held words) → Going h → h .whole .progress .first + rowsOf counts (h .whole .progress .subject) ≤ n

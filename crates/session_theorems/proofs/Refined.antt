@@ -45,6 +45,7 @@ use Rattle.search.specs.declared.Step.{Step}
 use Rattle.search.specs.declared.Place.{Place}
 use Rattle.search.specs.declared.Wanted.{Wanted}
 use Rattle.search.specs.declared.Wanted.the-variants as Wants
+use Rattle.search.proofs.Fits.{fit-k}
 use Rattle.machine.specs.Log.{Every, none as no-entry, more}
 use Rattle.machine.specs.Machine.{Moved, on, halt, Ran, onward, loop, Machine, call, run, set}
 use Rattle.machine.specs.Observed.{View}
@@ -66,7 +67,7 @@ use Rattle.session_theorems.proofs.Fitting.{Fits}
 use Rattle.session_theorems.proofs.Searches.{Suits, suits1, suits2}
 use Rattle.session_theorems.proofs.Session.{sets, opens-standing, some-room}
 use Rattle.setup.proofs.Bounds.{shape-low}
-use Rattle.session_theorems.proofs.Standing.{Standing, Waiting, fit-k}
+use Rattle.session_theorems.proofs.Standing.{Standing, Waiting}
 use Rattle.session_theorems.proofs.Stores.{every-append, every-drop, Trusted, words-trusted, kept-few, not-found, cleared-words}
 use Rattle.session_theorems.proofs.Turns.{turns}
 

@@ -9,15 +9,13 @@ use borrow.Author.Tests.{lt-ltb, le-ltb, eq-eqb, ne-eqb, ltb-false}
 use lib.Dec.{ltb, eqb}
 use lib.ListN.{getD, set, length, take, drop, length-take}
 use lib.Seq.{getD-set-same, getD-set-other}
-use Rattle.float64.specs.Answer.{Answer, given, refused}
+use Rattle.float64.specs.Answer.{Answer, given, refused, through}
 use Rattle.float64.specs.Pick.{pick, both, cases, pick-yes, pick-no, pick-same}
 use Rattle.matrix.specs.declared.Pair.{Pair}
 use Rattle.likelihood.specs.declared.population_focei.Observation.{Observation}
 use Rattle.subject.specs.Subject.{Evaluating, evaluating, begin, addObservations, finish}
 use Rattle.subject.specs.declared.Evaluation.{Evaluation}
 use Rattle.subject.specs.declared.Trial.{Trial}
-use Rattle.mode.specs.declared.population_focei.Search.{Search}
-use Rattle.mode_2d.specs.declared.population_focei_2d.Search2.{Search2}
 use Rattle.words.specs.Words.{zeros}
 use Rattle.work.specs.Work.{mostRows}
 use Rattle.setup.specs.Admission.{isCohort, checksOf, checks, withParameters}
@@ -31,6 +29,7 @@ use Rattle.setup.specs.SubjectChecks.{subjectChecks}
 use Rattle.search.specs.Subjects as B
 use Rattle.search.specs.Subjects.{fitOf}
 use Rattle.search.specs.declared.Place.{Place}
+use Rattle.search.specs.declared.SubjectSearch.{SubjectSearch}
 use Rattle.search.specs.declared.Place.the-variants as At
 use Rattle.search.specs.declared.Step.{Step}
 use Rattle.search.specs.declared.Step.the-variants as Answers
@@ -85,42 +84,37 @@ answer-word a answer l =
     getD-set-other four 4 0 (a .fourth) 0 (λ e. omega (arith, e)) ∙ getD-set-other three 3 0 (a .third) 0 (λ e. omega (arith, e)) ∙ getD-set-other two 2 0 (a .second) 0 (λ e. omega (arith, e))
     ∙ getD-set-other one 1 0 (a .first) 0 (λ e. omega (arith, e)) ∙ getD-set-same answer 0 (a .kind) 0 l
 
-saved-word : (s : State) (state : List ℕ) → 63 ≤ length state → getD (savedState s state) 0 0 ≡ W.flag (s .progress .awaits)
+saved-word : (s : State) (state : List ℕ) → W.stateSize ≤ length state → getD (savedState s state) 0 0 ≡ W.flag (s .progress .awaits)
 unfolding W.stateWords W.objectiveWords
 saved-word s state l = ap (λ (w : List ℕ). getD w 0 0) (saved-first s state l)
 
-awaited-word : (s : State) (state : List ℕ) → 63 ≤ length state → s .progress .awaits ≡ true → Awaits (savedState s state)
+awaited-word : (s : State) (state : List ℕ) → W.stateSize ≤ length state → s .progress .awaits ≡ true → Awaits (savedState s state)
 unfolding W.flag
 awaited-word s state l e = saved-word s state l ∙ pick-yes _ _ _ e
 
-idle-word : (s : State) (state : List ℕ) → 63 ≤ length state → s .progress .awaits ≡ false → Awaits (savedState s state) → ⊥
+idle-word : (s : State) (state : List ℕ) → W.stateSize ≤ length state → s .progress .awaits ≡ false → Awaits (savedState s state) → ⊥
 unfolding W.flag
 idle-word s state l e a = let z : getD (savedState s state) 0 0 ≡ 0 = saved-word s state l ∙ pick-no _ _ _ e in omega (arith, a, z)
 
 -- ---- words that are a state: word 0 is 1 where a reply is awaited, and word 8 the subject
 pub record Loaded (state : List ℕ) (s : State) : Type 0 where
-  pub long : 63 ≤ length state
+  pub long : W.stateSize ≤ length state
   pub awaits : s .progress .awaits ≡ eqb (getD state 0 0) 1
   pub subject : s .progress .subject ≡ getD state 8 0
 
 abbrev Reads : List ℕ → State → Type 0
 Reads state s = (s .progress .awaits ≡ eqb (getD state 0 0) 1) × (s .progress .subject ≡ getD state 8 0)
 
-both-loaded : (state : List ℕ) (s : State) (x : Search) (m : Answer Search2) → W.withBoth state x m ≡ given s → Reads state s
-unfolding W.withBoth W.stateAt W.progressAt
-both-loaded state s x (given y) e = let q : W.stateAt state x y ≡ s = cc in (ap (λ (t : State). t .progress .awaits) (sym q), ap (λ (t : State). t .progress .subject) (sym q))
-both-loaded state s x (refused n) e = absurd (let z : _≡_ {A = ℕ} 0 1 = cc in omega arith)
-
-search-loaded : (state : List ℕ) (s : State) (l : Answer Search) → W.withSearches state l ≡ given s → Reads state s
-unfolding W.withSearches W.withSearch
-search-loaded state s (given x) e = both-loaded state s x _ e
+search-loaded : (state : List ℕ) (s : State) (l : Answer SubjectSearch) → through (W.stateAt state) l ≡ given s → Reads state s
+unfolding through W.stateAt W.progressAt
+search-loaded state s (given x) e = let q : W.stateAt state x ≡ s = cc in (ap (λ (t : State). t .progress .awaits) (sym q), ap (λ (t : State). t .progress .subject) (sym q))
 search-loaded state s (refused n) e = absurd (let z : _≡_ {A = ℕ} 0 1 = cc in omega arith)
 
 pub loaded : (state : List ℕ) (s : State) → loadedState state ≡ given s → Loaded state s
-unfolding loadedState
+unfolding loadedState W.withSearch
 loaded state s e =
     let never : refused 19 ≡ given s → ⊥ = λ q. let z : _≡_ {A = ℕ} 0 1 = cc in omega arith in
-    let long = not-first (ltb (length state) 63) _ never e in
+    let long = not-first (ltb (length state) W.stateSize) _ never e in
     let flags = not-first _ _ never (not-first _ _ never (long .1) .1) in
     let r = search-loaded state s _ (flags .1) in
     record { long = ltb-false _ _ (long .0); awaits = r .0; subject = r .1 }
@@ -175,7 +169,7 @@ module _ (setup : Setup) (counts : List ℕ) (observations : List Observation) (
   nobody = stays 19 At.Nowhere (inr refl) (inr (inr (inr refl))) refl
 
   -- ---- from what the machine did
-  module _ (s : State) (long : 63 ≤ length state) where
+  module _ (s : State) (long : W.stateSize ≤ length state) where
     stayed : (n : ℕ) (place : Place) → AltersNothing n → did (ran (Answers.Refused n place) (h s)) state answer ≡ kept n place
     unfolding H.told H.numberOf H.answerOf
     stayed n place u = ap (λ (l : List ℕ). out (record { number = n; tally = tally }) l (answered (placeWords n place) answer) cache work warm results) (pick-yes _ _ _ (unaltered-yes n u))
@@ -217,7 +211,7 @@ module _ (setup : Setup) (counts : List ℕ) (observations : List Observation) (
   abbrev lent : Lent
   lent = lentBy (length observations) (length cache) (length work) (length warm) (length results)
 
-  opens-way : 63 ≤ length state → (a : Admission) → Judged (length counts) a
+  opens-way : W.stateSize ≤ length state → (a : Admission) → Judged (length counts) a
       → Way (H.settled setup counts (length observations) (allChecked setup counts observations) tally state answer cache work warm results (opening setup counts lent tally cache work warm results a))
   unfolding Judged opening H.opened H.openedTo B.beginSubject
   opens-way long A.Accepted j =
@@ -235,7 +229,7 @@ module _ (setup : Setup) (counts : List ℕ) (observations : List Observation) (
 
   setup-way : Way (setupOver setup counts observations tally state answer cache work warm results)
   unfolding setupOver H.openWith openedBy checks
-  setup-way = cases Way (ltb (length state) 63) (λ t. nobody) (λ f. opens-way (ltb-false _ _ f) _ (counts-judged setup (length counts) lent (allChecked setup counts observations) _))
+  setup-way = cases Way (ltb (length state) W.stateSize) (λ t. nobody) (λ f. opens-way (ltb-false _ _ f) _ (counts-judged setup (length counts) lent (allChecked setup counts observations) _))
 
   -- ---- a new objective, a reply, a failure
   abbrev called-with : Call → Answer State → Out
@@ -305,16 +299,16 @@ module _ (setup : Setup) (counts : List ℕ) (observations : List Observation) (
       by-own a e u q = subst (λ (z : Ran (Held words) Step). Way (did z state answer)) (sym (own-finish setup counts a e u q))
 
       -- not let in
-      barred-way : 63 ≤ length state → (eta : Pair) (a : Admission) → (a ≡ A.Accepted → ⊥) → Judged (length counts) a → (n : ℕ)
+      barred-way : W.stateSize ≤ length state → (eta : Pair) (a : Admission) → (a ≡ A.Accepted → ⊥) → Judged (length counts) a → (n : ℕ)
           → Way (ends-as (nothingAdmitted (awaited a eta) trial n) s)
       barred-way long eta a never j n = by-own (awaited a eta) _ _ refl (way s long _ (done setup counts (h s) _ (admits setup counts (h s) _ a j (λ q. absurd (never q)))))
 
-      refused-way : 63 ≤ length state → (eta : Pair) (n : ℕ) → Judged (length counts) (A.Refused n)
+      refused-way : W.stateSize ≤ length state → (eta : Pair) (n : ℕ) → Judged (length counts) (A.Refused n)
           → Way (ends-as (admittedOver setup trial said (awaited (A.Refused n) eta) 0 (length observations) (A.Refused n)) s)
       unfolding admittedOver
       refused-way long eta n j = barred-way long eta (A.Refused n) (λ q. let z : _≡_ {A = ℕ} 0 1 = cc in omega arith) j n
 
-      point-way : 63 ≤ length state → (eta : Pair) → Stood setup counts (s .progress) → wantedAt setup (h s) ≡ Wants.Point eta
+      point-way : W.stateSize ≤ length state → (eta : Pair) → Stood setup counts (s .progress) → wantedAt setup (h s) ≡ Wants.Point eta
           → (a : Admission) → judgement ≡ a → Judged (length counts) a → Way (ends-as (admittedOver setup trial said (awaited a eta) 0 (length observations) a) s)
       unfolding admittedOver Judged whenAdmitted
       point-way long eta st wants A.Accepted q j =
@@ -339,7 +333,7 @@ module _ (setup : Setup) (counts : List ℕ) (observations : List Observation) (
           let P : Wanted → Type 0 = λ (w : Wanted). w ≡ Wants.Point eta → (st ≡ true) × (wantedAt setup (h s) ≡ Wants.Point eta) in
           cases P (s .progress .awaits) (λ t. cases P st (λ i q. (i, q)) (λ f q. absurd (never q))) (λ f q. absurd (never q))
 
-      wanted-way : 63 ≤ length state → (v : Wanted) → awaitedPoint setup counts mostRows (fitOf setup (s .parameters)) (s .progress) tally ≡ v → Way (wanting v)
+      wanted-way : W.stateSize ≤ length state → (v : Wanted) → awaitedPoint setup counts mostRows (fitOf setup (s .parameters)) (s .progress) tally ≡ v → Way (wanting v)
       unfolding awaitedFor
       wanted-way long (Wants.Point eta) e = let w = point-wanted eta e in point-way long eta (stood setup counts (h s) mostRows (s .progress) (w .0)) (w .1) judgement refl judged
       wanted-way long Wants.Mode e = refused-way long _ 19 (unheard (length counts))

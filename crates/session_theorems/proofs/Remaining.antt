@@ -39,6 +39,7 @@ use Rattle.search.specs.declared.Wanted.the-variants as Wants
 use Rattle.population.specs.Population.{rowsOf}
 use Rattle.session.specs.Session.{countWithin, searchWithin, searchWithin2, isPlaced}
 use Rattle.setup.proofs.Bounds.{not-first}
+use Rattle.session_theorems.proofs.FirstSearch.{first-one, first-two}
 use Rattle.session_theorems.proofs.Plain.{false-not-true, only-first}
 
 -- ---- what a search wants: for a point one of the m that are left goes, and A holds then; N is asked of a refusal's number
@@ -110,8 +111,8 @@ two-within (Halted i) k r j a b = tt
 
 -- what 19 asks of the search: with two effects where the test holds
 pub StandsBy : Bool → ℕ → Progress → Type 0
-StandsBy true m p = RoomOf2 m (p .«search_2d»)
-StandsBy false m p = RoomOf m (p .search)
+StandsBy true m p = RoomOf2 m (B.twoOf (p .search))
+StandsBy false m p = RoomOf m (B.oneOf (p .search))
 
 module _ (N : ℕ → Type 0) (known : (n : ℕ) → 13 ≤ n → n ≤ 16 → N n) where
   abbrev Ended : Stage2 → Type 0
@@ -218,8 +219,8 @@ module _ (N : ℕ → Type 0) (known : (n : ℕ) → 13 ≤ n → n ≤ 16 → N
 
   -- ---- either: with two effects where the test holds
   pub LeftBy : Bool → ℕ → Progress → Type 0
-  LeftBy true m p = Left2 m (p .«search_2d»)
-  LeftBy false m p = RoomOf m (p .search)
+  LeftBy true m p = Left2 m (B.twoOf (p .search))
+  LeftBy false m p = RoomOf m (B.oneOf (p .search))
 
   pub stands : (b : Bool) (m : ℕ) (p : Progress) → LeftBy b m p → StandsBy b m p
   unfolding StandsBy LeftBy
@@ -229,7 +230,7 @@ module _ (N : ℕ → Type 0) (known : (n : ℕ) → 13 ≤ n → n ≤ 16 → N
   -- where any number will do
   pub lifts : ((n : ℕ) → N n) → (b : Bool) (m : ℕ) (p : Progress) → StandsBy b m p → LeftBy b m p
   unfolding StandsBy LeftBy
-  lifts any true m p l = (l, at (p .«search_2d» .stage))
+  lifts any true m p l = (l, at (B.twoOf (p .search) .stage))
     where
       at : (st : Stage2) → Ended st
       at Zero = tt
@@ -247,23 +248,23 @@ module _ (N : ℕ → Type 0) (known : (n : ℕ) → 13 ≤ n → n ≤ 16 → N
       go : (b : Bool) → StandsBy b m p
           → Goes m ((eta : Pair) (sums : Sums)
           → LeftBy b (m - 1) (pick b (B.advance2 (B.settings2 fit p) p (B.conditional2 eta sums)) (B.advance1 (B.settings fit p) p (B.conditional1 fit eta sums)) .progress))
-          (pick b (B.wanted2 (B.settings2 fit p) (p .«search_2d»)) (B.wanted1 (B.settings fit p) (p .search)))
-      go true r = goes-map m (λ f eta sums. f (B.conditional2 eta sums)) _ (goes-at (p .«search_2d» .stage) (B.settings2 fit p) (p .«search_2d») m r)
-      go false r = goes-map m (λ f eta sums. f (B.conditional1 fit eta sums)) _ (goes1 (B.settings fit p) (p .search) m r)
+          (pick b (B.wanted2 (B.settings2 fit p) (B.twoOf (p .search))) (B.wanted1 (B.settings fit p) (B.oneOf (p .search))))
+      go true r = goes-map m (λ f eta sums. f (B.conditional2 eta sums)) _ (goes-at (B.twoOf (p .search) .stage) (B.settings2 fit p) (B.twoOf (p .search)) m r)
+      go false r = goes-map m (λ f eta sums. f (B.conditional1 fit eta sums)) _ (goes1 (B.settings fit p) (B.oneOf (p .search)) m r)
 
   pub refusals : (fit : Fit) (p : Progress) (m : ℕ) → LeftBy (eqb (fit .effects) 2) m p → Numbered N (B.wantedBy fit p)
   unfolding LeftBy B.wantedBy B.wanted1 B.wanted2 pick
   refusals fit p m l = go (eqb (fit .effects) 2) l
     where
-      go : (b : Bool) → LeftBy b m p → Numbered N (pick b (B.wants2 (R2.request (B.settings2 fit p) (p .«search_2d»))) (B.wants1 (request (B.settings fit p) (p .search))))
-      go true l = numbered2 (p .«search_2d» .stage) (B.settings2 fit p) (p .«search_2d») (l .1)
-      go false l = numbered1 N known (p .search .stage) (B.settings fit p) (p .search)
+      go : (b : Bool) → LeftBy b m p → Numbered N (pick b (B.wants2 (R2.request (B.settings2 fit p) (B.twoOf (p .search)))) (B.wants1 (request (B.settings fit p) (B.oneOf (p .search)))))
+      go true l = numbered2 (B.twoOf (p .search) .stage) (B.settings2 fit p) (B.twoOf (p .search)) (l .1)
+      go false l = numbered1 N known (B.oneOf (p .search) .stage) (B.settings fit p) (B.oneOf (p .search))
 
   -- a search that has asked nothing
-  pub begins : (b : Bool) (subject first : ℕ) (warm : Pair) (ofv squares : Float) → LeftBy b 6343 (B.beginSubject subject first warm ofv squares)
+  pub begins : (b : Bool) (effects subject first : ℕ) (warm : Pair) (ofv squares : Float) → LeftBy b 6343 (B.beginSubject effects subject first warm ofv squares)
   unfolding LeftBy B.beginSubject start R2.start R2.between
-  begins true subject first warm ofv squares = (omega arith, tt)
-  begins false subject first warm ofv squares = (omega arith, omega arith)
+  begins true effects subject first warm ofv squares = first-two (Left2 6343) effects (omega arith, tt)
+  begins false effects subject first warm ofv squares = first-one (RoomOf 6343) effects (omega arith, omega arith)
 
   -- one that 19 lets pass, among the subjects
   pub placed : (effects : ℕ) (counts : List ℕ) (n : ℕ) (p : Progress) → isPlaced effects counts n p ≡ true → (p .subject < length counts) × StandsBy (eqb effects 2) 6343 p
@@ -273,9 +274,9 @@ module _ (N : ℕ → Type 0) (known : (n : ℕ) → 13 ≤ n → n ≤ 16 → N
       let search = not-first (ltb n (p .first + rowsOf counts (p .subject))) _ false-not-true (inside .1) .1 in
       (ltb-true _ _ (inside .0), by (eqb effects 2) search)
     where
-      by : (b : Bool) → pick b (searchWithin2 (p .«search_2d»)) (searchWithin (p .search)) ≡ true → StandsBy b 6343 p
+      by : (b : Bool) → pick b (searchWithin2 (B.twoOf (p .search))) (searchWithin (B.oneOf (p .search))) ≡ true → StandsBy b 6343 p
       by true e =
           let seed = only-first _ _ (sym (pick-yes true _ _ refl) ∙ e) in
           let round = only-first _ _ (seed .1) in
-          two-within (p .«search_2d» .stage) _ _ _ (ltb-true _ _ (round .0)) (ltb-true _ _ (round .1))
-      by false e = one-within (p .search .stage) _ (sym (pick-no false _ _ refl) ∙ e)
+          two-within (B.twoOf (p .search) .stage) _ _ _ (ltb-true _ _ (round .0)) (ltb-true _ _ (round .1))
+      by false e = one-within (B.oneOf (p .search) .stage) _ (sym (pick-no false _ _ refl) ∙ e)

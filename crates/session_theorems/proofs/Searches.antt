@@ -11,11 +11,13 @@ use Rattle.float64.specs.Arithmetic.{word}
 use Rattle.float64.specs.Float64.{nonfinite}
 use Rattle.float64.specs.Pick.{cases, pick-yes, pick-no}
 use Rattle.matrix.specs.declared.Pair.{Pair}
-use Rattle.mode.specs.Rules.{request}
+use Rattle.mode.specs.Rules.{request, start}
+use Rattle.mode.specs.declared.population_focei.Search.{Search}
 use Rattle.mode.specs.declared.population_focei.Request.{Request}
 use Rattle.mode.specs.declared.population_focei.Request.the-variants as One
 use Rattle.mode_2d.specs.Rules as R2
 use Rattle.mode_2d.specs.declared.population_focei_2d.Request2.{Request2}
+use Rattle.mode_2d.specs.declared.population_focei_2d.Search2.{Search2}
 use Rattle.mode_2d.specs.declared.population_focei_2d.Request2.the-variants as Two
 use Rattle.mode_theorems.specs.History as H1
 use Rattle.mode_theorems.specs.History2 as H2
@@ -31,6 +33,7 @@ use Rattle.search.specs.declared.Wanted.{Wanted}
 use Rattle.search.specs.declared.Wanted.the-variants as Wants
 use Rattle.machine.specs.Rules.{Rules, Proved, point, mode, refusal, wanted, after}
 use Rattle.machine.specs.Rules as Rules
+use Rattle.session_theorems.proofs.FirstSearch.{first-one, first-two}
 use Rattle.session_theorems.proofs.Plain.{not-not}
 use Rattle.session_theorems.specs.Inner.{Inner, inner1, inner2, rules1, claims1, rules2, claims2, wants1, wants2}
 use Rattle.setup.specs.Admission.{isNoOmega, isNoShape, withParameters}
@@ -52,7 +55,7 @@ pub record Suits (I : Inner) (effects : ℕ) : Type 1 where
   pub pairs : (fit : Fit) (p : Progress) (eta : Pair) → fit .effects ≡ effects → B.wantedBy fit p ≡ Wants.Point eta → I .pairOf (I .pointOf eta) ≡ eta
   -- the settings go by the warm start alone
   pub settings : (fit : Fit) (p q : Progress) → q .warm ≡ p .warm → I .settingsOf fit q ≡ I .settingsOf fit p
-  pub starts : (subject first : ℕ) (warm : Pair) (ofv squares : Float) → I .searchOf (B.beginSubject subject first warm ofv squares) ≡ I .rules .start
+  pub starts : (effects subject first : ℕ) (warm : Pair) (ofv squares : Float) → I .searchOf (B.beginSubject effects subject first warm ofv squares) ≡ I .rules .start
   pub waits : (p : Progress) (individual : Pair) → I .searchOf (B.awaiting p individual) ≡ I .searchOf p
   pub advances : (fit : Fit) (p : Progress) (eta : Pair) (sums : Sums) → fit .effects ≡ effects
       → I .searchOf (B.advanceBy fit p eta sums .progress) ≡ I .rules .advance (I .settingsOf fit p) (I .searchOf p) (I .conditionalOf fit eta sums)
@@ -65,7 +68,7 @@ pub record Suits (I : Inner) (effects : ℕ) : Type 1 where
       → isNoShape (withParameters setup parameters) ≡ false → FitsBoth (p .warm) → I .claims .Domain (I .settingsOf (B.fitOf setup parameters) p)
   -- what the search keeps of its next point is of the format, and so is what it asks for
   pub Pointed : Progress → Type 0
-  pub pointed-start : (subject first : ℕ) (warm : Pair) (ofv squares : Float) → Pointed (B.beginSubject subject first warm ofv squares)
+  pub pointed-start : (effects subject first : ℕ) (warm : Pair) (ofv squares : Float) → Pointed (B.beginSubject effects subject first warm ofv squares)
   pub pointed-wait : (p : Progress) (individual : Pair) → Pointed p → Pointed (B.awaiting p individual)
   pub pointed-idle : (p : Progress) → Pointed p → Pointed (B.idle p)
   pub pointed-end : (p : Progress) (ofv squares : Float) → Pointed p → Pointed (B.finished p ofv squares)
@@ -91,7 +94,7 @@ module _ (fit : Fit) (e : fit .effects ≡ 1) where
   pub one-not-two : eqb (fit .effects) 2 ≡ false
   one-not-two = ap (λ (n : ℕ). eqb n 2) e
 
-  pub wanted-one : (p : Progress) → B.wantedBy fit p ≡ B.wants1 (request (B.settings fit p) (p .search))
+  pub wanted-one : (p : Progress) → B.wantedBy fit p ≡ B.wants1 (request (B.settings fit p) (B.oneOf (p .search)))
   unfolding B.wantedBy B.wanted1
   wanted-one p = pick-no _ _ _ one-not-two
 
@@ -136,27 +139,27 @@ proved1 = record {
 pub suits1 : Suits inner1 1
 unfolding B.settings B.beginSubject B.awaiting B.advanceBy B.advance1 B.withSearch B.conditional1
 suits1 = record {
-  wants = λ fit p e. ap (wantsOf inner1) (wanted-one fit e p) ∙ wants-one (request (B.settings fit p) (p .search));
-  pairs = λ fit p eta e w. point-one (request (B.settings fit p) (p .search)) eta (sym (wanted-one fit e p) ∙ w) .1;
+  wants = λ fit p e. ap (wantsOf inner1) (wanted-one fit e p) ∙ wants-one (request (B.settings fit p) (B.oneOf (p .search)));
+  pairs = λ fit p eta e w. point-one (request (B.settings fit p) (B.oneOf (p .search))) eta (sym (wanted-one fit e p) ∙ w) .1;
   settings = λ fit p q e. cc;
-  starts = λ subject first warm ofv squares. refl;
+  starts = λ effects subject first warm ofv squares. first-one (λ (x : Search). x ≡ start) effects refl;
   waits = λ p individual. refl;
-  advances = λ fit p eta sums e. ap (λ (a : Advanced). a .progress .search) (pick-no _ _ _ (one-not-two fit e));
+  advances = λ fit p eta sums e. ap (λ (a : Advanced). B.oneOf (a .progress .search)) (pick-no _ _ _ (one-not-two fit e));
   answers = λ fit p eta sums e d w passed f. record {
-    asked = point-one (request (B.settings fit p) (p .search)) eta (sym (wanted-one fit e p) ∙ w) .0;
+    asked = point-one (request (B.settings fit p) (B.oneOf (p .search))) eta (sym (wanted-one fit e p) ∙ w) .0;
     etaNumber = edge-number (eta .first) (passed .first);
     scoreNumber = prior-number (sums .score .first) (eta .first) (fit .omega) (all-finite sums f .1) (passed .first) (d .omegaLow) (d .omegaHigh);
   };
   domain = λ setup parameters p e f o sh w. domain1 setup parameters p e f o sh (w .first);
   Pointed = λ p. Unit;
-  pointed-start = λ subject first warm ofv squares. tt;
+  pointed-start = λ effects subject first warm ofv squares. tt;
   pointed-wait = λ p individual h. tt;
   pointed-idle = λ p h. tt;
   pointed-end = λ p ofv squares h. tt;
   pointed-on = λ fit p eta sums e f h. tt;
   points = λ fit p eta e f w h q.
-      let one = point-one (request (B.settings fit p) (p .search)) eta (sym (wanted-one fit e p) ∙ q) in
-      subst FitsBoth (one .1) (record { first = point-fits (B.settings fit p) (p .search) (eta .first) (w .first) (one .0); second = zero-fits .second });
+      let one = point-one (request (B.settings fit p) (B.oneOf (p .search))) eta (sym (wanted-one fit e p) ∙ q) in
+      subst FitsBoth (one .1) (record { first = point-fits (B.settings fit p) (B.oneOf (p .search)) (eta .first) (w .first) (one .0); second = zero-fits .second });
   proved = proved1;
   enough = λ n h. omega (arith, h);
 }
@@ -166,7 +169,7 @@ module _ (fit : Fit) (e : fit .effects ≡ 2) where
   pub is-two : eqb (fit .effects) 2 ≡ true
   is-two = eq-eqb _ _ e
 
-  pub wanted-two : (p : Progress) → B.wantedBy fit p ≡ B.wants2 (R2.request (B.settings2 fit p) (p .«search_2d»))
+  pub wanted-two : (p : Progress) → B.wantedBy fit p ≡ B.wants2 (R2.request (B.settings2 fit p) (B.twoOf (p .search)))
   unfolding B.wantedBy B.wanted2
   wanted-two p = pick-yes _ _ _ is-two
 
@@ -211,27 +214,27 @@ proved2 = record {
 pub suits2 : Suits inner2 2
 unfolding B.settings2 B.beginSubject B.idle B.finished B.awaiting B.advanceBy B.advance2 B.withSearch B.conditional2
 suits2 = record {
-  wants = λ fit p e. ap (wantsOf inner2) (wanted-two fit e p) ∙ wants-two (R2.request (B.settings2 fit p) (p .«search_2d»));
+  wants = λ fit p e. ap (wantsOf inner2) (wanted-two fit e p) ∙ wants-two (R2.request (B.settings2 fit p) (B.twoOf (p .search)));
   pairs = λ fit p eta e w. refl;
   settings = λ fit p q e. cc;
-  starts = λ subject first warm ofv squares. refl;
+  starts = λ effects subject first warm ofv squares. first-two (λ (x : Search2). x ≡ R2.start) effects refl;
   waits = λ p individual. refl;
-  advances = λ fit p eta sums e. ap (λ (a : Advanced). a .progress .«search_2d») (pick-yes _ _ _ (is-two fit e));
+  advances = λ fit p eta sums e. ap (λ (a : Advanced). B.twoOf (a .progress .search)) (pick-yes _ _ _ (is-two fit e));
   answers = λ fit p eta sums e d w passed f. record {
-    asked = point-two (R2.request (B.settings2 fit p) (p .«search_2d»)) eta (sym (wanted-two fit e p) ∙ w);
+    asked = point-two (R2.request (B.settings2 fit p) (B.twoOf (p .search))) eta (sym (wanted-two fit e p) ∙ w);
     within0 = passed .first;
     within1 = passed .second refl;
     nllFinite = all-finite sums f .0;
   };
   domain = λ setup parameters p e f o sh w. domain2 setup parameters p e o;
-  Pointed = λ p. TrialFits (p .«search_2d»);
-  pointed-start = λ subject first warm ofv squares. start-fits;
+  Pointed = λ p. TrialFits (B.twoOf (p .search));
+  pointed-start = λ effects subject first warm ofv squares. first-two TrialFits effects start-fits;
   pointed-wait = λ p individual h. h;
   pointed-idle = λ p h. h;
   pointed-end = λ p ofv squares h. h;
-  pointed-on = λ fit p eta sums e f h. subst (λ (a : Advanced). TrialFits (a .progress .«search_2d»)) (sym (pick-yes _ _ _ (is-two fit e)))
-      (advance-fits (B.settings2 fit p) f (p .«search_2d») (B.conditional2 eta sums) h);
-  points = λ fit p eta e f w h q. point2-fits (B.settings2 fit p) f (p .«search_2d») eta h w (point-two (R2.request (B.settings2 fit p) (p .«search_2d»)) eta (sym (wanted-two fit e p) ∙ q));
+  pointed-on = λ fit p eta sums e f h. subst (λ (a : Advanced). TrialFits (B.twoOf (a .progress .search))) (sym (pick-yes _ _ _ (is-two fit e)))
+      (advance-fits (B.settings2 fit p) f (B.twoOf (p .search)) (B.conditional2 eta sums) h);
+  points = λ fit p eta e f w h q. point2-fits (B.settings2 fit p) f (B.twoOf (p .search)) eta h w (point-two (R2.request (B.settings2 fit p) (B.twoOf (p .search))) eta (sym (wanted-two fit e p) ∙ q));
   proved = proved2;
   enough = λ n h. omega (arith, h);
 }

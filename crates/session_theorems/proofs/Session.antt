@@ -107,7 +107,7 @@ module _ (S : Store) (setup : Setup) (counts : List ℕ) (observations : List Ob
         omega-in = subst (λ (x : Setup). isNoOmega x ≡ false) e (a .omega-in);
         shape-in = subst (λ (x : Setup). isNoShape x ≡ false) e (a .shape-in);
         warm-fits = zero-fits;
-        pointed = Q .pointed-start 0 0 _ _ _;
+        pointed = Q .pointed-start (setup .effects) 0 0 _ _ _;
         count = 0;
         trust = U .opens (lent .cache) (a .cache-lent);
         few = omega arith;

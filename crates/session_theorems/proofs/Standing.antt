@@ -7,14 +7,12 @@ use Prim.Native.Nat.{ℕ, suc, _*_, _≤_, _<_}
 use native.Mathlib.Omega.{arith}
 use lib.Dec.{T}
 use lib.ListN.{length}
-use lib.Ieee.{Float}
 use Rattle.float64.specs.Pick.{both}
-use Rattle.matrix.specs.Matrix.{Inverse, some as inverted, none as singular, inversePositive}
 use Rattle.matrix.specs.declared.Pair.{Pair}
 use Rattle.likelihood.specs.declared.population_focei.Observation.{Observation}
 use Rattle.subject.specs.declared.Sums.{Sums}
 use Rattle.work.specs.Work.{block}
-use Rattle.setup.specs.Admission.{omegaOf, isNoOmega, isNoShape, withParameters}
+use Rattle.setup.specs.Admission.{isNoOmega, isNoShape, withParameters}
 use Rattle.setup.specs.declared.Setup.{Setup}
 use Rattle.setup.specs.declared.Parameters.{Parameters}
 use Rattle.search.specs.Subjects as B
@@ -32,38 +30,6 @@ use Rattle.session_theorems.proofs.Lengths.{AsLong}
 use Rattle.session_theorems.proofs.Points.{Passed}
 use Rattle.session_theorems.proofs.Searches.{Suits}
 use Rattle.session_theorems.proofs.Stores.{Trusted}
-
--- ---- the fit of an objective has the setup's own numbers
-record Same (setup : Setup) (fit : Fit) : Type 0 where
-  effects : fit .effects ≡ setup .effects
-  k : fit .k ≡ setup .k
-  most : fit .«max_evaluations» ≡ setup .«max_evaluations»
-  bound : fit .«eta_bound» ≡ setup .«eta_bound»
-
-with-same : (setup : Setup) (parameters : Parameters) (m : List (List Float)) (det : Float) → Same setup (B.fitWith (withParameters setup parameters) (parameters .theta) m det)
-unfolding B.fitWith withParameters
-with-same setup parameters m det = record { effects = refl; k = refl; most = refl; bound = refl }
-
-by-same : (setup : Setup) (parameters : Parameters) (i : Inverse) → Same setup (B.fitBy (withParameters setup parameters) (parameters .theta) i)
-unfolding B.fitBy
-by-same setup parameters (inverted m det) = with-same setup parameters m det
-by-same setup parameters singular = with-same setup parameters _ _
-
-fit-same : (setup : Setup) (parameters : Parameters) → Same setup (B.fitOf setup parameters)
-unfolding B.fitOf B.fit2
-fit-same setup parameters = both (Same setup) _ (by-same setup parameters (inversePositive (omegaOf (withParameters setup parameters)))) (with-same setup parameters _ _)
-
-pub fit-effects : (setup : Setup) (parameters : Parameters) → B.fitOf setup parameters .effects ≡ setup .effects
-fit-effects setup parameters = fit-same setup parameters .effects
-
-pub fit-k : (setup : Setup) (parameters : Parameters) → B.fitOf setup parameters .k ≡ setup .k
-fit-k setup parameters = fit-same setup parameters .k
-
-pub fit-most : (setup : Setup) (parameters : Parameters) → B.fitOf setup parameters .«max_evaluations» ≡ setup .«max_evaluations»
-fit-most setup parameters = fit-same setup parameters .most
-
-pub fit-bound : (setup : Setup) (parameters : Parameters) → B.fitOf setup parameters .«eta_bound» ≡ setup .«eta_bound»
-fit-bound setup parameters = fit-same setup parameters .bound
 
 -- ---- a search that goes on stays with its subject
 pub record Alike (p q : Progress) : Type 0 where

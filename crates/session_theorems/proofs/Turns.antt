@@ -36,6 +36,7 @@ use Rattle.search.specs.declared.Wanted.the-variants as Wants
 use Rattle.search.specs.declared.Mode.{Mode}
 use Rattle.search.specs.declared.Closed.{Closed}
 use Rattle.search.specs.declared.Closed.the-variants.{Positive, NotPositive}
+use Rattle.search.proofs.Fits.{fit-effects, fit-k, fit-most, fit-bound}
 use Rattle.cache.specs.declared.CacheKey.{CacheKey}
 use Rattle.machine.specs.Lawful.{Over, Turn}
 use Rattle.machine.specs.Lawful.Turn.{hit, short, wild, miss, next, barred, last, fails}
@@ -55,7 +56,7 @@ use Rattle.session_theorems.proofs.Fitting.{Fits, FitsBoth}
 use Rattle.session_theorems.proofs.Lengths.{AsLong, zeros-length, move-rows-length}
 use Rattle.session_theorems.proofs.Points.{WithinEdge, zero-in-16, Passed, values-within}
 use Rattle.session_theorems.proofs.Searches.{Suits, wantsOf}
-use Rattle.session_theorems.proofs.Standing.{Alike, advanced-alike, recallOf, Standing, still, fit-effects, fit-k, fit-most, fit-bound}
+use Rattle.session_theorems.proofs.Standing.{Alike, advanced-alike, recallOf, Standing, still}
 use Rattle.session_theorems.proofs.Stores.{Fine, Trusted}
 
 -- ---- the bits of a point tell it
@@ -303,20 +304,20 @@ module _ (S : Store) (setup : Setup) (counts : List ℕ) (observations : List Ob
         raised-is = mod-eq-of-lt (omega (arith, s .subject, most-subjects)) ∙ omega arith
 
         begins : (first : ℕ) (ofv squares : Float) → ltb subject (length counts) ≡ true
-            → Goes h (on (held S (h .parameters) (wholeOf S (B.beginSubject subject first (warmOf warm (fit .effects) subject) ofv squares) (w .tally) (w .kept) (zeros (length (w .work))) warm
-            results)))
+            → Goes h (on (held S (h .parameters) (wholeOf S (B.beginSubject (fit .effects) subject first (warmOf warm (fit .effects) subject) ofv squares) (w .tally) (w .kept)
+            (zeros (length (w .work))) warm results)))
         unfolding B.beginSubject
         begins first ofv squares l =
             let f = warm-of-fits warm (fit .effects) subject in
-            let q = B.beginSubject subject first (warmOf warm (fit .effects) subject) ofv squares in
+            let q = B.beginSubject (fit .effects) subject first (warmOf warm (fit .effects) subject) ofv squares in
             let inside : subject < length counts = ltb-true _ _ l in
             next mode-is (record {
-              sound = still S setup counts observations I Q U h s q (w .tally) (zeros (length (w .work))) warm results inside refl f (Q .pointed-start subject first _ ofv squares) (omega arith)
-                  (s .limit) (zeros-length _);
+              sound = still S setup counts observations I Q U h s q (w .tally) (zeros (length (w .work))) warm results inside refl f (Q .pointed-start (fit .effects) subject first _ ofv squares)
+                  (omega arith) (s .limit) (zeros-length _);
               domain = Q .domain setup (h .parameters) q refl bound (s .omega-in) (s .shape-in) f;
               subject = raised-is;
               within = subst (λ (i : ℕ). i < length counts) raised-is inside;
-              search = Q .starts subject first _ ofv squares;
+              search = Q .starts (fit .effects) subject first _ ofv squares;
               tally = refl;
             })
 

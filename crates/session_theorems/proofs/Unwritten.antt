@@ -39,6 +39,7 @@ use Rattle.search.specs.declared.Step.the-variants as Answers
 use Rattle.search.specs.declared.Tally.{Tally}
 use Rattle.search.specs.declared.Wanted.{Wanted}
 use Rattle.search.specs.declared.Wanted.the-variants as Wants
+use Rattle.search.proofs.Fits.{fit-effects}
 use Rattle.machine.specs.Machine.{Moved, on, halt, Ran, onward, loop, call, run}
 use Rattle.population.specs.Kept.{Recalled, words}
 use Rattle.population.specs.Population.{rowsOf, warmStored, raised, Worked, answered, atPoint, nextSubject, Ended, closing, atMode, servedBy, served, turned, Whole, wholeOf, moved, turn, spent, take}
@@ -57,7 +58,7 @@ use Rattle.session_theorems.proofs.Placed.{before-later, all-before, ro
 use Rattle.session_theorems.proofs.Results.{past-two, result-kept, result-past}
 use Rattle.session_theorems.proofs.Searches.{Suits, suits1, suits2}
 use Rattle.session_theorems.proofs.Session.{some-room}
-use Rattle.session_theorems.proofs.Standing.{fit-effects, advanced-alike}
+use Rattle.session_theorems.proofs.Standing.{advanced-alike}
 
 -- ---- the warm start of subject j is stored, and those of the later ones stay
 warm-past : (effects j : ℕ) (eta : Pair) (warm : List ℕ) (x : ℕ) → (effects ≡ 1) ⊎ (effects ≡ 2) → effects * suc j ≤ x → getD (warmStored effects j eta warm) x 0 ≡ getD warm x 0
@@ -229,14 +230,14 @@ module _ (setup : Setup) (counts : List ℕ) where
         next-subject : raised j 1 ≡ suc j
         next-subject = let q = g .place .subject in mod-eq-of-lt (omega (arith, q, a .most)) ∙ omega arith
 
-        next-begins : (i first : ℕ) (warm : Pair) (ofv squares : Float) → i ≡ suc j → Ends (On (B.beginSubject i first warm ofv squares)) stored written
+        next-begins : (effects i first : ℕ) (warm : Pair) (ofv squares : Float) → i ≡ suc j → Ends (On (B.beginSubject effects i first warm ofv squares)) stored written
         unfolding Ends B.beginSubject
-        next-begins i first warm ofv squares e work =
-            let q = B.beginSubject i first warm ofv squares in subst (λ (n : ℕ). Stays setup counts n n ref (to q (w .tally) work stored written)) (sym e) (next-stays q work)
+        next-begins effects i first warm ofv squares e work =
+            let q = B.beginSubject effects i first warm ofv squares in subst (λ (n : ℕ). Stays setup counts n n ref (to q (w .tally) work stored written)) (sym e) (next-stays q work)
 
         next : Ends (nextSubject fit counts p (w .tally) m rows stored (w .work) .value) stored written
         unfolding nextSubject
-        next = both (λ (x : Worked Turned). Ends (x .value) stored written) _ (next-begins _ _ _ _ _ next-subject) (ends _ _)
+        next = both (λ (x : Worked Turned). Ends (x .value) stored written) _ (next-begins _ _ _ _ _ _ next-subject) (ends _ _)
 
         at-17 : Ends (Halt (B.refusedBy p (w .tally) 17 (At.Subject j))) stored (w .results)
         unfolding Ends B.refusedBy pick

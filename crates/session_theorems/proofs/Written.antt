@@ -51,6 +51,7 @@ use Rattle.search.specs.declared.Step.{Step}
 use Rattle.search.specs.declared.Tally.{Tally}
 use Rattle.search.specs.declared.Wanted.{Wanted}
 use Rattle.search.specs.declared.Wanted.the-variants as Wants
+use Rattle.search.proofs.Fits.{fit-effects}
 use Rattle.machine.specs.Log.{Searched}
 use Rattle.machine.specs.Machine.{Moved, on, Machine, Act}
 use Rattle.machine.specs.Observed.{View, wantedAt}
@@ -76,7 +77,7 @@ use Rattle.session_theorems.proofs.Placed.{before-later, all-before, ro
 use Rattle.session_theorems.proofs.Results.{Predicted, SameAt, result-kept, first-written, second-written, nll-written, fitted-written, grid-same, grid-other}
 use Rattle.session_theorems.proofs.Searches.{Suits, suits1, suits2, wantsOf}
 use Rattle.session_theorems.proofs.Session.{sets, lawful, opens-standing, some-room}
-use Rattle.session_theorems.proofs.Standing.{Standing, fit-effects, advanced-alike}
+use Rattle.session_theorems.proofs.Standing.{Standing, advanced-alike}
 use Rattle.session_theorems.proofs.Stores.{Trusted, words-trusted}
 use Rattle.session_theorems.proofs.Trials.{Has, NthHas, SameBlocks}
 use Rattle.session_theorems.proofs.Turns.{turns}
@@ -387,9 +388,10 @@ module _ (setup : Setup) (counts : List ℕ) (observations : List Observation) (
     refuses n place work warm results f = (λ e. absurd (let z : _≡_ {A = ℕ} 0 1 = cc in omega arith), λ k e x i. f k (let q : k ≡ n = cc in q) x i)
 
     -- a search that has just begun carries nothing yet
-    nothing-carried : (st : I .rules .Settings) (subject first : ℕ) (warm : Pair) (ofv squares : Float) (rows : ℕ → List ℕ) → X .Carried st []
-        (I .searchOf (B.beginSubject subject first warm ofv squares)) rows
-    nothing-carried st subject first warm ofv squares rows = subst (λ (x : I .rules .Search). X .Carried st [] x rows) (sym (Q .starts subject first warm ofv squares)) (X .begun st rows)
+    nothing-carried : (st : I .rules .Settings) (effects subject first : ℕ) (warm : Pair) (ofv squares : Float) (rows : ℕ → List ℕ) → X .Carried st []
+        (I .searchOf (B.beginSubject effects subject first warm ofv squares)) rows
+    nothing-carried st effects subject first warm ofv squares rows =
+        subst (λ (x : I .rules .Search). X .Carried st [] x rows) (sym (Q .starts effects subject first warm ofv squares)) (X .begun st rows)
 
     module _ (m : Mode) (o : OfMode I L m (I .rules .best (I .searchOf p))) (wants : B.wantedBy fit p ≡ Wants.Mode) (positive : B.closedBy fit p rows ≡ Positive m) where
       abbrev next : ℕ
@@ -403,14 +405,14 @@ module _ (setup : Setup) (counts : List ℕ) (observations : List Observation) (
 
       module _ (same : isSameGrid (w .work) rows ≡ true) where
         begins : (first : ℕ) (squares : Float) (work : List ℕ) → Ends h
-            (closeTurn (ended (On (B.beginSubject next first (warmOf (stored m o) (fit .effects) next) sum squares)) work (stored m o) (written m o)))
+            (closeTurn (ended (On (B.beginSubject (fit .effects) next first (warmOf (stored m o) (fit .effects) next) sum squares)) work (stored m o) (written m o)))
         unfolding Closes N.heldBy moved isOver pick B.beginSubject
         begins first squares work = (
           λ x i. (in-words m o wants x i _ _ _ same, adds-up m o wants x i positive),
-          X .starts setup (h .parameters) (B.beginSubject next first (warmOf (stored m o) (fit .effects) next) sum squares) (stored m o) next refl
+          X .starts setup (h .parameters) (B.beginSubject (fit .effects) next first (warmOf (stored m o) (fit .effects) next) sum squares) (stored m o) next refl
               (ap (λ (n : ℕ). warmOf (stored m o) n next) effects-are)
               ∙ ap (L .settings setup (h .parameters) (stored m o)) next-is ∙ warm-other m o (suc j) (λ e. omega (arith, e)),
-          nothing-carried _ next first (warmOf (stored m o) (fit .effects) next) sum squares _,
+          nothing-carried _ (fit .effects) next first (warmOf (stored m o) (fit .effects) next) sum squares _,
         )
 
         finishes : (squares : Float) → Ends h (closeTurn (ended (Halt (B.objectiveOf p (w .tally) sum squares)) (w .work) (stored m o) (written m o)))
@@ -653,7 +655,8 @@ module _ (setup : Setup) (counts : List ℕ) (observations : List Observation) (
 
     begun-opens : (parameters : Parameters) → Begins (objective parameters) h (on (N.begun words setup counts parameters w))
     unfolding Opens N.begun B.beginSubject
-    begun-opens parameters = (X .starts setup parameters _ (w .warm) 0 refl refl, λ i l. refl, refl, nothing-carried _ 0 0 (warmOf (w .warm) (setup .effects) 0) (word 0) (word 0) _, refl)
+    begun-opens parameters =
+        (X .starts setup parameters _ (w .warm) 0 refl refl, λ i l. refl, refl, nothing-carried _ (setup .effects) 0 0 (warmOf (w .warm) (setup .effects) 0) (word 0) (word 0) _, refl)
 
     admitted-opens : (parameters : Parameters) (v : Admission) → Begins (objective parameters) h (N.whenAdmitted words h (on (N.begun words setup counts parameters w)) v)
     unfolding N.whenAdmitted

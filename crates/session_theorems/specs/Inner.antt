@@ -36,7 +36,7 @@ use Rattle.cache.specs.Cache.{rowWords}
 use Rattle.cache.specs.Kept.{wordsFrom}
 use Rattle.work.specs.Work.{block}
 use Rattle.setup.specs.declared.Setup.{Setup}
-use Rattle.search.specs.Subjects.{fitOf, settings, settings2, wantedBy, keyOf, sumsOf}
+use Rattle.search.specs.Subjects.{fitOf, settings, settings2, oneOf, twoOf, wantedBy, keyOf, sumsOf}
 use Rattle.search.specs.declared.Fit.{Fit}
 use Rattle.search.specs.declared.Progress.{Progress}
 use Rattle.search.specs.declared.Step.{Step}
@@ -134,7 +134,7 @@ inner1 = record {
   rules = rules1;
   claims = claims1;
   settingsOf = settings;
-  searchOf = λ p. p .search;
+  searchOf = λ p. oneOf (p .search);
   pointOf = λ eta. eta .first;
   pairOf = λ x. record { first = x; second = word 0 };
   -- the prior's eta / omega is added to the score
@@ -151,7 +151,7 @@ inner2 = record {
   rules = rules2;
   claims = claims2;
   settingsOf = settings2;
-  searchOf = λ p. p .«search_2d»;
+  searchOf = λ p. twoOf (p .search);
   pointOf = λ eta. eta;
   pairOf = λ eta. eta;
   conditionalOf = λ fit eta sums. record {

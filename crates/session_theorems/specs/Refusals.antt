@@ -19,7 +19,7 @@ use Rattle.machine.specs.Machine.{on, loop}
 use Rattle.population.specs.Kept.{words}
 use Rattle.population.specs.Population.{spent}
 use Rattle.session.specs.Session.{Held, Call, objective, reply, failure, fuel, isPlaced, turnHeld, enter}
-use Rattle.state_words.specs.SessionWords.{loadedState}
+use Rattle.state_words.specs.SessionWords.{stateSize, loadedState}
 use Rattle.host_calls.specs.Hosting.{Out, out, answered, placeWords, setupOver, callOver}
 use Rattle.host_calls.specs.SubjectReplies.{subjectReplyOver}
 
@@ -98,7 +98,7 @@ module _ (l : Lending) where
     pub misplaced : length (l .counts) ≤ getD (l .state) 8 0 → (x : Exported) → (x ≡ opens → ⊥) → number x ≡ 19
     pub crowded : l .setup .k < l .tally .«cached_rows» .0 → (x : Exported) → (x ≡ opens → ⊥) → number x ≡ 19
     -- setup: too few words for the state that it is to give
-    pub short : length (l .state) < 63 → number opens ≡ 19
+    pub short : length (l .state) < stateSize → number opens ≡ 19
 
   -- ---- every refusal: its number, and what it leaves
 

@@ -1,5 +1,5 @@
--- What was saved is there: where 63 words are lent, the first 63 are the state's and those beyond stay (`saved-first`), and loading them gives the state back (`back`). Floats must be
--- binary64's own, which a state's are, and counts a u32's. Assumes nothing.
+-- What was saved is there: where as many words are lent as a state has, the first of them are the state's and those beyond stay (`saved-first`), and loading them gives the state back
+-- (`back`). Floats must be binary64's own, which a state's are, and counts a u32's. Assumes nothing.
 use mathlib.Core.Path.{_≡_, refl, sym, ap, _∙_}
 use mathlib.Core.Bool.{Bool, true, false}
 use mathlib.Core.List.{List, [], _∷_, _++_}
@@ -11,7 +11,7 @@ use lib.Dec.{T, ltb, eqb}
 use lib.ListN.{getD, set, length, length-append, drop}
 use lib.Ieee.{Float, binary64, fits, ofBits, toBits}
 use lib.Ieee.Bits.{ofBits-toBits}
-use Rattle.float64.specs.Answer.{Answer, given, refused}
+use Rattle.float64.specs.Answer.{Answer, given, refused, through}
 use Rattle.float64.specs.Arithmetic.{word}
 use Rattle.float64.specs.Pick.{pick, no}
 use Rattle.matrix.specs.declared.Pair.{Pair}
@@ -25,13 +25,15 @@ use Rattle.mode_2d.specs.declared.population_focei_2d.Stage2.the-variants.{Zero
 use Rattle.mode_2d.specs.declared.population_focei_2d.Search2.{Search2}
 use Rattle.state_words.specs.SearchWords as one
 use Rattle.state_words.specs.SearchWords2 as two
-use Rattle.cache.specs.Kept.{wordsFrom}
 use Rattle.subject.specs.declared.AdditiveSd.{AdditiveSd}
 use Rattle.subject.specs.declared.AdditiveSd.the-variants.{Own, Override}
-use Rattle.search.specs.Subjects.{hasAdditive, additiveWord}
+use Rattle.search.specs.Subjects.{oneOf, twoOf, hasAdditive, additiveWord}
+use Rattle.search.specs.declared.SubjectSearch.{SubjectSearch}
+use Rattle.search.specs.declared.SubjectSearch.the-variants.{One, Two}
 use Rattle.session.specs.declared.State.{State}
-use Rattle.state_words.specs.SessionWords.{bits, flag, stateWords, putFrom, savedState, objectiveWords, progressWords, orderWords, at, pairAt, additiveAt, parametersAt, progressAt, orderAt}
-use Rattle.state_words.specs.SessionWords.{stateAt, withBoth, withSearch, withSearches, loadedState}
+use Rattle.state_words.specs.SessionWords.{stateSize, bits, flag, stateWords, putFrom, savedState, objectiveWords, progressWords, orderWords, searchWords, at, pairAt}
+use Rattle.state_words.specs.SessionWords.{additiveAt, parametersAt, progressAt, orderAt, stateAt, loadedSearch, withSearch, loadedState}
+use Rattle.state_words.proofs.Paths.{upTo18, eighteen}
 
 -- ---- where the words go
 shift : (i : ℕ) (l : List ℕ) (x : ℕ) (w : List ℕ) → putFrom (suc i) l (x ∷ w) ≡ x ∷ putFrom i l w
@@ -47,11 +49,16 @@ first [] w h = refl
 first (x ∷ l) [] h = absurd (not-suc-le-zero h)
 first (x ∷ l) (y ∷ w) h = shift 0 l x w ∙ ap (λ (r : List ℕ). x ∷ r) (first l w (le-of-suc-le-suc h))
 
-state-length : (s : State) → length (stateWords s) ≡ 63
-unfolding stateWords objectiveWords progressWords orderWords one.saved one.wordsOf two.saved two.wordsOf
-state-length s = refl
+search-length : (x : SubjectSearch) → length (searchWords x) ≡ 26
+unfolding searchWords one.saved one.wordsOf two.saved two.wordsOf
+search-length (One x) = refl
+search-length (Two x) = refl
 
-pub saved-first : (s : State) (w : List ℕ) → 63 ≤ length w → savedState s w ≡ stateWords s ++ drop 63 w
+state-length : (s : State) → length (stateWords s) ≡ stateSize
+unfolding stateWords
+state-length s = omega (arith, length-append (upTo18 s) (searchWords (s .progress .search)), eighteen s, search-length (s .progress .search))
+
+pub saved-first : (s : State) (w : List ℕ) → stateSize ≤ length w → savedState s w ≡ stateWords s ++ drop stateSize w
 unfolding savedState
 saved-first s w h =
     first (stateWords s) w (omega (arith, h, state-length s)) ∙ ap (λ (n : ℕ). stateWords s ++ drop n w) (state-length s)
@@ -109,9 +116,9 @@ unfolding one.fallWord pick
 fall-low true = refl
 fall-low false = refl
 
-search-of : (x : Search) → FitsSearch x → one.searchOf (one.saved x) ≡ x
+search-of : (x : Search) (rest : List ℕ) → FitsSearch x → one.searchOf (one.saved x ++ rest) ≡ x
 unfolding one.searchOf one.conditionalAt one.saved one.wordsOf
-search-of x f =
+search-of x rest f =
     let s = stage-back (x .stage) in
     let i = float-back _ (f .first) in
     let a = point-back _ (f .latest) in
@@ -121,14 +128,14 @@ search-of x f =
     let m = point-back _ (f .best) in
     λ d. record { stage = s d; count = x .count; first = i d; latest = a d; fall = b d; left = l d; right = r d; best = m d }
 
-pub search-back : (x : Search) → FitsSearch x → one.loaded (one.saved x) ≡ given x
+search-back : (x : Search) (rest : List ℕ) → FitsSearch x → one.loaded (one.saved x ++ rest) ≡ given x
 unfolding one.loaded one.saved one.wordsOf
-search-back x f =
+search-back x rest f =
     sym
     (no _ (stage-low (x .stage))
     (no _ (le-ltb _ _ (f .count))
     (no _ (fall-low (x .fall))
-    (ap {B = Answer Search} (λ (y : Search). given y) (sym (search-of x f))))))
+    (ap {B = Answer Search} (λ (y : Search). given y) (sym (search-of x rest f))))))
 
 -- ---- a search with two effects
 pub record FitsPair (p : Pair) : Type 0 where
@@ -203,9 +210,9 @@ stage2-back Trial = refl
 stage2-back Found = refl
 stage2-back (Halted n) = halted-back n (4 + n) refl
 
-search2-of : (x : Search2) → FitsSearch2 x → two.searchOf (two.saved x) ≡ x
+search2-of : (x : Search2) (rest : List ℕ) → FitsSearch2 x → two.searchOf (two.saved x ++ rest) ≡ x
 unfolding two.searchOf two.conditionalAt two.pairAt two.saved two.wordsOf
-search2-of x f =
+search2-of x rest f =
     let s = stage2-back (x .stage) in
     let c = point2-back _ (f .current) in
     let t = pair-back _ (f .trial) in
@@ -213,15 +220,15 @@ search2-of x f =
     let b = point2-back _ (f .best) in
     λ d. record { stage = s d; seed = x .seed; round = x .round; reduction = x .reduction; current = c d; trial = t d; decrease = e d; best = b d }
 
-pub search2-back : (x : Search2) → FitsSearch2 x → two.loaded (two.saved x) ≡ given x
+search2-back : (x : Search2) (rest : List ℕ) → FitsSearch2 x → two.loaded (two.saved x ++ rest) ≡ given x
 unfolding two.loaded two.saved two.wordsOf
-search2-back x f =
+search2-back x rest f =
     sym
     (no _ (le-ltb _ _ (f .stage))
     (no _ (le-ltb _ _ (f .seed))
     (no _ (le-ltb _ _ (f .round))
     (no _ (le-ltb _ _ (f .reduction))
-    (ap {B = Answer Search2} (λ (y : Search2). given y) (sym (search2-of x f)))))))
+    (ap {B = Answer Search2} (λ (y : Search2). given y) (sym (search2-of x rest f)))))))
 
 -- ---- a state
 unfoldable pub FitsAdditive : AdditiveSd → Type 0
@@ -236,8 +243,8 @@ pub record FitsState (s : State) : Type 0 where
   pub warm : FitsPair (s .progress .warm)
   pub ofv : Fits (s .progress .ofv)
   pub squares : Fits (s .progress .«eta_squares»)
-  pub one : FitsSearch (s .progress .search)
-  pub two : FitsSearch2 (s .progress .«search_2d»)
+  pub one : FitsSearch (oneOf (s .progress .search))
+  pub two : FitsSearch2 (twoOf (s .progress .search))
 
 additive-back : (a : AdditiveSd) → FitsAdditive a → pick (eqb (hasAdditive a) 1) (Override (word (additiveWord a))) Own ≡ a
 unfolding pick FitsAdditive
@@ -270,18 +277,17 @@ module _ (s : State) (rest : List ℕ) where
   unfolding stateWords objectiveWords
   fourth = refl
 
-  one-words : wordsFrom 20 words 18 ≡ one.saved (s .progress .search)
-  unfolding wordsFrom stateWords objectiveWords progressWords orderWords one.saved one.wordsOf
-  one-words = refl
+  -- the search, at its place behind the other words
+  subject-back : (x : SubjectSearch) → FitsSearch (oneOf x) → FitsSearch2 (twoOf x)
+      → let w = upTo18 s ++ searchWords x ++ rest in loadedSearch (at w 18) (drop 19 w) ≡ given x
+  unfolding loadedSearch objectiveWords progressWords orderWords searchWords one.saved one.wordsOf two.saved two.wordsOf pick through
+  subject-back (One x) f g = ap (through One) (search-back x (0 ∷ 0 ∷ 0 ∷ 0 ∷ 0 ∷ rest) f)
+  subject-back (Two x) f g = ap (through Two) (search2-back x rest g)
 
-  two-words : wordsFrom 25 words 38 ≡ two.saved (s .progress .«search_2d»)
-  unfolding wordsFrom stateWords objectiveWords progressWords orderWords one.saved one.wordsOf two.saved two.wordsOf
-  two-words = refl
-
-  long : 63 ≤ length words
+  long : stateSize ≤ length words
   long = omega (arith, length-append (stateWords s) rest, state-length s)
 
-  state-of : FitsState s → stateAt words (s .progress .search) (s .progress .«search_2d») ≡ s
+  state-of : FitsState s → stateAt words (s .progress .search) ≡ s
   unfolding stateAt parametersAt progressAt orderAt pairAt additiveAt stateWords objectiveWords progressWords orderWords
   state-of f =
       let t = pair-back _ (f .theta) in
@@ -303,19 +309,15 @@ module _ (s : State) (rest : List ℕ) where
               first = s .progress .first;
               warm = w d;
               search = s .progress .search;
-              «search_2d» = s .progress .«search_2d»;
               ofv = v d;
               «eta_squares» = q d;
             };
         order = s .order;
       }
 
-  searched : FitsState s → withSearches words (one.loaded (wordsFrom 20 words 18)) ≡ given s
-  unfolding withSearches withSearch withBoth
-  searched f =
-      ap (λ (x : Answer Search). withSearches words x) (ap one.loaded one-words ∙ search-back _ (f .one))
-      ∙ ap (λ (x : Answer Search2). withBoth words (s .progress .search) x) (ap two.loaded two-words ∙ search2-back _ (f .two))
-      ∙ ap {B = Answer State} (λ (x : State). given x) (state-of f)
+  searched : FitsState s → withSearch words ≡ given s
+  unfolding withSearch stateWords through
+  searched f = ap (through (stateAt words)) (subject-back (s .progress .search) (f .one) (f .two)) ∙ ap {B = Answer State} (λ (x : State). given x) (state-of f)
 
   words-back : FitsState s → loadedState words ≡ given s
   unfolding loadedState
@@ -326,5 +328,5 @@ module _ (s : State) (rest : List ℕ) where
       (no _ (ap (ltb 1) fourth ∙ additive-low (s .parameters .«additive_sd»))
       (sym (searched f)))))
 
-pub back : (s : State) (w : List ℕ) → 63 ≤ length w → FitsState s → loadedState (savedState s w) ≡ given s
-back s w h f = ap loadedState (saved-first s w h) ∙ words-back s (drop 63 w) f
+pub back : (s : State) (w : List ℕ) → stateSize ≤ length w → FitsState s → loadedState (savedState s w) ≡ given s
+back s w h f = ap loadedState (saved-first s w h) ∙ words-back s (drop stateSize w) f

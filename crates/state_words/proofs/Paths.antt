@@ -2,11 +2,14 @@
 use mathlib.Core.Path.{_≡_, refl, sym, ap, _∙_}
 use mathlib.Core.Bool.{Bool}
 use mathlib.Core.List.{List, [], _∷_, _++_}
-use Prim.Native.Nat.{ℕ, zero, suc, _+_, _≤_, _<_}
+use Prim.Native.Nat.{ℕ, zero, suc, _+_, _-_, _≤_, _<_}
 use native.Mathlib.Nat.{not-suc-le-zero, le-of-suc-le-suc, add-zero}
 use native.Mathlib.Omega.{arith}
-use lib.ListN.{getD, set, length, drop, drop-of-length-le}
-use Rattle.float64.specs.Answer.{Answer, given, refused}
+use borrow.Author.Tests.{eq-eqb, ne-eqb}
+use lib.ListN.{getD, set, length, length-drop, take, drop, drop-of-length-le}
+use lib.Seq.{take-all}
+use Rattle.float64.specs.Answer.{Answer, given, refused, through}
+use Rattle.float64.specs.Pick.{yes, no}
 use Rattle.mode.specs.declared.population_focei.Search.{Search}
 use Rattle.mode_2d.specs.declared.population_focei_2d.Search2.{Search2}
 use Rattle.state_words.specs.SearchWords as one
@@ -15,44 +18,62 @@ use Rattle.state_words.specs.declared.one_effect.Loaded.the-variants as 
 use Rattle.state_words.specs.SearchWords2 as two
 use Rattle.state_words.specs.declared.two_effects.Loaded2.{Loaded2}
 use Rattle.state_words.specs.declared.two_effects.Loaded2.the-variants as Loads2
-use Rattle.cache.specs.Kept.{wordsFrom}
 use Rattle.cache.specs.declared.CacheOrder.{CacheOrder}
 use Rattle.subject.specs.declared.AdditiveSd.{AdditiveSd}
 use Rattle.subject.specs.declared.AdditiveSd.the-variants.{Own, Override}
 use Rattle.setup.specs.declared.Parameters.{Parameters}
 use Rattle.search.specs.Subjects.{hasAdditive, additiveWord}
-use Rattle.search.specs.declared.Progress.{Progress}
+use Rattle.search.specs.declared.SubjectSearch.{SubjectSearch}
+use Rattle.search.specs.declared.SubjectSearch.the-variants.{One, Two}
 use Rattle.session.specs.declared.State.{State}
 use Rattle.state_words.specs.declared.LoadedState.{LoadedState}
 use Rattle.state_words.specs.declared.LoadedState.the-variants.{Given, None}
-use Rattle.state_words.specs.SessionWords.{bits, flag, stateAt, withBoth, withSearch, withSearches, answer, objectiveWords, progressWords, orderWords, stateWords, putFrom, savedState}
+use Rattle.state_words.specs.SessionWords.{at, bits, flag, stateAt, loadedSearch, withSearch, answer, objectiveWords, progressWords, orderWords, searchWords, stateWords, putFrom}
+use Rattle.state_words.specs.SessionWords.{savedState}
 
--- ---- load: what the words of a search came to
-module _ (words : List ℕ) (search : Search) {r : Loaded2} {ws : List ℕ} (e : ws ≡ wordsFrom 25 words 38) (a : two.answer r ≡ two.loaded ws) where
-  pub both-given : (search2 : Search2) {s : State} → r ≡ Loads2.Given search2 → s ≡ stateAt words search search2 → answer (Given s) ≡ withSearch words search
-  unfolding answer withSearch withBoth two.answer
-  both-given search2 q p =
-      let g : given search2 ≡ two.loaded (wordsFrom 25 words 38) = ap two.answer (sym q) ∙ a ∙ ap two.loaded e in
-      ap {B = Answer State} (λ (x : State). given x) p ∙ ap (λ (x : Answer Search2). withBoth words search x) g
+-- ---- load: r is what the words of the search came to
+module _ (words : List ℕ) where
+  pub no-search : (at words 18 ≡ 1 → ⊥) → (at words 18 ≡ 2 → ⊥) → answer None ≡ withSearch words
+  unfolding answer through withSearch loadedSearch
+  no-search n m =
+      let q : refused 19 ≡ loadedSearch (at words 18) (drop 19 words) = no _ (ne-eqb _ _ n) (no _ (ne-eqb _ _ m) refl) in
+      ap (through (stateAt words)) q
 
-  pub both-none : r ≡ Loads2.None → answer None ≡ withSearch words search
-  unfolding answer withSearch withBoth two.answer
-  both-none q =
-      let g : refused 19 ≡ two.loaded (wordsFrom 25 words 38) = ap two.answer (sym q) ∙ a ∙ ap two.loaded e in
-      ap (λ (x : Answer Search2). withBoth words search x) g
+  -- the words from 19 on, as they are lent
+  abbrev lent : List ℕ
+  lent = take (length words - 19) (drop 19 words)
 
-module _ (words : List ℕ) {r : Loaded} {ws : List ℕ} (e : ws ≡ wordsFrom 20 words 18) (a : one.answer r ≡ one.loaded ws) where
-  pub one-given : (search : Search) {z : Answer State} → r ≡ Loads.Given search → z ≡ withSearch words search → z ≡ withSearches words (one.loaded (wordsFrom 20 words 18))
-  unfolding withSearches one.answer
-  one-given search q p =
-      let g : given search ≡ one.loaded (wordsFrom 20 words 18) = ap one.answer (sym q) ∙ a ∙ ap one.loaded e in
-      p ∙ ap (λ (x : Answer Search). withSearches words x) g
+  searched : {x : Answer SubjectSearch} {z : Answer State} → x ≡ loadedSearch (at words 18) lent → z ≡ through (stateAt words) x → z ≡ withSearch words
+  unfolding withSearch
+  searched p q =
+      let all = take-all (length words - 19) (drop 19 words) (omega (arith, length-drop 19 words)) in
+      q ∙ ap (through (stateAt words)) (p ∙ ap (loadedSearch (at words 18)) all)
 
-  pub one-none : r ≡ Loads.None → answer None ≡ withSearches words (one.loaded (wordsFrom 20 words 18))
-  unfolding answer withSearches one.answer
-  one-none q =
-      let g : refused 19 ≡ one.loaded (wordsFrom 20 words 18) = ap one.answer (sym q) ∙ a ∙ ap one.loaded e in
-      ap (λ (x : Answer Search). withSearches words x) g
+  module _ {r : Loaded} (h : at words 18 ≡ 1) (a : one.answer r ≡ one.loaded lent) where
+    as-one : {v : Loaded} → r ≡ v → through One (one.answer v) ≡ loadedSearch (at words 18) lent
+    unfolding loadedSearch
+    as-one t = yes _ (eq-eqb _ _ h) (ap (through One) (ap one.answer (sym t) ∙ a))
+
+    pub one-given : {x : Search} {s : State} → r ≡ Loads.Given x → s ≡ stateAt words (One x) → answer (Given s) ≡ withSearch words
+    unfolding answer through one.answer
+    one-given t p = searched (as-one t) (ap {B = Answer State} (λ (s : State). given s) p)
+
+    pub one-none : r ≡ Loads.None → answer None ≡ withSearch words
+    unfolding answer through one.answer
+    one-none t = searched (as-one t) refl
+
+  module _ {r : Loaded2} (n : at words 18 ≡ 1 → ⊥) (h : at words 18 ≡ 2) (a : two.answer r ≡ two.loaded lent) where
+    as-two : {v : Loaded2} → r ≡ v → through Two (two.answer v) ≡ loadedSearch (at words 18) lent
+    unfolding loadedSearch
+    as-two t = no _ (ne-eqb _ _ n) (yes _ (eq-eqb _ _ h) (ap (through Two) (ap two.answer (sym t) ∙ a)))
+
+    pub two-given : {x : Search2} {s : State} → r ≡ Loads2.Given x → s ≡ stateAt words (Two x) → answer (Given s) ≡ withSearch words
+    unfolding answer through two.answer
+    two-given t p = searched (as-two t) (ap {B = Answer State} (λ (s : State). given s) p)
+
+    pub two-none : r ≡ Loads2.None → answer None ≡ withSearch words
+    unfolding answer through two.answer
+    two-none t = searched (as-two t) refl
 
 -- ---- the words before the progress's own, with no override and with one
 module _ (awaits : Bool) (p : Parameters) {f t u o : ℕ} (ef : f ≡ flag awaits) (et : t ≡ bits (p .theta .first)) (eu : u ≡ bits (p .theta .second)) (eo : o ≡ bits (p .omega)) where
@@ -98,17 +119,14 @@ then n a b w e = let z : 0 + length a ≡ n = omega (arith, e) in put-append 0 a
 
 -- the words up to each part, as many as stand before it
 module _ (s : State) where
-  abbrev upTo6 : List ℕ
+  abbrev pub upTo6 : List ℕ
   upTo6 = objectiveWords (s .progress .awaits) (s .parameters)
 
-  abbrev upTo14 : List ℕ
+  abbrev pub upTo14 : List ℕ
   upTo14 = upTo6 ++ progressWords (s .progress)
 
-  abbrev upTo18 : List ℕ
+  abbrev pub upTo18 : List ℕ
   upTo18 = upTo14 ++ orderWords (s .order)
-
-  abbrev upTo38 : List ℕ
-  upTo38 = upTo18 ++ one.saved (s .progress .search)
 
   six : length upTo6 ≡ 6
   unfolding objectiveWords
@@ -118,39 +136,43 @@ module _ (s : State) where
   unfolding objectiveWords progressWords
   fourteen = refl
 
-  eighteen : length upTo18 ≡ 18
+  pub eighteen : length upTo18 ≡ 18
   unfolding objectiveWords progressWords orderWords
   eighteen = refl
 
-  thirty-eight : length upTo38 ≡ 38
-  unfolding objectiveWords progressWords orderWords one.saved one.wordsOf
-  thirty-eight = refl
-
   whole :
       (w : List ℕ) → savedState s w
-      ≡ putFrom 38 (two.saved (s .progress .«search_2d»))
-      (putFrom 18 (one.saved (s .progress .search))
+      ≡ putFrom 18 (searchWords (s .progress .search))
       (putFrom 14 (orderWords (s .order))
       (putFrom 6 (progressWords (s .progress))
-      (putFrom 0 upTo6 w))))
+      (putFrom 0 upTo6 w)))
   unfolding savedState stateWords
   whole w =
-      then 38 upTo38 (two.saved (s .progress .«search_2d»)) w thirty-eight
-      ∙ ap (λ (l : List ℕ). putFrom 38 (two.saved (s .progress .«search_2d»)) l)
-      (then 18 upTo18 (one.saved (s .progress .search)) w eighteen
-      ∙ ap (λ (l : List ℕ). putFrom 18 (one.saved (s .progress .search)) l)
+      then 18 upTo18 (searchWords (s .progress .search)) w eighteen
+      ∙ ap (λ (l : List ℕ). putFrom 18 (searchWords (s .progress .search)) l)
       (then 14 upTo14 (orderWords (s .order)) w fourteen
-      ∙ ap (λ (l : List ℕ). putFrom 14 (orderWords (s .order)) l) (then 6 upTo6 (progressWords (s .progress)) w six)))
+      ∙ ap (λ (l : List ℕ). putFrom 14 (orderWords (s .order)) l) (then 6 upTo6 (progressWords (s .progress)) w six))
 
 pub saved-all :
-    (s : State) (w : List ℕ) {o p r x y w1 w2 w3 w4 w5 : List ℕ} →
+    (s : State) (w : List ℕ) {o p r w1 w2 w3 w4 : List ℕ} →
     o ≡ objectiveWords (s .progress .awaits) (s .parameters) → p ≡ progressWords (s .progress) → r ≡ orderWords (s .order) →
-    x ≡ one.saved (s .progress .search) → y ≡ two.saved (s .progress .«search_2d») →
-    w1 ≡ putFrom 0 o w → w2 ≡ putFrom 6 p w1 → w3 ≡ putFrom 14 r w2 → w4 ≡ putFrom 18 x w3 → w5 ≡ putFrom 38 y w4 →
-    w5 ≡ savedState s w
-saved-all s w eo ep er ex ey e1 e2 e3 e4 e5 =
+    w1 ≡ putFrom 0 o w → w2 ≡ putFrom 6 p w1 → w3 ≡ putFrom 14 r w2 → w4 ≡ putFrom 18 (searchWords (s .progress .search)) w3 →
+    w4 ≡ savedState s w
+saved-all s w eo ep er e1 e2 e3 e4 =
     let f1 = e1 ∙ (λ d. putFrom 0 (eo d) w) in
     let f2 = e2 ∙ (λ d. putFrom 6 (ep d) (f1 d)) in
     let f3 = e3 ∙ (λ d. putFrom 14 (er d) (f2 d)) in
-    let f4 = e4 ∙ (λ d. putFrom 18 (ex d) (f3 d)) in
-    e5 ∙ (λ d. putFrom 38 (ey d) (f4 d)) ∙ sym (whole s w)
+    e4 ∙ ap (putFrom 18 (searchWords (s .progress .search))) f3 ∙ sym (whole s w)
+
+-- the search's own: y is what it was saved as
+module _ {x : SubjectSearch} (w : List ℕ) {y w1 w2 : List ℕ} where
+  pub one-put : {z : Search} {w3 : List ℕ} → x ≡ One z → y ≡ one.saved z → w1 ≡ set w 18 1 → w2 ≡ putFrom 19 y w1 → w3 ≡ putFrom 39 (0 ∷ 0 ∷ 0 ∷ 0 ∷ 0 ∷ []) w2 → w3 ≡ putFrom 18 (searchWords x) w
+  unfolding searchWords putFrom one.saved one.wordsOf
+  one-put {z} t ey e1 e2 e3 =
+      e3 ∙ ap (putFrom 39 (0 ∷ 0 ∷ 0 ∷ 0 ∷ 0 ∷ [])) (e2 ∙ (λ d. putFrom 19 (ey d) (e1 d)))
+      ∙ sym (put-append 19 (one.saved z) (0 ∷ 0 ∷ 0 ∷ 0 ∷ 0 ∷ []) (set w 18 1))
+      ∙ ap (λ (s : SubjectSearch). putFrom 18 (searchWords s) w) (sym t)
+
+  pub two-put : {z : Search2} → x ≡ Two z → y ≡ two.saved z → w1 ≡ set w 18 2 → w2 ≡ putFrom 19 y w1 → w2 ≡ putFrom 18 (searchWords x) w
+  unfolding searchWords putFrom
+  two-put t ey e1 e2 = e2 ∙ (λ d. putFrom 19 (ey d) (e1 d)) ∙ ap (λ (s : SubjectSearch). putFrom 18 (searchWords s) w) (sym t)

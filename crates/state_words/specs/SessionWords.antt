@@ -1,30 +1,32 @@
--- A session's state as 63 words: the words of a state, and the state of some words, or 19 where they are none.
+-- A session's state as `stateSize` words: the words of a state, and the state of some words, or 19 where they are none.
 use mathlib.Core.Bool.{Bool, true, false}
 use mathlib.Core.List.{List, [], _∷_, _++_}
 use Prim.Native.Nat.{ℕ, zero, suc, _+_}
 use lib.Dec.{ltb, eqb}
-use lib.ListN.{getD, set, length}
+use lib.ListN.{getD, set, length, drop}
 use lib.Ieee.{Float, binary64, toBits}
 use Rattle.float64.specs.Arithmetic.{word}
 use Rattle.float64.specs.Pick.{pick}
-use Rattle.float64.specs.Answer.{Answer, given, refused}
+use Rattle.float64.specs.Answer.{Answer, given, refused, through}
 use Rattle.matrix.specs.declared.Pair.{Pair}
-use Rattle.mode.specs.declared.population_focei.Search.{Search}
-use Rattle.mode_2d.specs.declared.population_focei_2d.Search2.{Search2}
-use Rattle.state_words.specs.SearchWords.{saved, loaded}
+use Rattle.state_words.specs.SearchWords as one
 use Rattle.state_words.specs.SearchWords2 as two
-use Rattle.cache.specs.Kept.{wordsFrom}
 use Rattle.cache.specs.declared.CacheOrder.{CacheOrder}
 use Rattle.subject.specs.declared.AdditiveSd.{AdditiveSd}
 use Rattle.subject.specs.declared.AdditiveSd.the-variants.{Own, Override}
 use Rattle.setup.specs.declared.Parameters.{Parameters}
 use Rattle.search.specs.Subjects.{hasAdditive, additiveWord}
 use Rattle.search.specs.declared.Progress.{Progress}
+use Rattle.search.specs.declared.SubjectSearch.{SubjectSearch}
+use Rattle.search.specs.declared.SubjectSearch.the-variants.{One, Two}
 use Rattle.session.specs.declared.State.{State}
 use Rattle.state_words.specs.declared.LoadedState.{LoadedState}
 use Rattle.state_words.specs.declared.LoadedState.the-variants.{Given, None}
 
--- ---- the state of 63 words
+abbrev pub stateSize : ℕ
+stateSize = 44
+
+-- ---- the state of some words
 abbrev pub at : List ℕ → ℕ → ℕ
 at words i = getD words i 0
 
@@ -38,8 +40,8 @@ additiveAt words = pick (eqb (at words 4) 1) (Override (word (at words 5))) Own
 unfoldable pub parametersAt : List ℕ → Parameters
 parametersAt words = record { theta = pairAt words 1; omega = word (at words 3); «additive_sd» = additiveAt words }
 
-unfoldable pub progressAt : List ℕ → Search → Search2 → Progress
-progressAt words search search2 =
+unfoldable pub progressAt : List ℕ → SubjectSearch → Progress
+progressAt words search =
     record {
       awaits = eqb (at words 0) 1;
       individual = pairAt words 6;
@@ -47,7 +49,6 @@ progressAt words search search2 =
       first = at words 9;
       warm = pairAt words 10;
       search = search;
-      «search_2d» = search2;
       ofv = word (at words 12);
       «eta_squares» = word (at words 13);
     }
@@ -55,32 +56,23 @@ progressAt words search search2 =
 unfoldable pub orderAt : List ℕ → CacheOrder
 orderAt words = record { oldest = at words 14; next = at words 15; «first_row» = at words 16; «next_row» = at words 17 }
 
-unfoldable pub stateAt : List ℕ → Search → Search2 → State
-stateAt words search search2 = record { parameters = parametersAt words; progress = progressAt words search search2; order = orderAt words }
+unfoldable pub stateAt : List ℕ → SubjectSearch → State
+stateAt words search = record { parameters = parametersAt words; progress = progressAt words search; order = orderAt words }
 
--- n words from word i on that are all 0: those of a search that has asked nothing
-unfoldable pub isZero : ℕ → List ℕ → ℕ → Bool
-isZero zero words i = true
-isZero (suc n) words i = pick (eqb (at words i) 0) (isZero n words (i + 1)) false
+-- the search with so many effects that some words stand for
+unfoldable pub loadedSearch : ℕ → List ℕ → Answer SubjectSearch
+loadedSearch effects words =
+    pick (eqb effects 1) (through One (one.loaded words)) (pick (eqb effects 2) (through Two (two.loaded words)) (refused 19))
 
--- with both searches, where they are some
-unfoldable pub withBoth : List ℕ → Search → Answer Search2 → Answer State
-withBoth words search (given search2) = given (stateAt words search search2)
-withBoth words search (refused number) = refused number
-
-unfoldable pub withSearch : List ℕ → Search → Answer State
-withSearch words search = withBoth words search (two.loaded (wordsFrom 25 words 38))
-
-unfoldable pub withSearches : List ℕ → Answer Search → Answer State
-withSearches words (given search) = withSearch words search
-withSearches words (refused number) = refused number
+unfoldable pub withSearch : List ℕ → Answer State
+withSearch words = through (stateAt words) (loadedSearch (at words 18) (drop 19 words))
 
 unfoldable pub loadedState : List ℕ → Answer State
 loadedState words =
-    pick (ltb (length words) 63) (refused 19)
+    pick (ltb (length words) stateSize) (refused 19)
     (pick (ltb 1 (at words 0)) (refused 19)
     (pick (ltb 1 (at words 4)) (refused 19)
-    (withSearches words (loaded (wordsFrom 20 words 18)))))
+    (withSearch words)))
 
 -- what the code's answer says
 unfoldable pub answer : LoadedState → Answer State
@@ -108,11 +100,16 @@ progressWords p =
 unfoldable pub orderWords : CacheOrder → List ℕ
 orderWords o = o .oldest ∷ o .next ∷ o .«first_row» ∷ o .«next_row» ∷ []
 
--- all 63
+-- how many effects the search has, and its words; with one effect there are five less of them, and then five zeros
+unfoldable pub searchWords : SubjectSearch → List ℕ
+searchWords (One x) = 1 ∷ one.saved x ++ (0 ∷ 0 ∷ 0 ∷ 0 ∷ 0 ∷ [])
+searchWords (Two x) = 2 ∷ two.saved x
+
+-- all of them
 unfoldable pub stateWords : State → List ℕ
 stateWords s =
     objectiveWords (s .progress .awaits) (s .parameters) ++ progressWords (s .progress) ++ orderWords (s .order)
-    ++ saved (s .progress .search) ++ two.saved (s .progress .«search_2d»)
+    ++ searchWords (s .progress .search)
 
 -- some words with the values from word i on, and nothing beyond their end
 unfoldable pub putFrom : ℕ → List ℕ → List ℕ → List ℕ

@@ -1,8 +1,10 @@
 // A search with one effect as twenty words, for a host that keeps it: its stage (0 grid, 1 warm, 2 secant, 3
 // halving), count, first, latest, fall (0 or 1), left, right and best. A float is its word, and a point the
-// words of its eta, nll, score and information. Each public function is defined for all words and searches.
+// words of its eta, nll, score and information. `save` is defined for all searches, and `load` for all words,
+// where there are twenty or more.
 ghost use mathlib.Core.Path.{_≡_};
-ghost use Prim.Native.Nat.{_<_};
+ghost use Prim.Native.Nat.{_+_, _≤_, _<_};
+ghost use lib.ListN.{length};
 ghost use Rattle.state_words.specs.SearchWords.{conditionalAt, wordsOf, stageOf, stageWord, fallWord, loaded, saved, answer};
 use mode::population_focei::Conditional;
 use mode::population_focei::Search;
@@ -50,9 +52,9 @@ fn fall_word(fall: bool) -> u64
 }
 
 // The point of the four words from i on.
-fn conditional_at(words: [u64; 20], i: usize) -> Conditional
-    requires { ⌜ i < 17 ⌝ }
-    ensures { λ r. ⌜ r ≡ conditionalAt words i ⌝ }
+fn conditional_at(words: &[u64], i: usize) -> Conditional
+    requires { ⌜ i + 3 < length (now words) ⌝ }
+    ensures { λ r. ⌜ r ≡ conditionalAt (now (words .entry)) i ⌝ }
 {
     Conditional {
         eta: float64::from_word(words[i]),
@@ -75,8 +77,9 @@ fn words_of(c: Conditional) -> [u64; 4]
 
 // The search that twenty words stand for. They are no search where the stage is above 3, the count does not
 // fit in a u32, or the fall is above 1.
-pub fn load(words: [u64; 20]) -> Loaded
-    ensures { λ r. ⌜ answer r ≡ loaded words ⌝ }
+pub fn load(words: &[u64]) -> Loaded
+    requires { ⌜ 20 ≤ length (now words) ⌝ }
+    ensures { λ r. ⌜ answer r ≡ loaded (now (words .entry)) ⌝ }
 {
     if words[0] > 3 {
         return Loaded::None;

@@ -1,9 +1,11 @@
 // A search with two effects as twenty-five words, for a host that keeps it: its stage (0 zero, 1 start, 2
 // trial, 3 found, and of a search that was refused 4 more than the number), seed, round, reduction, current,
 // trial, decrease and best. A float is its word, and a point the words of its eta, nll, score and
-// information. Each public function is defined for all words and searches.
+// information. `save` is defined for all searches, and `load` for all words, where there are twenty-five or
+// more.
 ghost use mathlib.Core.Path.{_≡_};
-ghost use Prim.Native.Nat.{_<_};
+ghost use Prim.Native.Nat.{_+_, _≤_, _<_};
+ghost use lib.ListN.{length};
 ghost use Rattle.state_words.specs.SearchWords2.{pairAt, conditionalAt, wordsOf, stageOf, stageWord, loaded, saved, answer};
 use matrix::Pair;
 use mode_2d::population_focei_2d::Conditional2;
@@ -48,9 +50,9 @@ fn stage_word(stage: Stage2) -> u64
 }
 
 // The pair of the two words from i on.
-fn pair_at(words: [u64; 25], i: usize) -> Pair
-    requires { ⌜ i < 24 ⌝ }
-    ensures { λ r. ⌜ r ≡ pairAt words i ⌝ }
+fn pair_at(words: &[u64], i: usize) -> Pair
+    requires { ⌜ i + 1 < length (now words) ⌝ }
+    ensures { λ r. ⌜ r ≡ pairAt (now (words .entry)) i ⌝ }
 {
     Pair {
         first: float64::from_word(words[i]),
@@ -59,9 +61,9 @@ fn pair_at(words: [u64; 25], i: usize) -> Pair
 }
 
 // The point of the nine words from i on.
-fn conditional_at(words: [u64; 25], i: usize) -> Conditional2
-    requires { ⌜ i < 17 ⌝ }
-    ensures { λ r. ⌜ r ≡ conditionalAt words i ⌝ }
+fn conditional_at(words: &[u64], i: usize) -> Conditional2
+    requires { ⌜ i + 8 < length (now words) ⌝ }
+    ensures { λ r. ⌜ r ≡ conditionalAt (now (words .entry)) i ⌝ }
 {
     let eta = pair_at(words, i);
     let score = pair_at(words, i + 3);
@@ -94,8 +96,9 @@ fn words_of(c: Conditional2) -> [u64; 9]
 
 // The search that twenty-five words stand for. They are no search where the refusal's number, the seed, the
 // round or the reduction does not fit in a u32.
-pub fn load(words: [u64; 25]) -> Loaded2
-    ensures { λ r. ⌜ answer r ≡ loaded words ⌝ }
+pub fn load(words: &[u64]) -> Loaded2
+    requires { ⌜ 25 ≤ length (now words) ⌝ }
+    ensures { λ r. ⌜ answer r ≡ loaded (now (words .entry)) ⌝ }
 {
     if words[0] > 4294967299 {
         return Loaded2::None;

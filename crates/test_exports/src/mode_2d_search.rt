@@ -3,7 +3,7 @@
 ghost use mathlib.Core.Path.{_≡_};
 ghost use Rattle.float64.specs.Answer.{numberOf, orOld};
 ghost use Rattle.mode_2d.specs.Rules.{start};
-ghost use Rattle.state_words.specs.SearchWords2.{saved};
+ghost use Rattle.state_words.specs.SearchWords2.{saved, loaded, answer};
 ghost use Rattle.test_exports.specs.Mode2d.{settingsOf, pointOf, requested, advanced, requestNumber, pointOr};
 use matrix::Pair;
 use mode_2d::population_focei_2d::Conditional2;
@@ -48,6 +48,12 @@ fn point_of(eta: [f64; 2], nll: f64, score: [f64; 2], information: [[f64; 2]; 2]
     }
 }
 
+fn load(words: [u64; 25]) -> Loaded2
+    ensures { λ r. ⌜ answer r ≡ loaded words ⌝ }
+{
+    state_words::two_effects::load(&words)
+}
+
 // Writes the words of a search with two effects that has not asked for anything.
 #[no_mangle]
 pub extern "C" fn curlewstand_mode_2d_start(search: &mut [u64; 25])
@@ -75,7 +81,7 @@ pub extern "C" fn curlewstand_mode_2d_request(
 {
     let settings = settings_of(eta_bound, *precision, *warm);
     let words = *search;
-    match state_words::two_effects::load(words) {
+    match load(words) {
         Loaded2::Given(x) => match x.request(settings) {
             Request2::Point(p) => {
                 *point = [p.first, p.second];
@@ -112,7 +118,7 @@ pub extern "C" fn curlewstand_mode_2d_advance(
     let settings = settings_of(eta_bound, *precision, *warm);
     let c = point_of(*eta, nll, *score, *information);
     let words = *search;
-    match state_words::two_effects::load(words) {
+    match load(words) {
         Loaded2::Given(x) => {
             let next = state_words::two_effects::save(x.advance(settings, c));
             *search = next;

@@ -3,7 +3,7 @@
 ghost use mathlib.Core.Path.{_≡_};
 ghost use Rattle.float64.specs.Answer.{numberOf, orOld};
 ghost use Rattle.mode.specs.Rules.{etaTolerance, start};
-ghost use Rattle.state_words.specs.SearchWords.{pointOf, saved};
+ghost use Rattle.state_words.specs.SearchWords.{pointOf, saved, loaded, answer};
 ghost use Rattle.test_exports.specs.Mode.{settingsOf, requested, advanced, requestNumber, pointOr};
 use mode::population_focei::Conditional;
 use mode::population_focei::Request;
@@ -17,6 +17,12 @@ pub extern "C" fn curlewstand_eta_tolerance(gradient_tolerance: f64) -> f64
     ensures { λ r. ⌜ r ≡ etaTolerance «gradient_tolerance» ⌝ }
 {
     mode::population_focei::eta_tolerance(gradient_tolerance)
+}
+
+fn load(words: [u64; 20]) -> Loaded
+    ensures { λ r. ⌜ answer r ≡ loaded words ⌝ }
+{
+    state_words::one_effect::load(&words)
 }
 
 // Writes the words of a search that has not asked for anything.
@@ -50,7 +56,7 @@ pub extern "C" fn curlewstand_mode_request(
         warm,
     };
     let words = *search;
-    match state_words::one_effect::load(words) {
+    match load(words) {
         Loaded::Given(x) => match x.request(settings) {
             Request::Point(p) => {
                 *point = p;
@@ -96,7 +102,7 @@ pub extern "C" fn curlewstand_mode_advance(
         information,
     };
     let words = *search;
-    match state_words::one_effect::load(words) {
+    match load(words) {
         Loaded::Given(x) => {
             let next = state_words::one_effect::save(x.advance(settings, c));
             *search = next;

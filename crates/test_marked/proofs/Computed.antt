@@ -14,7 +14,6 @@ use Rattle.mode_2d.specs.Rules as Rules2
 use Rattle.state_words.specs.SearchWords as SearchWords
 use Rattle.state_words.specs.SearchWords2 as SearchWords2
 use Rattle.cache.specs.Cache as Cache
-use Rattle.cache.specs.Kept as Entries
 use Rattle.population.specs.Kept as Kept
 use Rattle.work.specs.Work as Work
 use Rattle.words.specs.Words as Words
@@ -73,7 +72,8 @@ unfolding Admission.isBeyond Admission.countFrom Admission.countObservations Adm
     Admission.isNoShape Admission.isShort Admission.roomy Admission.admitted Admission.checksOf Admission.checks Admission.withParameters Subjects.fitWith Subjects.fitOf Subjects.settings
     Subjects.wanted1 Subjects.wantedBy Subjects.key1 Subjects.keyOf Subjects.termsOf Subjects.conditional1 Subjects.gridSources Subjects.sourcesAt Subjects.sources1 Subjects.withSearch
     Subjects.advance1 Subjects.advanceBy Subjects.idle Subjects.awaiting Subjects.refusedBy Subjects.counted Subjects.askFor Subjects.ask Subjects.isOver Subjects.closed1 Subjects.closedBy
-    Subjects.beginSubject Subjects.finished Subjects.objectiveOf Machine.onward Machine.loop Machine.call Population.rowsOf Population.warmOf Population.warmStored Population.take Population.answered
+    Subjects.firstSearch Subjects.beginSubject Subjects.finished Subjects.objectiveOf
+    Machine.onward Machine.loop Machine.call Population.rowsOf Population.warmOf Population.warmStored Population.take Population.answered
     Population.atPoint Population.nextSubject Population.closing Population.atMode Population.servedBy Population.served Population.isOver Population.turned Population.moved Population.turn
     Population.receive Session.countWithin Session.searchWithin Session.isPlaced Session.isStanding Session.whenAdmitted Session.begun Session.over Session.replied Session.heldBy Session.turnHeld
     Session.admitted Session.enterObjective Session.atWanted Session.whenAwaited Session.answered Session.enterReply Session.enter Calls.opening Calls.openedBy Calls.shrinkage Recorded.observationIn
@@ -111,10 +111,11 @@ hits = computed
 
 -- a host's own words
 unfoldable pub hosts : Computed
-unfolding Entries.wordsFrom SearchWords.wordsOf SearchWords.stageWord SearchWords.fallWord SearchWords.saved SearchWords.stageOf SearchWords.conditionalAt SearchWords.searchOf SearchWords.loaded
+unfolding SearchWords.wordsOf SearchWords.stageWord SearchWords.fallWord SearchWords.saved SearchWords.stageOf SearchWords.conditionalAt SearchWords.searchOf SearchWords.loaded
     SearchWords2.wordsOf SearchWords2.stageWord SearchWords2.saved SearchWords2.stageOf SearchWords2.pairAt SearchWords2.conditionalAt SearchWords2.searchOf SearchWords2.loaded SessionWords.pairAt
-    SessionWords.additiveAt SessionWords.parametersAt SessionWords.progressAt SessionWords.orderAt SessionWords.stateAt SessionWords.withBoth SessionWords.withSearch SessionWords.withSearches
-    SessionWords.loadedState SessionWords.flag SessionWords.objectiveWords SessionWords.progressWords SessionWords.orderWords SessionWords.stateWords SessionWords.putFrom SessionWords.savedState
+    SessionWords.additiveAt SessionWords.parametersAt SessionWords.progressAt SessionWords.orderAt SessionWords.stateAt SessionWords.loadedSearch SessionWords.withSearch
+    SessionWords.loadedState SessionWords.flag SessionWords.objectiveWords SessionWords.progressWords SessionWords.orderWords SessionWords.searchWords SessionWords.stateWords
+    SessionWords.putFrom SessionWords.savedState
     Hosting.placeWords Hosting.answerOf Hosting.answered Hosting.numberOf Hosting.isUnaltered Hosting.told Hosting.openedTo Hosting.opened Hosting.withState Hosting.openWith Hosting.setupOver
     Hosting.callOver Session2.setupWith Session2.parameters Session2.observations Session2.firstValue Session2.steep Session2.seen Session2.opened Session2.after Session2.replies Session2.objectives
     Session2.session Session2.toMode Session2.found Session2.refusedAfter Session2.toBound

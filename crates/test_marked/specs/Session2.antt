@@ -16,6 +16,7 @@ use Rattle.setup.specs.declared.Setup.{Setup}
 use Rattle.setup.specs.declared.Parameters.{Parameters}
 use Rattle.session.specs.Session.{Call, objective, reply, noTally}
 use Rattle.host_calls.specs.Hosting.{Out, setupOver, callOver}
+use Rattle.state_words.specs.SessionWords.{stateSize}
 
 -- ---- what the host gives, but for eta_bound and the simulator
 
@@ -83,10 +84,10 @@ seen p =
 -- ---- the calls
 
 module _ (eta-bound : Float) (simulator : ℕ → ℕ → List ℕ) where
-  -- setup, lent zeros: 63 words for the state, 5 for an answer, 24 K for kept evaluations, 12 work words, 2 warm words, 5 results
+  -- setup, lent zeros: `stateSize` words for the state, 5 for an answer, 24 K for kept evaluations, 12 work words, 2 warm words, 5 results
   unfoldable pub opened : Out
   opened =
-      setupOver (setupWith eta-bound) (1 ∷ []) observations noTally (zeros 63) (zeros 5) (zeros 600) (zeros 12) (zeros 2) (zeros 5)
+      setupOver (setupWith eta-bound) (1 ∷ []) observations noTally (zeros stateSize) (zeros 5) (zeros 600) (zeros 12) (zeros 2) (zeros 5)
 
   -- a call, lent what the one before left
   unfoldable pub after : Out → Call → Out

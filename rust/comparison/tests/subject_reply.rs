@@ -23,6 +23,8 @@ struct Lent {
 
 const SUBJECT: usize = 8;
 const FIRST: usize = 9;
+/// The state's word that says how many effects its search has.
+const EFFECTS: usize = 18;
 
 impl Lent {
     fn open(setup: SessionSetup, cohort: &[Vec<Observation>]) -> Lent {
@@ -32,7 +34,7 @@ impl Lent {
             setup,
             counts: cohort.iter().map(|subject| subject.len() as u64).collect(),
             tally: Tally::default(),
-            state: vec![0; 63],
+            state: vec![0; 44],
             answer: vec![0; 5],
             cache: vec![0; 24 * setup.k],
             work: vec![0; 12 * largest],
@@ -292,6 +294,8 @@ const WRONG: [Wrong; 22] = [
     (|lent, _| lent.state[0] = 2, 19, None),
     (|lent, _| lent.state[SUBJECT] = 3, 19, None),
     (|lent, _| lent.state[FIRST] = 99_999, 19, None),
+    (|lent, _| lent.state[EFFECTS] = 0, 19, None),
+    (|lent, _| lent.state[EFFECTS] = 3, 19, None),
     (
         |lent, _| lent.tally.cached_rows = lent.setup.k + 1,
         19,

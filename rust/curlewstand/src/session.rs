@@ -72,7 +72,7 @@ pub use rows::{Shape, WrongRow, push_row};
 const MOST_ROWS: usize = 100_000;
 /// The words that are lent for each row of K.
 const WORDS_FOR_A_ROW: usize = 24;
-const STATE_WORDS: usize = 63;
+const STATE_WORDS: usize = 44;
 const ANSWER_WORDS: usize = 5;
 /// The state's word that has the objective's omega.
 const OMEGA: usize = 3;

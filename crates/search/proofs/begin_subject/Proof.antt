@@ -6,7 +6,7 @@ use Rattle.search.proofs.begin_subject.Tie as tie
 
 returns : tie.Need-returns
 unfolding beginSubject
-returns c = rw (c .before .start .ensures, c .start2 .ensures)
+returns c = rw (c .first-search .ensures)
 
 pub begin-subject-spec : {M : Type 1} → statement M
-begin-subject-spec = tie.close (tie.spec free free returns)
+begin-subject-spec = tie.close (tie.spec free returns)

@@ -3,9 +3,7 @@ use borrow.Author.Needs.{needs}
 use borrow.Author.Tests.{lt-ltb, le-ltb}
 use mathlib.Core.Path.{refl}
 use Rattle.float64.specs.Pick.{yes, no}
-use Rattle.float64.proofs.Laws.{free}
 use Rattle.state_words.specs.SessionWords.{answer, loadedState}
-use Rattle.state_words.proofs.Paths.{one-given, one-none}
 use Rattle.state_words.proofs.load.Statement.{statement}
 use Rattle.state_words.proofs.load.Tie as tie
 
@@ -29,50 +27,15 @@ returns-3 c =
     let second = c .before .before in
     no _ (le-ltb _ _ (second .before .before .if1 .left)) (no _ (le-ltb _ _ (second .if2 .left)) (yes _ (lt-ltb _ _ (c .if3 .taken)) refl))
 
-search-of-requires : tie.Need-search-of-requires
-search-of-requires c κs = search needs
-
-enum-known-search : tie.Need-enum-known-search
-enum-known-search c = search needs
-
 with-search-requires : tie.Need-with-search-requires
 with-search-requires c κs = search needs
-
-enum-told : tie.Need-enum-told
-enum-told c = search needs
 
 returns-4 : tie.Need-returns-4
 unfolding loadedState
 returns-4 c =
-    let third = c .before .before .before .before .before in
+    let third = c .before in
     let second = third .before .before in
-    no _ (le-ltb _ _ (second .before .before .if1 .left))
-    (no _ (le-ltb _ _ (second .if2 .left))
-    (no _ (le-ltb _ _ (third .if3 .left))
-    (one-given _ refl (c .before .before .before .before .search-of .ensures) _ (c .before .before .search .given .1) (c .with-search .ensures))))
-
-returns-5 : tie.Need-returns-5
-unfolding loadedState
-returns-5 c =
-    let third = c .before .before .before in
-    let second = third .before .before in
-    no _ (le-ltb _ _ (second .before .before .if1 .left))
-    (no _ (le-ltb _ _ (second .if2 .left))
-    (no _ (le-ltb _ _ (third .if3 .left))
-    (one-none _ refl (c .before .before .search-of .ensures) (c .enum-told .given .1))))
+    no _ (le-ltb _ _ (second .before .before .if1 .left)) (no _ (le-ltb _ _ (second .if2 .left)) (no _ (le-ltb _ _ (third .if3 .left)) (c .with-search .ensures)))
 
 pub load-spec : {M : Type 1} → statement M
-load-spec =
-    tie.close
-    (tie.spec
-    returns
-    shared-slice-read-if2
-    returns-2
-    shared-slice-read-if3
-    returns-3
-    search-of-requires
-    enum-known-search
-    with-search-requires
-    enum-told
-    returns-4
-    returns-5)
+load-spec = tie.close (tie.spec returns shared-slice-read-if2 returns-2 shared-slice-read-if3 returns-3 with-search-requires returns-4)

@@ -17,14 +17,14 @@ shared-slice-read-from-word c = search needs
 shared-slice-read-from-word-2 : tie.Need-shared-slice-read-from-word-2
 shared-slice-read-from-word-2 c = search needs
 
-shared-slice-read-t9 : tie.Need-shared-slice-read-t9
-shared-slice-read-t9 c = search needs
+shared-slice-read-t8 : tie.Need-shared-slice-read-t8
+shared-slice-read-t8 c = search needs
 
-shared-slice-read-t14 : tie.Need-shared-slice-read-t14
-shared-slice-read-t14 c = search needs
+shared-slice-read-t13 : tie.Need-shared-slice-read-t13
+shared-slice-read-t13 c = search needs
 
-shared-slice-read-t17 : tie.Need-shared-slice-read-t17
-shared-slice-read-t17 c = search needs
+shared-slice-read-t16 : tie.Need-shared-slice-read-t16
+shared-slice-read-t16 c = search needs
 
 returns : tie.Need-returns
 unfolding progressAt
@@ -46,7 +46,7 @@ progress-at-spec =
     free
     shared-slice-read-from-word-2
     free
-    shared-slice-read-t9
-    shared-slice-read-t14
-    shared-slice-read-t17
+    shared-slice-read-t8
+    shared-slice-read-t13
+    shared-slice-read-t16
     returns)

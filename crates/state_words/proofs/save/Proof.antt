@@ -1,6 +1,5 @@
 -- `save` meets its contract: the parts one after another. Assumes nothing.
 use borrow.Author.Needs.{needs}
-use mathlib.Core.Path.{_∙_}
 use Rattle.float64.proofs.Laws.{free}
 use Rattle.state_words.proofs.Paths.{saved-all}
 use Rattle.state_words.proofs.save.Statement.{statement}
@@ -24,48 +23,24 @@ slice-aggregate-put-from-3 c = search needs
 put-from-requires-3 : tie.Need-put-from-requires-3
 put-from-requires-3 c κs = search needs
 
-slice-aggregate-put-from-4 : tie.Need-slice-aggregate-put-from-4
-slice-aggregate-put-from-4 c = search needs
-
-put-from-requires-4 : tie.Need-put-from-requires-4
-put-from-requires-4 c κs = search needs
-
-slice-aggregate-put-from-5 : tie.Need-slice-aggregate-put-from-5
-slice-aggregate-put-from-5 c = search needs
-
-put-from-requires-5 : tie.Need-put-from-requires-5
-put-from-requires-5 c κs = search needs
-
 same-length : tie.Need-same-length
-same-length c =
-    let two = c .before .before in
-    let one = two .before .before .before .before .before in
-    let order = one .before .before .before .before .before in
-    let position = order .before .before .before .before .before in
-    let objective = position .before .before .before .before .before in
-    two .put-from5 .kept .1 .1 .0 ∙ one .put-from4 .kept .1 .1 .0 ∙ order .put-from3 .kept .1 .1 .0 ∙ position .put-from2 .kept .1 .1 .0 ∙ objective .put-from .kept .1 .1 .0
+same-length c = search needs
 
 returns : tie.Need-returns
 returns c =
-    let two = c .before .before in
-    let one = two .before .before .before .before .before in
-    let order = one .before .before .before .before .before in
+    let searched = c .before .before in
+    let order = searched .before .before .before .before in
     let position = order .before .before .before .before .before in
     let objective = position .before .before .before .before .before in
-    let two-words = objective .before .before .before in
-    let one-words = two-words .before in
-    let order-words = one-words .before in
+    let order-words = objective .before .before .before in
     let position-words = order-words .before in
-    saved-all _ _ (position-words .before .objective-words .ensures) (position-words .progress-words .ensures) (order-words .order-words .ensures) (one-words .save .ensures)
-    (two-words .save2 .ensures)
-    (objective .put-from .ensures) (position .put-from2 .ensures) (order .put-from3 .ensures) (one .put-from4 .ensures) (two .put-from5 .ensures)
+    saved-all _ _ (position-words .before .objective-words .ensures) (position-words .progress-words .ensures) (order-words .order-words .ensures) (objective .put-from .ensures)
+    (position .put-from2 .ensures) (order .put-from3 .ensures) (searched .put-search .ensures)
 
 pub save-spec : {M : Type 1} → statement M
 save-spec =
     tie.close
     (tie.spec
-    free
-    free
     free
     free
     free
@@ -75,9 +50,6 @@ save-spec =
     put-from-requires-2
     slice-aggregate-put-from-3
     put-from-requires-3
-    slice-aggregate-put-from-4
-    put-from-requires-4
-    slice-aggregate-put-from-5
-    put-from-requires-5
+    free
     same-length
     returns)

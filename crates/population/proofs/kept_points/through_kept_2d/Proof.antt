@@ -4,17 +4,18 @@ use mathlib.Core.Path.{refl, _≡_, _∙_}
 use native.Mathlib.Omega.{arith}
 use lib.ListN.{length}
 use Rattle.search.specs.Subjects.{withSearch}
+use Rattle.search.specs.declared.SubjectSearch.the-variants.{Two}
 use Rattle.population.specs.Kept.{cacheOf}
 use Rattle.population.specs.Through.{throughFrom}
 use Rattle.float64.proofs.Laws.{free}
-use Rattle.population.proofs.KeptPointsPaths.{one-left, two-taken, two-wanted, stops, goes-on, from-idle}
+use Rattle.population.proofs.KeptPointsPaths.{one-left, two-taken, two-wanted, stops, goes-on, from-two}
 use Rattle.population.proofs.kept_points.through_kept_2d.Statement.{statement}
 use Rattle.population.proofs.kept_points.through_kept_2d.Tie as tie
 
 abbrev Inv-kept : tie.InvT-kept
 Inv-kept fit rows order start fuel cache work₀ settings search₀ left₀ given₀ work search left given =
-    (throughFrom fit rows (cacheOf cache order) left given (withSearch start (start .search) search) work ≡ throughFrom fit rows (cacheOf cache order) left₀ given₀
-    (withSearch start (start .search) search₀) work₀)
+    (throughFrom fit rows (cacheOf cache order) left given (withSearch start (Two search)) work ≡ throughFrom fit rows (cacheOf cache order) left₀ given₀
+    (withSearch start (Two search₀)) work₀)
     × (length work ≡ length work₀)
 
 abbrev μ-kept : tie.MeasureT-kept
@@ -68,11 +69,11 @@ returns c =
     let taken = two-taken (d .args .fit) (d .args .rows) (d .args .start) (d .pre) (here .before .settings-2d .ensures) _ _ _ (t .before .before .before .take-2d .ensures) in
     let wanted = two-wanted (d .args .fit) (d .args .rows) (d .args .start) (d .pre) (here .before .settings-2d .ensures) _ (t .wanted-2d .ensures) in
     stops _ _ _ _ _ _ _ taken wanted (c .before .before .before .before .is-over .ensures) (c .before .before .before .eta-of .ensures) (c .before .before .kept-at .ensures) (c .enum-told .given .1) ∙
-    at .kept .inv .0 ∙ from-idle _ _ _ _ _ _ _
+    at .kept .inv .0 ∙ from-two _ _ _ _ _ _ _ (d .pre) (here .two-of .ensures)
 
 pub through-kept-2d-spec : {M : Type 1} → statement M
 through-kept-2d-spec =
     tie.close
     (tie.spec
-    Inv-kept μ-kept free kept-holds free free free free free enum-known-slot sub-left free free kept-less kept-again enum-told
+    Inv-kept μ-kept free free kept-holds free free free free free enum-known-slot sub-left free free kept-less kept-again enum-told
     same-length returns)

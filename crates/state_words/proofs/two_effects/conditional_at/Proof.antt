@@ -1,6 +1,7 @@
 -- `conditional_at` meets its contract. Assumes nothing.
-use Rattle.state_words.specs.SearchWords2.{conditionalAt}
 use borrow.Author.Needs.{needs}
+use Rattle.float64.proofs.Laws.{free}
+use Rattle.state_words.specs.SearchWords2.{conditionalAt}
 use Rattle.state_words.proofs.two_effects.conditional_at.Statement.{statement}
 use Rattle.state_words.proofs.two_effects.conditional_at.Tie as tie
 
@@ -19,11 +20,8 @@ add-from-word c = search needs
 mul-from-word : tie.Need-mul-from-word
 mul-from-word c = search needs
 
-array-read-from-word : tie.Need-array-read-from-word
-array-read-from-word c = search needs
-
-from-word-requires : tie.Need-from-word-requires
-from-word-requires c κs = search needs
+shared-slice-read-from-word : tie.Need-shared-slice-read-from-word
+shared-slice-read-from-word c = search needs
 
 add-from-word-2 : tie.Need-add-from-word-2
 add-from-word-2 c = search needs
@@ -31,11 +29,8 @@ add-from-word-2 c = search needs
 mul-from-word-2 : tie.Need-mul-from-word-2
 mul-from-word-2 c = search needs
 
-array-read-from-word-2 : tie.Need-array-read-from-word-2
-array-read-from-word-2 c = search needs
-
-from-word-requires-2 : tie.Need-from-word-requires-2
-from-word-requires-2 c κs = search needs
+shared-slice-read-from-word-2 : tie.Need-shared-slice-read-from-word-2
+shared-slice-read-from-word-2 c = search needs
 
 add-from-word-3 : tie.Need-add-from-word-3
 add-from-word-3 c = search needs
@@ -43,11 +38,8 @@ add-from-word-3 c = search needs
 mul-from-word-3 : tie.Need-mul-from-word-3
 mul-from-word-3 c = search needs
 
-array-read-from-word-3 : tie.Need-array-read-from-word-3
-array-read-from-word-3 c = search needs
-
-from-word-requires-3 : tie.Need-from-word-requires-3
-from-word-requires-3 c κs = search needs
+shared-slice-read-from-word-3 : tie.Need-shared-slice-read-from-word-3
+shared-slice-read-from-word-3 c = search needs
 
 add-from-word-4 : tie.Need-add-from-word-4
 add-from-word-4 c = search needs
@@ -55,11 +47,8 @@ add-from-word-4 c = search needs
 mul-from-word-4 : tie.Need-mul-from-word-4
 mul-from-word-4 c = search needs
 
-array-read-from-word-4 : tie.Need-array-read-from-word-4
-array-read-from-word-4 c = search needs
-
-from-word-requires-4 : tie.Need-from-word-requires-4
-from-word-requires-4 c κs = search needs
+shared-slice-read-from-word-4 : tie.Need-shared-slice-read-from-word-4
+shared-slice-read-from-word-4 c = search needs
 
 add-from-word-5 : tie.Need-add-from-word-5
 add-from-word-5 c = search needs
@@ -67,24 +56,22 @@ add-from-word-5 c = search needs
 mul-from-word-5 : tie.Need-mul-from-word-5
 mul-from-word-5 c = search needs
 
-array-read-from-word-5 : tie.Need-array-read-from-word-5
-array-read-from-word-5 c = search needs
-
-from-word-requires-5 : tie.Need-from-word-requires-5
-from-word-requires-5 c κs = search needs
+shared-slice-read-from-word-5 : tie.Need-shared-slice-read-from-word-5
+shared-slice-read-from-word-5 c = search needs
 
 returns : tie.Need-returns
 unfolding conditionalAt
-returns c = rw (
-  c .before .before .before .before .before .before .pair-at .ensures,
-  c .before .before .before .before .before .pair-at2 .ensures,
-  c .before .before .before .before .from-word
-      .ensures,
-  c .before .before .before .from-word2 .ensures,
-  c .before .before .from-word3 .ensures,
-  c .before .from-word4 .ensures,
-  c .from-word5 .ensures,
-)
+returns c =
+    let first = c .before .before .before .before .before .before .before .before in
+    rw (
+      first .before .before .before .pair-at .ensures,
+      first .before .before .pair-at2 .ensures,
+      first .from-word .ensures,
+      c .before .before .before .before .before .before .from-word2 .ensures,
+      c .before .before .before .before .from-word3 .ensures,
+      c .before .before .from-word4 .ensures,
+      c .from-word5 .ensures,
+    )
 
 pub conditional-at-spec : {M : Type 1} → statement M
 conditional-at-spec =
@@ -95,22 +82,22 @@ conditional-at-spec =
     pair-at-requires-2
     add-from-word
     mul-from-word
-    array-read-from-word
-    from-word-requires
+    shared-slice-read-from-word
+    free
     add-from-word-2
     mul-from-word-2
-    array-read-from-word-2
-    from-word-requires-2
+    shared-slice-read-from-word-2
+    free
     add-from-word-3
     mul-from-word-3
-    array-read-from-word-3
-    from-word-requires-3
+    shared-slice-read-from-word-3
+    free
     add-from-word-4
     mul-from-word-4
-    array-read-from-word-4
-    from-word-requires-4
+    shared-slice-read-from-word-4
+    free
     add-from-word-5
     mul-from-word-5
-    array-read-from-word-5
-    from-word-requires-5
+    shared-slice-read-from-word-5
+    free
     returns)
