@@ -129,13 +129,15 @@ search-of x rest f =
     λ d. record { stage = s d; count = x .count; first = i d; latest = a d; fall = b d; left = l d; right = r d; best = m d }
 
 search-back : (x : Search) (rest : List ℕ) → FitsSearch x → one.loaded (one.saved x ++ rest) ≡ given x
-unfolding one.loaded one.saved one.wordsOf
+unfolding one.loaded one.loadedLent one.saved one.wordsOf
 search-back x rest f =
+    let long : one.searchSize ≤ length (one.saved x ++ rest) = let l = length-append (one.saved x) rest in omega arith in
     sym
+    (no _ (le-ltb _ _ long)
     (no _ (stage-low (x .stage))
     (no _ (le-ltb _ _ (f .count))
     (no _ (fall-low (x .fall))
-    (ap {B = Answer Search} (λ (y : Search). given y) (sym (search-of x rest f))))))
+    (ap {B = Answer Search} (λ (y : Search). given y) (sym (search-of x rest f)))))))
 
 -- ---- a search with two effects
 pub record FitsPair (p : Pair) : Type 0 where
@@ -221,14 +223,16 @@ search2-of x rest f =
     λ d. record { stage = s d; seed = x .seed; round = x .round; reduction = x .reduction; current = c d; trial = t d; decrease = e d; best = b d }
 
 search2-back : (x : Search2) (rest : List ℕ) → FitsSearch2 x → two.loaded (two.saved x ++ rest) ≡ given x
-unfolding two.loaded two.saved two.wordsOf
+unfolding two.loaded two.loadedLent two.saved two.wordsOf
 search2-back x rest f =
+    let long : two.searchSize ≤ length (two.saved x ++ rest) = let l = length-append (two.saved x) rest in omega arith in
     sym
+    (no _ (le-ltb _ _ long)
     (no _ (le-ltb _ _ (f .stage))
     (no _ (le-ltb _ _ (f .seed))
     (no _ (le-ltb _ _ (f .round))
     (no _ (le-ltb _ _ (f .reduction))
-    (ap {B = Answer Search2} (λ (y : Search2). given y) (sym (search2-of x rest f)))))))
+    (ap {B = Answer Search2} (λ (y : Search2). given y) (sym (search2-of x rest f))))))))
 
 -- ---- a state
 unfoldable pub FitsAdditive : AdditiveSd → Type 0

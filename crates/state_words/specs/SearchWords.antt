@@ -3,7 +3,7 @@ use mathlib.Core.Bool.{Bool}
 use mathlib.Core.List.{List, [], _∷_, _++_}
 use Prim.Native.Nat.{ℕ, _+_}
 use lib.Dec.{ltb, eqb}
-use lib.ListN.{getD}
+use lib.ListN.{getD, length}
 use lib.Ieee.{Float, binary64, toBits}
 use Rattle.float64.specs.Arithmetic.{word}
 use Rattle.float64.specs.Pick.{pick}
@@ -37,6 +37,9 @@ saved x =
     ++ fallWord (x .fall) ∷ wordsOf (x .left) ++ wordsOf (x .right) ++ wordsOf (x .best)
 
 -- ---- the search of twenty words
+abbrev pub searchSize : ℕ
+searchSize = 20
+
 unfoldable pub stageOf : ℕ → Stage
 stageOf n = pick (eqb n 0) Grid (pick (eqb n 1) Warm (pick (eqb n 2) Secant Halving))
 
@@ -60,12 +63,16 @@ searchOf words =
       best = conditionalAt words 16;
     }
 
-unfoldable pub loaded : List ℕ → Answer Search
-loaded words =
+unfoldable pub loadedLent : List ℕ → Answer Search
+loadedLent words =
     pick (ltb 3 (at words 0)) (refused 19)
     (pick (ltb 4294967295 (at words 1)) (refused 19)
     (pick (ltb 1 (at words 7)) (refused 19)
     (given (searchOf words))))
+
+-- where there are so many words, else it is no search
+unfoldable pub loaded : List ℕ → Answer Search
+loaded words = pick (ltb (length words) searchSize) (refused 19) (loadedLent words)
 
 -- what the code's answer says
 unfoldable pub answer : Loaded → Answer Search

@@ -2,7 +2,7 @@
 use mathlib.Core.List.{List, [], _∷_, _++_}
 use Prim.Native.Nat.{ℕ, _+_, _-_}
 use lib.Dec.{ltb, eqb}
-use lib.ListN.{getD}
+use lib.ListN.{getD, length}
 use lib.Ieee.{Float, binary64, toBits}
 use Rattle.float64.specs.Arithmetic.{word}
 use Rattle.float64.specs.Pick.{pick}
@@ -37,6 +37,9 @@ saved x =
     ++ bits (x .trial .first) ∷ bits (x .trial .second) ∷ bits (x .decrease) ∷ wordsOf (x .best)
 
 -- ---- the search of twenty-five words
+abbrev pub searchSize : ℕ
+searchSize = 25
+
 unfoldable pub stageOf : ℕ → Stage2
 stageOf n = pick (eqb n 0) Zero (pick (eqb n 1) Start (pick (eqb n 2) Trial (pick (eqb n 3) Found (Halted (n - 4)))))
 
@@ -77,13 +80,17 @@ searchOf words =
 abbrev pub largest : ℕ
 largest = 4294967295
 
-unfoldable pub loaded : List ℕ → Answer Search2
-loaded words =
+unfoldable pub loadedLent : List ℕ → Answer Search2
+loadedLent words =
     pick (ltb (4 + largest) (at words 0)) (refused 19)
     (pick (ltb largest (at words 1)) (refused 19)
     (pick (ltb largest (at words 2)) (refused 19)
     (pick (ltb largest (at words 3)) (refused 19)
     (given (searchOf words)))))
+
+-- where there are so many words, else it is no search
+unfoldable pub loaded : List ℕ → Answer Search2
+loaded words = pick (ltb (length words) searchSize) (refused 19) (loadedLent words)
 
 -- what the code's answer says
 unfoldable pub answer : Loaded2 → Answer Search2

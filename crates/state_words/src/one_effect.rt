@@ -1,14 +1,17 @@
 // A search with one effect as twenty words, for a host that keeps it: its stage (0 grid, 1 warm, 2 secant, 3
 // halving), count, first, latest, fall (0 or 1), left, right and best. A float is its word, and a point the
-// words of its eta, nll, score and information. `save` is defined for all searches, and `load` for all words,
-// where there are twenty or more.
+// words of its eta, nll, score and information. Each public function is defined for all words and searches.
 ghost use mathlib.Core.Path.{_≡_};
 ghost use Prim.Native.Nat.{_+_, _≤_, _<_};
 ghost use lib.ListN.{length};
-ghost use Rattle.state_words.specs.SearchWords.{conditionalAt, wordsOf, stageOf, stageWord, fallWord, loaded, saved, answer};
+ghost use Rattle.state_words.specs.SearchWords.{searchSize, conditionalAt, wordsOf, stageOf, stageWord, fallWord, saved};
+ghost use Rattle.state_words.specs.SearchWords.{loadedLent, loaded, answer};
 use mode::population_focei::Conditional;
 use mode::population_focei::Search;
 use mode::population_focei::Stage;
+
+// How many words a search has.
+pub const SEARCH_WORDS: usize = 20;
 
 // The answer of load: the search that twenty words stand for, or that they are no search.
 pub enum Loaded {
@@ -77,9 +80,9 @@ fn words_of(c: Conditional) -> [u64; 4]
 
 // The search that twenty words stand for. They are no search where the stage is above 3, the count does not
 // fit in a u32, or the fall is above 1.
-pub fn load(words: &[u64]) -> Loaded
-    requires { ⌜ 20 ≤ length (now words) ⌝ }
-    ensures { λ r. ⌜ answer r ≡ loaded (now (words .entry)) ⌝ }
+fn load_lent(words: &[u64]) -> Loaded
+    requires { ⌜ searchSize ≤ length (now words) ⌝ }
+    ensures { λ r. ⌜ answer r ≡ loadedLent (now (words .entry)) ⌝ }
 {
     if words[0] > 3 {
         return Loaded::None;
@@ -106,6 +109,16 @@ pub fn load(words: &[u64]) -> Loaded
         right,
         best,
     })
+}
+
+// The search that the first twenty of some words stand for; where there are fewer they are no search.
+pub fn load(words: &[u64]) -> Loaded
+    ensures { λ r. ⌜ answer r ≡ loaded (now (words .entry)) ⌝ }
+{
+    if words.len() < SEARCH_WORDS {
+        return Loaded::None;
+    }
+    load_lent(words)
 }
 
 // The twenty words of a search.

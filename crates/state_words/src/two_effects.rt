@@ -1,16 +1,19 @@
 // A search with two effects as twenty-five words, for a host that keeps it: its stage (0 zero, 1 start, 2
 // trial, 3 found, and of a search that was refused 4 more than the number), seed, round, reduction, current,
 // trial, decrease and best. A float is its word, and a point the words of its eta, nll, score and
-// information. `save` is defined for all searches, and `load` for all words, where there are twenty-five or
-// more.
+// information. Each public function is defined for all words and searches.
 ghost use mathlib.Core.Path.{_≡_};
 ghost use Prim.Native.Nat.{_+_, _≤_, _<_};
 ghost use lib.ListN.{length};
-ghost use Rattle.state_words.specs.SearchWords2.{pairAt, conditionalAt, wordsOf, stageOf, stageWord, loaded, saved, answer};
+ghost use Rattle.state_words.specs.SearchWords2.{searchSize, pairAt, conditionalAt, wordsOf, stageOf, stageWord, saved};
+ghost use Rattle.state_words.specs.SearchWords2.{loadedLent, loaded, answer};
 use matrix::Pair;
 use mode_2d::population_focei_2d::Conditional2;
 use mode_2d::population_focei_2d::Search2;
 use mode_2d::population_focei_2d::Stage2;
+
+// How many words a search has.
+pub const SEARCH_WORDS: usize = 25;
 
 // The answer of load: the search that twenty-five words stand for, or that they are no search.
 pub enum Loaded2 {
@@ -96,9 +99,9 @@ fn words_of(c: Conditional2) -> [u64; 9]
 
 // The search that twenty-five words stand for. They are no search where the refusal's number, the seed, the
 // round or the reduction does not fit in a u32.
-pub fn load(words: &[u64]) -> Loaded2
-    requires { ⌜ 25 ≤ length (now words) ⌝ }
-    ensures { λ r. ⌜ answer r ≡ loaded (now (words .entry)) ⌝ }
+fn load_lent(words: &[u64]) -> Loaded2
+    requires { ⌜ searchSize ≤ length (now words) ⌝ }
+    ensures { λ r. ⌜ answer r ≡ loadedLent (now (words .entry)) ⌝ }
 {
     if words[0] > 4294967299 {
         return Loaded2::None;
@@ -126,6 +129,16 @@ pub fn load(words: &[u64]) -> Loaded2
         decrease: float64::from_word(words[15]),
         best,
     })
+}
+
+// The search that the first twenty-five of some words stand for; where there are fewer they are no search.
+pub fn load(words: &[u64]) -> Loaded2
+    ensures { λ r. ⌜ answer r ≡ loaded (now (words .entry)) ⌝ }
+{
+    if words.len() < SEARCH_WORDS {
+        return Loaded2::None;
+    }
+    load_lent(words)
 }
 
 // The twenty-five words of a search.

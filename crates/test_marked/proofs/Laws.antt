@@ -12,7 +12,7 @@ use Rattle.likelihood.specs.declared.population_focei.RowTerms.{RowTerms}
 use Rattle.float64.specs.Pick.{pick}
 use Rattle.mode.specs.Rules.{gridPoint, requestAt}
 use Rattle.mode.specs.declared.population_focei.Settings.{Settings}
-use Rattle.state_words.specs.SearchWords.{stageOf, searchOf, loaded}
+use Rattle.state_words.specs.SearchWords.{stageOf, searchOf, loadedLent, loaded}
 use Rattle.test_exports.specs.Leaves.{termsOr, inverseOr}
 use Rattle.test_exports.specs.Mode.{requested, pointOr}
 
@@ -25,5 +25,5 @@ entry-word i j written old a b e f = ap (λ (l : List (List Float)). toBits bina
 -- ---- a search of the grid, by its words
 pub grid-words : (s : Settings) (old : Float) (count : ℕ) → count < 17
     → pointOr old (requested s (0 ∷ count ∷ 0 ∷ 0 ∷ 0 ∷ 0 ∷ 0 ∷ 0 ∷ 0 ∷ 0 ∷ 0 ∷ 0 ∷ 0 ∷ 0 ∷ 0 ∷ 0 ∷ 0 ∷ 0 ∷ 0 ∷ 0 ∷ [])) ≡ gridPoint (s .«eta_bound») count
-unfolding pointOr requested through loaded searchOf requestAt stageOf pick
+unfolding pointOr requested through loaded loadedLent searchOf requestAt stageOf pick
 grid-words s old count h = rw (le-ltb 4294967295 count (omega arith), lt-ltb count 17 h) refl

@@ -1,128 +1,22 @@
--- `load` meets its contract: each exit by the tests that lead there. Assumes nothing.
+-- `load` meets its contract: a test of the length. Assumes nothing.
 use borrow.Author.Needs.{needs}
 use borrow.Author.Tests.{lt-ltb, le-ltb}
 use mathlib.Core.Path.{refl}
-use native.Mathlib.Omega.{arith}
 use Rattle.float64.specs.Pick.{yes, no}
-use Rattle.float64.proofs.Laws.{free}
-use Rattle.state_words.specs.SearchWords2.{loaded, answer, searchOf}
+use Rattle.state_words.specs.SearchWords2.{loaded, answer}
 use Rattle.state_words.proofs.two_effects.load.Statement.{statement}
 use Rattle.state_words.proofs.two_effects.load.Tie as tie
-
-shared-slice-read-if1 : tie.Need-shared-slice-read-if1
-shared-slice-read-if1 c = search needs
 
 returns : tie.Need-returns
 unfolding answer loaded
 returns c = yes _ (lt-ltb _ _ (c .if1 .taken)) refl
 
-shared-slice-read-if2 : tie.Need-shared-slice-read-if2
-shared-slice-read-if2 c = search needs
+load-lent-requires : tie.Need-load-lent-requires
+load-lent-requires c κs = search needs
 
 returns-2 : tie.Need-returns-2
-unfolding answer loaded
-returns-2 c = no _ (le-ltb _ _ (c .before .before .if1 .left)) (yes _ (lt-ltb _ _ (c .if2 .taken)) refl)
-
-shared-slice-read-if3 : tie.Need-shared-slice-read-if3
-shared-slice-read-if3 c = search needs
-
-returns-3 : tie.Need-returns-3
-unfolding answer loaded
-returns-3 c = no _ (le-ltb _ _ (c .before .before .before .before .if1 .left)) (no _ (le-ltb _ _ (c .before .before .if2 .left)) (yes _ (lt-ltb _ _ (c .if3 .taken)) refl))
-
-shared-slice-read-if4 : tie.Need-shared-slice-read-if4
-shared-slice-read-if4 c = search needs
-
-returns-4 : tie.Need-returns-4
-unfolding answer loaded
-returns-4 c = no _ (le-ltb _ _ (c .before .before .before .before .before .before .if1 .left)) (no _ (le-ltb _ _ (c .before .before .before .before .if2 .left))
-    (no _ (le-ltb _ _ (c .before .before .if3 .left)) (yes _ (lt-ltb _ _ (c .if4 .taken)) refl)))
-
-shared-slice-read-stage-of : tie.Need-shared-slice-read-stage-of
-shared-slice-read-stage-of c = search needs
-
-stage-of-requires : tie.Need-stage-of-requires
-stage-of-requires c κs = search needs
-
-conditional-at-requires : tie.Need-conditional-at-requires
-conditional-at-requires c κs = search needs
-
-pair-at-requires : tie.Need-pair-at-requires
-pair-at-requires c κs = search needs
-
-conditional-at-requires-2 : tie.Need-conditional-at-requires-2
-conditional-at-requires-2 c κs = search needs
-
-shared-slice-read-t7 : tie.Need-shared-slice-read-t7
-shared-slice-read-t7 c =
-    let start = c .before .before .before .before .before in
-    let h = start .before .before .before .before .before .before .before .before .before .before .pre in
-    omega arith
-
-cast-t14 : tie.Need-cast-t14
-cast-t14 c = search needs
-
-shared-slice-read-t16 : tie.Need-shared-slice-read-t16
-shared-slice-read-t16 c =
-    let start = c .before .before .before .before .before .before in
-    let h = start .before .before .before .before .before .before .before .before .before .before .pre in
-    omega arith
-
-cast-t17 : tie.Need-cast-t17
-cast-t17 c = search needs
-
-shared-slice-read-t19 : tie.Need-shared-slice-read-t19
-shared-slice-read-t19 c =
-    let start = c .before .before .before .before .before .before .before in
-    let h = start .before .before .before .before .before .before .before .before .before .before .pre in
-    omega arith
-
-cast-t20 : tie.Need-cast-t20
-cast-t20 c = search needs
-
-shared-slice-read-from-word : tie.Need-shared-slice-read-from-word
-shared-slice-read-from-word c =
-    let start = c .before .before .before .before .before .before .before .before in
-    let h = start .before .before .before .before .before .before .before .before .before .before .pre in
-    omega arith
-
-returns-5 : tie.Need-returns-5
-unfolding answer loaded searchOf
-returns-5 c =
-    let best = c .before .before .before .before .before in
-    let trial = best .before in
-    let current = trial .before in
-    let stage = current .before in
-    let tests = stage .before .before in
-    no _ (le-ltb _ _ (tests .before .before .before .before .before .before .if1 .left))
-    (no _ (le-ltb _ _ (tests .before .before .before .before .if2 .left))
-    (no _ (le-ltb _ _ (tests .before .before .if3 .left))
-    (no _ (le-ltb _ _ (tests .if4 .left))
-    (rw (stage .stage-of .ensures, current .conditional-at .ensures, trial .pair-at .ensures, best .conditional-at2 .ensures, c .from-word .ensures)))))
+unfolding loaded
+returns-2 c = no _ (le-ltb _ _ (c .before .if1 .left)) (c .load-lent .ensures)
 
 pub load-spec : {M : Type 1} → statement M
-load-spec =
-    tie.close
-    (tie.spec
-    shared-slice-read-if1
-    returns
-    shared-slice-read-if2
-    returns-2
-    shared-slice-read-if3
-    returns-3
-    shared-slice-read-if4
-    returns-4
-    shared-slice-read-stage-of
-    stage-of-requires
-    conditional-at-requires
-    pair-at-requires
-    conditional-at-requires-2
-    shared-slice-read-t7
-    cast-t14
-    shared-slice-read-t16
-    cast-t17
-    shared-slice-read-t19
-    cast-t20
-    shared-slice-read-from-word
-    free
-    returns-5)
+load-spec = tie.close (tie.spec returns load-lent-requires returns-2)
