@@ -6,8 +6,7 @@ use libc::STDOUT_FILENO;
 fn main() {
     // 256 records, and one byte more: so longer input is seen to be too long
     let mut input = [0u8; 12289];
-    // an `O` and an `H` line, an `S` and an `F` line for each of 256 records, are 30,267 bytes at most
-    let mut out = [0u8; 32768];
+    let mut out = [0u8; focei_fit::LONGEST_TEXT];
     let got = io::read_full(STDIN_FILENO, &mut input);
     let length = focei_fit::focei(&input[..got], &mut out);
     io::write_all(STDOUT_FILENO, &out[..length]);

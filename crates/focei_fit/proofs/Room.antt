@@ -29,7 +29,7 @@ use Rattle.focei_text.proofs.Lengths.{rowsFrom, rows-at-most, few-subjects, fin
 use Rattle.words.specs.Written.{written, write}
 use Rattle.words.proofs.Front.{front}
 use Rattle.focei_fit.specs.Output.{ended, endOf, whenOpened, fitted, lent, whenRecords, output}
-use Rattle.focei_fit.specs.Claim.{Short}
+use Rattle.focei_fit.specs.Claim.{longestText, Short}
 
 -- ---- the rows of the subjects are no more than the counts add up to
 rows-within : (left s : ℕ) (counts : List ℕ) (b : Bool) → ltb s (length counts) ≡ b → rowsFrom left s counts ≤ sum (drop s counts)
@@ -52,7 +52,7 @@ rows-within (suc left) s counts false e =
 
 -- ---- from the end back to the beginning, for counts of at most 256 subjects that add up to at most 256
 module _ (counts : List ℕ) (few : length counts ≤ 256) (fewer : sum counts ≤ 256) where
-  end-short : (state : State) (tally : Tally) (results : List ℕ) (step : Step) → length (ended counts state tally results step) ≤ 30267
+  end-short : (state : State) (tally : Tally) (results : List ℕ) (step : Step) → length (ended counts state tally results step) ≤ longestText
   unfolding ended
   end-short state tally results (Asked eta individual) = let l = refusal-length 19 Nowhere in omega arith
   end-short state tally results (Finished x) =
@@ -62,16 +62,16 @@ module _ (counts : List ℕ) (few : length counts ≤ 256) (fewer : sum counts �
       omega arith
   end-short state tally results (Refused number place) = let l = refusal-length number place in omega arith
 
-  opened-short : (input observations results : List ℕ) (s : Setting) (o : Opening) → length (whenOpened input counts observations results s o) ≤ 30267
+  opened-short : (input observations results : List ℕ) (s : Setting) (o : Opening) → length (whenOpened input counts observations results s o) ≤ longestText
   unfolding whenOpened endOf
   opened-short input observations results s (Opens.Opened state) = end-short _ _ _ _
   opened-short input observations results s (Opens.Refused number place) = let l = refusal-length number place in omega arith
 
-  fitted-short : (input observations cache work warm results : List ℕ) → length (fitted input counts observations cache work warm results) ≤ 30267
+  fitted-short : (input observations cache work warm results : List ℕ) → length (fitted input counts observations cache work warm results) ≤ longestText
   unfolding fitted
   fitted-short input observations cache work warm results = opened-short input observations results _ _
 
-records-short : (input : List ℕ) (c : Cohort) → cohort input ≡ c → length (whenRecords input c) ≤ 30267
+records-short : (input : List ℕ) (c : Cohort) → cohort input ≡ c → length (whenRecords input c) ≤ longestText
 unfolding whenRecords lent
 records-short input (Cohorts.Subjects n) e =
     let few = few-records input e in
@@ -87,5 +87,5 @@ unfolding output
 short input = records-short input (cohort input) refl
 
 -- so that what the program prints is its definition, whole
-pub printed : {r : ℕ} {out' : List ℕ} (input out : List ℕ) → 30267 ≤ length out → written r out' ≡ write (output input) (written 0 out) → take r out' ≡ output input
+pub printed : {r : ℕ} {out' : List ℕ} (input out : List ℕ) → longestText ≤ length out → written r out' ≡ write (output input) (written 0 out) → take r out' ≡ output input
 printed input out h e = let l = short input in front (output input) out (omega arith) e

@@ -1,12 +1,13 @@
--- What is claimed of the program's text: it is never longer than so many bytes. An `O` line has at most 40 bytes, an `S` line 40, an `F`
--- line 78, an `H` line 19; there are at most 256 subjects and 256 observations.
+-- What is claimed of the program's text: it is never longer than so many bytes.
 use mathlib.Core.List.{List}
-use Prim.Native.Nat.{ℕ, _≤_}
+use Prim.Native.Nat.{ℕ, _+_, _*_, _≤_}
 use lib.ListN.{length}
 use Rattle.focei_fit.specs.Output.{output}
 
-abbrev pub most : ℕ
-most = 30267
+-- an `O` line of at most 40 bytes, an `S` line of 40 for each of 256 subjects, an `F` line of 78 for each of 256 observations, and an `H`
+-- line of 19
+abbrev pub longestText : ℕ
+longestText = 40 + 256 * 40 + 256 * 78 + 19
 
 abbrev pub Short : Type 0
-Short = (input : List ℕ) → length (output input) ≤ most
+Short = (input : List ℕ) → length (output input) ≤ longestText

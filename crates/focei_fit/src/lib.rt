@@ -23,6 +23,10 @@ use subject::AdditiveSd;
 // One more than the questions of a session: each raises the evaluations, of which there are 10,000.
 pub const QUESTIONS: u32 = 10001;
 
+// The bytes of the longest text that the program prints, with an `O` and an `H` line, and an `S` and an `F`
+// line for each of 256 records.
+pub const LONGEST_TEXT: usize = 30267;
+
 fn settings() -> Setup
     ensures { λ r. ⌜ r ≡ settings ⌝ }
 {

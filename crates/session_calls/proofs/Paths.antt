@@ -108,7 +108,8 @@ module _ (f : Held words → Ran (Held words) Step) (h : Held words) (go : Moved
   unsound-out t = admitted-by t refl
 
 -- a refusal that alters nothing, as the code makes it
-pub refused-called : (state : State) (tally : Tally) (number : ℕ) (place : Place) (cache work warm results : List ℕ) {r : Called} {z : Ran (Held words) Step} → r ≡ refusedAs state tally number place
+pub refused-called : (state : State) (tally : Tally) (number : ℕ) (place : Place) (cache work warm results : List ℕ) {r : Called} {z : Ran
+    (Held words) Step} → r ≡ refusedAs state tally number place
     → ran (Refused number place) (heldOf state tally cache work warm results) ≡ z → called r cache work warm results ≡ z
 refused-called state tally number place cache work warm results e q = ap (λ (x : Called). called x cache work warm results) e ∙ q
 
@@ -179,7 +180,8 @@ module _ (setup : Setup) (counts : List ℕ) (n : ℕ) (check : Check) (state : 
       ∙ ap (λ (m : Moved (Held words) Step). pick (state .progress .awaits) m out) (through-pick goes-for stands w (Wants.Refused 19))
       ∙ through-pick goes-for (state .progress .awaits) (pick stands w (Wants.Refused 19)) (Wants.Refused 19)
 
-  pub awaited-enters : {a : Awaited} {lent : Lent} → lent ≡ lentHere → a ≡ admitAwaited setup counts lent check state tally → whenAwaited words setup counts n check at go ≡ whenAdmitted words at (go (a .eta)) (a .admission)
+  pub awaited-enters : {a : Awaited} {lent : Lent} → lent ≡ lentHere → a ≡ admitAwaited setup counts lent check state tally → whenAwaited words setup counts n check at go ≡ whenAdmitted
+    words at (go (a .eta)) (a .admission)
   unfolding goes
   awaited-enters el ea = all-goes ∙ ap goes (sym (ea ∙ ap (λ (l : Lent). admitAwaited setup counts l check state tally) el))
 
@@ -223,7 +225,8 @@ module _ (fit : Fit) (counts : List ℕ) (eta : Pair) (e : Evaluation) (state : 
       (q
       ∙ ap (λ (y : KeptWith). runIn fit counts (held words (state .parameters) (wholeFrom fit counts (Hand.Evaluated eta sums) (state .progress) (y .tally) (y .kept) work warm results))) ek)
 
-  pub follows-refusal : {number : ℕ} {r : Called} {w : List ℕ} → x ≡ E.Refused number → (r ≡ endedAs state tally number (At.Subject (state .progress .subject))) × (w ≡ zeros (length work)) → Follows
+  pub follows-refusal : {number : ℕ} {r : Called} {w : List ℕ} → x ≡ E.Refused number → (r ≡ endedAs state tally number (At.Subject (state .progress .subject))) × (w ≡ zeros
+    (length work)) → Follows
       (called r cache w warm results)
   unfolding replied
   follows-refusal {number} t (er, ew) = follows-by t (ended-called _ state tally number _ cache work warm results er ew)

@@ -8,7 +8,8 @@
 // derivatives for each effect.
 ghost use mathlib.Core.Path.{_≡_};
 ghost use Rattle.subject.specs.Reply.{outputValues, rowLength};
-ghost use Rattle.subject.specs.Subject.{additiveSd, answer, individual, isNoIndividual, individualValues, begin, hasNonfiniteSum, finish};
+ghost use Rattle.subject.specs.Subject.{additiveSd, answer, individual, isNoIndividual, individualValues, begin};
+ghost use Rattle.subject.specs.Subject.{hasNonfiniteSum, finish};
 
 pub mod checks;
 pub mod rows;

@@ -26,10 +26,10 @@ focei-requires : tie.Need-focei-requires
 focei-requires c κs = search needs
 
 array-share-prefix-out : tie.Need-array-share-prefix-out
-array-share-prefix-out c = within _ (replicate 32768 0) (c .before .focei .ensures)
+array-share-prefix-out c = within _ (replicate 30267 0) (c .before .focei .ensures)
 
 slice-aggregate-write-all : tie.Need-slice-aggregate-write-all
-slice-aggregate-write-all c = sym (length-take-le _ _ (within _ (replicate 32768 0) (c .before .before .focei .ensures)))
+slice-aggregate-write-all c = sym (length-take-le _ _ (within _ (replicate 30267 0) (c .before .before .focei .ensures)))
 
 write-all-requires : tie.Need-write-all-requires
 write-all-requires c κs = search needs

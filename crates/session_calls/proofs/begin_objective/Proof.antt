@@ -54,9 +54,11 @@ returns c =
     let h = heldOf (d .args .state) (d .args .tally) (d .args .cache .now) (d .args .work .now) (d .args .warm .now) (d .args .results .now) in
     lets-in (λ x. run (d .args .setup) (d .args .counts .now) x) h (on (begun words (d .args .setup) (d .args .counts .now) (d .args .parameters) (h .whole)))
     (objective-enters (d .args .setup) (d .args .counts .now) (d .args .observations) (d .args .check) (d .args .parameters) (d .args .state) (d .args .tally)
-    (d .args .cache .now) (d .args .work .now) (d .args .warm .now) (d .args .results .now) (asked .before .before .lent-by .ensures) (asked .admit-objective .ensures)) (start .before .before .before .before .enum-told .given .1)
+    (d .args .cache .now) (d .args .work .now) (d .args .warm .now) (d .args .results .now) (asked .before .before .lent-by .ensures) (asked .admit-objective .ensures))
+    (start .before .before .before .before .enum-told .given .1)
     (objective-starts (d .args .setup) (d .args .counts .now) (d .args .observations) (d .args .check) (d .args .parameters) (d .args .state) (d .args .tally)
-    (d .args .cache .now) (d .args .work .now) (d .args .warm .now) (d .args .results .now) (own-fit (d .args .setup) (d .args .parameters) (start .before .before .before .with-parameters .ensures) (start .before .before .fit-of .ensures))
+    (d .args .cache .now) (d .args .work .now) (d .args .warm .now) (d .args .results .now) (own-fit (d .args .setup) (d .args .parameters)
+    (start .before .before .before .with-parameters .ensures) (start .before .before .fit-of .ensures))
     (start .start-of .ensures) (c .before .before .before .before .before .before .run .ensures))
 
 returns-2 : tie.Need-returns-2
@@ -67,7 +69,8 @@ returns-2 c =
     refused-called (d .args .state) (d .args .tally) _ _ (d .args .cache .now) (d .args .work .now) (d .args .warm .now) (d .args .results .now) (c .refused-as .ensures)
     (keeps-out (λ x. run (d .args .setup) (d .args .counts .now) x) h (on (begun words (d .args .setup) (d .args .counts .now) (d .args .parameters) (h .whole)))
     (objective-enters (d .args .setup) (d .args .counts .now) (d .args .observations) (d .args .check) (d .args .parameters) (d .args .state) (d .args .tally)
-    (d .args .cache .now) (d .args .work .now) (d .args .warm .now) (d .args .results .now) (asked .before .before .lent-by .ensures) (asked .admit-objective .ensures)) (c .before .before .number .given .1))
+    (d .args .cache .now) (d .args .work .now) (d .args .warm .now) (d .args .results .now) (asked .before .before .lent-by .ensures) (asked .admit-objective .ensures))
+    (c .before .before .number .given .1))
 
 returns-3 : tie.Need-returns-3
 returns-3 c =
@@ -77,8 +80,10 @@ returns-3 c =
     refused-called (d .args .state) (d .args .tally) _ _ (d .args .cache .now) (d .args .work .now) (d .args .warm .now) (d .args .results .now) (c .refused-as2 .ensures)
     (unsound-out (λ x. run (d .args .setup) (d .args .counts .now) x) h (on (begun words (d .args .setup) (d .args .counts .now) (d .args .parameters) (h .whole)))
     (objective-enters (d .args .setup) (d .args .counts .now) (d .args .observations) (d .args .check) (d .args .parameters) (d .args .state) (d .args .tally)
-    (d .args .cache .now) (d .args .work .now) (d .args .warm .now) (d .args .results .now) (asked .before .before .lent-by .ensures) (asked .admit-objective .ensures)) (c .before .before .at .given .1))
+    (d .args .cache .now) (d .args .work .now) (d .args .warm .now) (d .args .results .now) (asked .before .before .lent-by .ensures) (asked .admit-objective .ensures))
+    (c .before .before .at .given .1))
 
 pub begin-objective-spec : {M : Type 1} → statement M
-begin-objective-spec = tie.close (tie.spec free free enum-told free free free free enum-known-number free enum-known-at free same-length same-length-2 same-length-3 returns same-length-4 same-length-5
+begin-objective-spec = tie.close (tie.spec free free enum-told free free free free enum-known-number free enum-known-at free same-length same-length-2 same-length-3 returns same-length-4
+    same-length-5
     same-length-6 returns-2 same-length-7 same-length-8 same-length-9 returns-3)

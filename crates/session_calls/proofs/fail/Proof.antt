@@ -34,9 +34,11 @@ returns c =
     let h = heldOf (d .args .state) (d .args .tally) (d .args .cache .now) (d .args .work .now) (d .args .warm .now) (d .args .results .now) in
     let e = c .before .before .ended-as .ensures in
     lets-in (λ x. run (d .args .setup) (d .args .counts .now) x) h (over words 8 (Subject (d .args .state .progress .subject)) h)
-    (failure-enters (d .args .setup) (d .args .counts .now) (d .args .observations) (d .args .check) (d .args .state) (d .args .tally) (d .args .cache .now) (d .args .work .now) (d .args .warm .now) (d .args .results .now)
+    (failure-enters (d .args .setup) (d .args .counts .now) (d .args .observations) (d .args .check) (d .args .state) (d .args .tally) (d .args .cache .now) (d .args .work .now)
+    (d .args .warm .now) (d .args .results .now)
     (asked .before .lent-by .ensures) (asked .admit-awaited .ensures)) (c .before .before .before .before .before .enum-told .given .1)
-    (ended-called _ (d .args .state) (d .args .tally) 8 (Subject (d .args .state .progress .subject)) (d .args .cache .now) (d .args .work .now) (d .args .warm .now) (d .args .results .now) (e .0) (e .1))
+    (ended-called _ (d .args .state) (d .args .tally) 8 (Subject (d .args .state .progress .subject)) (d .args .cache .now) (d .args .work .now) (d .args .warm .now)
+    (d .args .results .now) (e .0) (e .1))
 
 returns-2 : tie.Need-returns-2
 returns-2 c =
@@ -45,7 +47,8 @@ returns-2 c =
     let h = heldOf (d .args .state) (d .args .tally) (d .args .cache .now) (d .args .work .now) (d .args .warm .now) (d .args .results .now) in
     refused-called (d .args .state) (d .args .tally) _ _ (d .args .cache .now) (d .args .work .now) (d .args .warm .now) (d .args .results .now) (c .refused-as .ensures)
     (keeps-out (λ x. run (d .args .setup) (d .args .counts .now) x) h (over words 8 (Subject (d .args .state .progress .subject)) h)
-    (failure-enters (d .args .setup) (d .args .counts .now) (d .args .observations) (d .args .check) (d .args .state) (d .args .tally) (d .args .cache .now) (d .args .work .now) (d .args .warm .now) (d .args .results .now)
+    (failure-enters (d .args .setup) (d .args .counts .now) (d .args .observations) (d .args .check) (d .args .state) (d .args .tally) (d .args .cache .now) (d .args .work .now)
+    (d .args .warm .now) (d .args .results .now)
     (asked .before .lent-by .ensures) (asked .admit-awaited .ensures)) (c .before .before .admission .given .1))
 
 returns-3 : tie.Need-returns-3
@@ -55,7 +58,8 @@ returns-3 c =
     let h = heldOf (d .args .state) (d .args .tally) (d .args .cache .now) (d .args .work .now) (d .args .warm .now) (d .args .results .now) in
     refused-called (d .args .state) (d .args .tally) _ _ (d .args .cache .now) (d .args .work .now) (d .args .warm .now) (d .args .results .now) (c .refused-as2 .ensures)
     (unsound-out (λ x. run (d .args .setup) (d .args .counts .now) x) h (over words 8 (Subject (d .args .state .progress .subject)) h)
-    (failure-enters (d .args .setup) (d .args .counts .now) (d .args .observations) (d .args .check) (d .args .state) (d .args .tally) (d .args .cache .now) (d .args .work .now) (d .args .warm .now) (d .args .results .now)
+    (failure-enters (d .args .setup) (d .args .counts .now) (d .args .observations) (d .args .check) (d .args .state) (d .args .tally) (d .args .cache .now) (d .args .work .now)
+    (d .args .warm .now) (d .args .results .now)
     (asked .before .lent-by .ensures) (asked .admit-awaited .ensures)) (c .before .before .admission2 .given .1))
 
 pub fail-spec : {M : Type 1} → statement M

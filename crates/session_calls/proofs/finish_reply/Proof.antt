@@ -32,7 +32,8 @@ returns : tie.Need-returns
 returns c =
     let followed = c .before .before .before .before .before .before .before .before in
     let d = followed .before .before .before .before .before .before .before .before .before .before .before .before .before .before .before in
-    finish-follows (d .args .counts .now) (d .args .admitted .awaited) (d .args .evaluation) (heldOf (d .args .state) (d .args .tally) (d .args .cache .now) (d .args .work .now) (d .args .warm .now) (d .args .results .now)) (followed .before .before .before .before .before .enum-told .given .1) (followed .follow .ensures)
+    finish-follows (d .args .counts .now) (d .args .admitted .awaited) (d .args .evaluation) (heldOf (d .args .state) (d .args .tally) (d .args .cache .now) (d .args .work .now)
+    (d .args .warm .now) (d .args .results .now)) (followed .before .before .before .before .before .enum-told .given .1) (followed .follow .ensures)
 
 returns-2 : tie.Need-returns-2
 returns-2 c =

@@ -37,21 +37,24 @@ returns c =
     let kept = c .before .before .before .before .before .before .before .before .before .before .before .before .before .before .before in
     let ended = kept .before .before .before .before .before .before in
     let d = ended .before .before .before .before .before .before .before .before .before in
-    follows-sums (d .args .fit) (d .args .counts .now) (d .args .eta) (d .args .evaluation) (d .args .state) (d .args .tally) (d .args .cache .now) (d .args .work .now) (d .args .warm .now) (d .args .results .now)
+    follows-sums (d .args .fit) (d .args .counts .now) (d .args .eta) (d .args .evaluation) (d .args .state) (d .args .tally) (d .args .cache .now) (d .args .work .now)
+    (d .args .warm .now) (d .args .results .now)
     (ended .finish .ensures) (kept .keep .result) (kept .before .before .before .before .sums .given .1) (kept .keep .ensures) (c .before .before .before .before .before .before .run .ensures)
 
 returns-2 : tie.Need-returns-2
 returns-2 c =
     let ended = c .before .before .before .before .before .before .before in
     let d = ended .before .before .before .before .before .before .before .before .before in
-    follows-refusal (d .args .fit) (d .args .counts .now) (d .args .eta) (d .args .evaluation) (d .args .state) (d .args .tally) (d .args .cache .now) (d .args .work .now) (d .args .warm .now) (d .args .results .now)
+    follows-refusal (d .args .fit) (d .args .counts .now) (d .args .eta) (d .args .evaluation) (d .args .state) (d .args .tally) (d .args .cache .now) (d .args .work .now)
+    (d .args .warm .now) (d .args .results .now)
     (ended .finish .ensures) (c .before .before .before .before .before .number .given .1) (c .before .before .ended-as .ensures)
 
 returns-3 : tie.Need-returns-3
 returns-3 c =
     let ended = c .before .before .before .before .before .before .before in
     let d = ended .before .before .before .before .before .before .before .before .before in
-    follows-refusal-at (d .args .fit) (d .args .counts .now) (d .args .eta) (d .args .evaluation) (d .args .state) (d .args .tally) (d .args .cache .now) (d .args .work .now) (d .args .warm .now) (d .args .results .now)
+    follows-refusal-at (d .args .fit) (d .args .counts .now) (d .args .eta) (d .args .evaluation) (d .args .state) (d .args .tally) (d .args .cache .now) (d .args .work .now)
+    (d .args .warm .now) (d .args .results .now)
     (ended .finish .ensures) (c .before .before .before .before .before .number2 .given .1) (c .before .before .ended-as2 .ensures)
 
 pub follow-spec : {M : Type 1} → statement M

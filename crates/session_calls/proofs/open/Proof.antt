@@ -42,9 +42,11 @@ same-length-9 : tie.Need-same-length-9
 same-length-9 c = search needs
 
 returns : tie.Need-returns
-returns c = let d = c .before .before .before .before .before .before .before .before .before .before .before .before .before .before .before .before .before .before .before .before .before .before
+returns c = let d = c .before .before .before .before .before .before .before .before .before .before .before .before .before .before .before .before .before .before .before .before .before
+    .before
     .before .before .before in setup-opens (d .args .setup) (d .args .counts .now) (d .args .observations) (d .args .check) (d .args .tally) (d .args .cache .now) (d .args .work .now)
-    (d .args .warm .now) (d .args .results .now) (c .before .before .before .before .before .before .before .before .before .before .before .before .before .before .before .before .lent-by .ensures)
+    (d .args .warm .now) (d .args .results .now) (c .before .before .before .before .before .before .before .before .before .before .before .before .before .before .before .before .lent-by
+    .ensures)
     (c .before .before .before .before .before .before .before .before .before .before .before .before .before .before .before .checks .ensures)
     (c .before .before .before .before .before .before .before .before .before .before .before .before .before .enum-told .given .1)
     (c .before .before .before .before .before .before .before .before .before .before .before .clear .ensures) (c .before .before .before .before .before .before .before .clear2 .ensures)
