@@ -264,7 +264,7 @@ fn both_replies_leave_the_same() {
 /// What is wrong with a reply, the number that it gets, and of 4 the observation.
 type Wrong = (fn(&mut Lent, &mut Vec<Observation>), u32, Option<u64>);
 
-const WRONG: [Wrong; 22] = [
+const WRONG: [Wrong; 24] = [
     (|_, own| own.truncate(1), 1, None),
     (|_, own| own.push(own[0]), 1, None),
     (|_, own| own.clear(), 1, None),
