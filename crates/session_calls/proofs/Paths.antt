@@ -181,7 +181,7 @@ module _ (setup : Setup) (counts : List ℕ) (n : ℕ) (check : Check) (state : 
       ∙ through-pick goes-for (state .progress .awaits) (pick stands w (Wants.Refused 19)) (Wants.Refused 19)
 
   pub awaited-enters : {a : Awaited} {lent : Lent} → lent ≡ lentHere → a ≡ admitAwaited setup counts lent check state tally → whenAwaited words setup counts n check at go ≡ whenAdmitted
-    words at (go (a .eta)) (a .admission)
+      words at (go (a .eta)) (a .admission)
   unfolding goes
   awaited-enters el ea = all-goes ∙ ap goes (sym (ea ∙ ap (λ (l : Lent). admitAwaited setup counts l check state tally) el))
 
@@ -226,7 +226,7 @@ module _ (fit : Fit) (counts : List ℕ) (eta : Pair) (e : Evaluation) (state : 
       ∙ ap (λ (y : KeptWith). runIn fit counts (held words (state .parameters) (wholeFrom fit counts (Hand.Evaluated eta sums) (state .progress) (y .tally) (y .kept) work warm results))) ek)
 
   pub follows-refusal : {number : ℕ} {r : Called} {w : List ℕ} → x ≡ E.Refused number → (r ≡ endedAs state tally number (At.Subject (state .progress .subject))) × (w ≡ zeros
-    (length work)) → Follows
+      (length work)) → Follows
       (called r cache w warm results)
   unfolding replied
   follows-refusal {number} t (er, ew) = follows-by t (ended-called _ state tally number _ cache work warm results er ew)
