@@ -14,7 +14,6 @@ use Rattle.subject.specs.declared.Sums.{Sums}
 use Rattle.work.specs.Work.{block}
 use Rattle.setup.specs.Admission.{isNoOmega, isNoShape, withParameters}
 use Rattle.setup.specs.declared.Setup.{Setup}
-use Rattle.setup.specs.declared.Parameters.{Parameters}
 use Rattle.search.specs.Subjects as B
 use Rattle.search.specs.declared.Advanced.{Advanced}
 use Rattle.search.specs.declared.Tally.{Tally}

@@ -1,7 +1,7 @@
 -- A session's state as `stateSize` words: the words of a state, and the state of some words, or 19 where they are none.
-use mathlib.Core.Bool.{Bool, true, false}
+use mathlib.Core.Bool.{Bool}
 use mathlib.Core.List.{List, [], _∷_, _++_}
-use Prim.Native.Nat.{ℕ, zero, suc, _+_}
+use Prim.Native.Nat.{ℕ, _+_}
 use lib.Dec.{ltb, eqb}
 use lib.ListN.{getD, set, length, drop}
 use lib.Ieee.{Float, binary64, toBits}
@@ -23,6 +23,7 @@ use Rattle.session.specs.declared.State.{State}
 use Rattle.state_words.specs.declared.LoadedState.{LoadedState}
 use Rattle.state_words.specs.declared.LoadedState.the-variants.{Given, None}
 
+-- how many words a state has
 abbrev pub stateSize : ℕ
 stateSize = 44
 

@@ -7,7 +7,7 @@
 //    looked at again, or its twenty-five (`two_effects`).
 // A float is its word, and a bool is 1 or 0. Each public function is defined for all words and states.
 ghost use mathlib.Core.Path.{_≡_};
-ghost use Prim.Native.Nat.{_+_, _-_, _≤_, _<_};
+ghost use Prim.Native.Nat.{_+_, _≤_, _<_};
 ghost use lib.ListN.{length};
 ghost use Rattle.state_words.specs.SessionWords.{stateSize, pairAt, additiveAt, orderAt, parametersAt, progressAt, stateAt};
 ghost use Rattle.state_words.specs.SessionWords.{withSearch, loadedState, answer, flag, objectiveWords, progressWords, orderWords};
