@@ -115,7 +115,8 @@ struct curlewstand_tally {
     size_t cached_rows;
 };
 
-/* Opens a session: tally, cache, work and warm words are zeroed, and the state is written. */
+/* Opens a session: tally, cache, work and warm words are zeroed, and the state is written. Where fewer than
+ * CURLEWSTAND_STATE_WORDS words are lent for the state it is refused with 19, before 1 to 5 are tested. */
 uint32_t curlewstand_setup(struct curlewstand_setup setup,
                            const struct curlewstand_observation *observations, size_t n_observations,
                            const uint64_t *counts, size_t n_counts,
