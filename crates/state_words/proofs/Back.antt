@@ -31,7 +31,7 @@ use Rattle.search.specs.Subjects.{oneOf, twoOf, hasAdditive, additiveWord}
 use Rattle.search.specs.declared.SubjectSearch.{SubjectSearch}
 use Rattle.search.specs.declared.SubjectSearch.the-variants.{One, Two}
 use Rattle.session.specs.declared.State.{State}
-use Rattle.state_words.specs.SessionWords.{stateSize, bits, flag, stateWords, putFrom, savedState, objectiveWords, progressWords, orderWords, searchWords, at, pairAt}
+use Rattle.state_words.specs.SessionWords.{stateSize, bits, flag, stateWords, putFrom, savedState, objectiveWords, progressWords, orderWords, searchWords, at}
 use Rattle.state_words.specs.SessionWords.{additiveAt, parametersAt, progressAt, orderAt, stateAt, loadedSearch, withSearch, loadedState}
 use Rattle.state_words.proofs.Paths.{upTo18, eighteen}
 
@@ -292,7 +292,7 @@ module _ (s : State) (rest : List ℕ) where
   long = omega (arith, length-append (stateWords s) rest, state-length s)
 
   state-of : FitsState s → stateAt words (s .progress .search) ≡ s
-  unfolding stateAt parametersAt progressAt orderAt pairAt additiveAt stateWords objectiveWords progressWords orderWords
+  unfolding stateAt parametersAt progressAt orderAt two.pairAt additiveAt stateWords objectiveWords progressWords orderWords
   state-of f =
       let t = pair-back _ (f .theta) in
       let o = float-back _ (f .omega-fits) in

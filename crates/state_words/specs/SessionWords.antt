@@ -8,7 +8,6 @@ use lib.Ieee.{Float, binary64, toBits}
 use Rattle.float64.specs.Arithmetic.{word}
 use Rattle.float64.specs.Pick.{pick}
 use Rattle.float64.specs.Answer.{Answer, given, refused, through}
-use Rattle.matrix.specs.declared.Pair.{Pair}
 use Rattle.state_words.specs.SearchWords as one
 use Rattle.state_words.specs.SearchWords2 as two
 use Rattle.cache.specs.declared.CacheOrder.{CacheOrder}
@@ -31,24 +30,20 @@ stateSize = 44
 abbrev pub at : List ℕ → ℕ → ℕ
 at words i = getD words i 0
 
--- the pair of the two words from i on
-unfoldable pub pairAt : List ℕ → ℕ → Pair
-pairAt words i = record { first = word (at words i); second = word (at words (i + 1)) }
-
 unfoldable pub additiveAt : List ℕ → AdditiveSd
 additiveAt words = pick (eqb (at words 4) 1) (Override (word (at words 5))) Own
 
 unfoldable pub parametersAt : List ℕ → Parameters
-parametersAt words = record { theta = pairAt words 1; omega = word (at words 3); «additive_sd» = additiveAt words }
+parametersAt words = record { theta = two.pairAt words 1; omega = word (at words 3); «additive_sd» = additiveAt words }
 
 unfoldable pub progressAt : List ℕ → SubjectSearch → Progress
 progressAt words search =
     record {
       awaits = eqb (at words 0) 1;
-      individual = pairAt words 6;
+      individual = two.pairAt words 6;
       subject = at words 8;
       first = at words 9;
-      warm = pairAt words 10;
+      warm = two.pairAt words 10;
       search = search;
       ofv = word (at words 12);
       «eta_squares» = word (at words 13);

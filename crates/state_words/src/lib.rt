@@ -9,9 +9,10 @@
 ghost use mathlib.Core.Path.{_≡_};
 ghost use Prim.Native.Nat.{_+_, _≤_, _<_};
 ghost use lib.ListN.{length};
-ghost use Rattle.state_words.specs.SessionWords.{stateSize, pairAt, additiveAt, orderAt, parametersAt, progressAt, stateAt};
+ghost use Rattle.state_words.specs.SessionWords.{stateSize, additiveAt, orderAt, parametersAt, progressAt, stateAt};
 ghost use Rattle.state_words.specs.SessionWords.{withSearch, loadedState, answer, flag, objectiveWords, progressWords, orderWords};
 ghost use Rattle.state_words.specs.SessionWords.{searchWords, putFrom, savedState};
+ghost use Rattle.state_words.specs.SearchWords2.{pairAt};
 
 pub mod one_effect;
 pub mod two_effects;
@@ -37,6 +38,7 @@ pub enum LoadedState {
 
 // ---- the state of words
 
+// The pair of the two words from i on.
 fn pair_at(words: &[u64], i: usize) -> Pair
     requires { ⌜ i + 1 < length (now words) ⌝ }
     ensures { λ r. ⌜ r ≡ pairAt (now (words .entry)) i ⌝ }

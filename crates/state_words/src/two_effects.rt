@@ -5,9 +5,8 @@
 ghost use mathlib.Core.Path.{_≡_};
 ghost use Prim.Native.Nat.{_+_, _≤_, _<_};
 ghost use lib.ListN.{length};
-ghost use Rattle.state_words.specs.SearchWords2.{searchSize, pairAt, conditionalAt, wordsOf, stageOf, stageWord, saved};
+ghost use Rattle.state_words.specs.SearchWords2.{searchSize, conditionalAt, wordsOf, stageOf, stageWord, saved};
 ghost use Rattle.state_words.specs.SearchWords2.{loadedLent, loaded, answer};
-use matrix::Pair;
 use mode_2d::population_focei_2d::Conditional2;
 use mode_2d::population_focei_2d::Search2;
 use mode_2d::population_focei_2d::Stage2;
@@ -52,24 +51,13 @@ fn stage_word(stage: Stage2) -> u64
     }
 }
 
-// The pair of the two words from i on.
-fn pair_at(words: &[u64], i: usize) -> Pair
-    requires { ⌜ i + 1 < length (now words) ⌝ }
-    ensures { λ r. ⌜ r ≡ pairAt (now (words .entry)) i ⌝ }
-{
-    Pair {
-        first: float64::from_word(words[i]),
-        second: float64::from_word(words[i + 1]),
-    }
-}
-
 // The point of the nine words from i on.
 fn conditional_at(words: &[u64], i: usize) -> Conditional2
     requires { ⌜ i + 8 < length (now words) ⌝ }
     ensures { λ r. ⌜ r ≡ conditionalAt (now (words .entry)) i ⌝ }
 {
-    let eta = pair_at(words, i);
-    let score = pair_at(words, i + 3);
+    let eta = super::pair_at(words, i);
+    let score = super::pair_at(words, i + 3);
     Conditional2 {
         eta,
         nll: float64::from_word(words[i + 2]),
@@ -117,7 +105,7 @@ fn load_lent(words: &[u64]) -> Loaded2
     }
     let stage = stage_of(words[0]);
     let current = conditional_at(words, 4);
-    let trial = pair_at(words, 13);
+    let trial = super::pair_at(words, 13);
     let best = conditional_at(words, 16);
     Loaded2::Given(Search2 {
         stage,

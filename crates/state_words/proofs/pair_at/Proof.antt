@@ -1,7 +1,7 @@
 -- `pair_at` meets its contract. Assumes nothing.
 use borrow.Author.Needs.{needs}
 use Rattle.float64.proofs.Laws.{free}
-use Rattle.state_words.specs.SessionWords.{pairAt}
+use Rattle.state_words.specs.SearchWords2.{pairAt}
 use Rattle.state_words.proofs.pair_at.Statement.{statement}
 use Rattle.state_words.proofs.pair_at.Tie as tie
 
