@@ -4,8 +4,10 @@ use mathlib.Core.List.{List}
 use mathlib.Core.Logic.{_⊎_, ⊎-elim}
 use Prim.Native.Nat.{ℕ, zero, suc, _+_, _-_, _*_, _≤_, _<_}
 use native.Mathlib.Omega.{arith}
-use borrow.Author.Tests.{lt-ltb, le-ltb}
-use Rattle.float64.specs.Pick.{yes, no}
+use borrow.Author.Tests.{lt-ltb, le-ltb, ltb-false}
+use lib.Dec.{ltb}
+use Rattle.float64.specs.Pick.{yes, no, cases}
+use Rattle.cache.specs.declared.CacheOrder.{CacheOrder}
 use Rattle.cache.specs.Cache.{countOf, raised, order, evict}
 use Rattle.cache.specs.Kept.{cachedRows, dropTo, entryOf, keptFrom, Latest, Laid, Good}
 use Rattle.cache.proofs.Walked.{split, laid-count}
@@ -73,8 +75,15 @@ module _ (w : List ℕ) (k g : ℕ) where
 
     pub evict-ok : (m o b : ℕ) → Laid m w k o b g → Left m o b
     unfolding evict dropTo keptFrom
-    evict-ok zero o b L = record { count = zero; oldest = o; bottom = b; is = refl; later = omega arith; ends = refl; laid = L; fits = unfold Laid in (let z : b ≡ g = L in omega arith); list = refl }
+    evict-ok zero o b L = record { count = zero; oldest = o; bottom = g; is = refl; later = omega arith; ends = refl; laid = unfold Laid in refl; fits = omega arith; list = refl }
     evict-ok (suc m) o b L = ⊎-elim (λ (h : room < g - b). more m o b L h (evict-ok m (o + 1) (raised b g (countOf w k o)) (rest m o b L))) (λ (h : g - b ≤ room). stay m o b L h) (split room (g - b))
+
+-- whatever the words, at most `room` rows are left
+pub evict-few : (w : List ℕ) (k room e g m o b : ℕ) → g - evict m w k room e g o b .«first_row» ≤ room
+unfolding evict
+evict-few w k room e g zero o b = omega arith
+evict-few w k room e g (suc m) o b =
+    cases (λ (r : CacheOrder). g - r .«first_row» ≤ room) (ltb room (g - b)) (λ t. evict-few w k room e g m (o + 1) _) (λ t. ltb-false room (g - b) t)
 
 -- fewer entries are still good
 later-latest : (w : List ℕ) (k o o' h q e : ℕ) → o ≤ o' → Latest w k o h q e → Latest w k o' h q e

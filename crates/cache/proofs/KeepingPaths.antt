@@ -54,7 +54,7 @@ within c x h e = let m : x % c < c = mod-lt x h in omega arith
 
 -- ---- a turn of eviction; d is the number of rows left
 module _ (w : List ℕ) (k room next next-row oldest first-row : ℕ) where
-  pub evict-end : next ≤ oldest → order oldest next first-row next-row ≡ evict (next - oldest) w k room next next-row oldest first-row
+  pub evict-end : next ≤ oldest → order oldest next next-row next-row ≡ evict (next - oldest) w k room next next-row oldest first-row
   unfolding evict
   evict-end h = let z : next - oldest ≡ 0 = omega arith in ap (λ (m : ℕ). evict m w k room next next-row oldest first-row) (sym z)
 

@@ -2,6 +2,7 @@
 --     empty-stands      words whose heads are zero, with the positions 1 1 0 0, stand for the empty list
 --     insert-stands     insert drops the oldest until the new rows fit, and appends
 --     insert-none       an evaluation of more rows than the room changes nothing
+--     insert-bounded    the positions say at most k rows afterwards, whatever the words
 --     keys-once, rows-kept, rows-most    no key twice; next_row - first_row is the number of rows in the list, at most k
 use mathlib.Core.Path.{_≡_, refl, sym, ap, subst, _∙_}
 use mathlib.Core.Bool.{Bool, true, false}
@@ -20,7 +21,8 @@ use Rattle.cache.specs.declared.CacheOrder.{CacheOrder}
 use Rattle.cache.specs.Cache.{half, rowWords, latestOf, order, evict, written, placed, isKept, insert, Cache, after, isRoom, sameKey}
 use Rattle.cache.specs.Kept.{Entry, wordsFrom, keyOf, entryOf, keptFrom, Laid, Good, Stands, lookup, dropTo, cachedRows, Once}
 use Rattle.cache.proofs.Walked.{which, split, room-is, few-entries, lookup-none, agrees}
-use Rattle.cache.proofs.Dropped.{Left, evict-ok, dropped-good, laid-rows}
+use Rattle.cache.proofs.Dropped.{Left, evict-ok, evict-few, dropped-good, laid-rows}
+use Rattle.cache.proofs.KeepingPaths.{kept-says}
 use Rattle.cache.proofs.Placed.{Wrote, wrote, placed-good, placed-list}
 
 pub empty-stands : (w : List ℕ) (k : ℕ) → 1 ≤ k → k ≤ 100000 → 24 * k ≤ length w → ((h : ℕ) → h < k → getD w h 0 ≡ 0) → Stands w k (order 1 1 0 0) []
@@ -143,6 +145,18 @@ insert-none w k r key v n rows from h =
     let never : (b : Bool) → Type 0 = λ b. b ≡ false in
     pick-no (isKept k r n (length rows) from) _ _
     (cases never (isRoom k) {y = false} (λ _. cases never (eqb n 0) {x = false} (λ _. refl) (λ _. pick-yes (ltb k n) _ _ (lt-ltb k n h))) (λ _. refl))
+
+-- whatever the words and the positions
+pub insert-bounded : (w : List ℕ) (k : ℕ) (r : CacheOrder) (key : CacheKey) (v : CachedTerms) (n : ℕ) (rows : List ℕ) (from : ℕ) → r .«next_row» - r .«first_row» ≤ k
+    → insert w k r key v n rows from .order .«next_row» - insert w k r key v n rows from .order .«first_row» ≤ k
+unfolding insert placed
+insert-bounded w k r key v n rows from h =
+    cases (λ (c : Cache). c .order .«next_row» - c .order .«first_row» ≤ k) (isKept k r n (length rows) from)
+    (λ t.
+    let s : n ≤ k = kept-says k r n (length rows) from refl t .fits in
+    let f = evict-few w k (k - n) (r .next) (r .«next_row») (r .next - r .oldest) (r .oldest) (r .«first_row») in
+    omega (arith, s, f))
+    (λ t. h)
 
 -- ---- the list's own laws
 module _ (w : List ℕ) (k : ℕ) (r : CacheOrder) (l : List Entry) (S : Stands w k r l) where

@@ -20,7 +20,7 @@ use Rattle.cache.specs.Kept.{Entry, Stands, lookup, dropTo, foundEntry, 
 use Rattle.cache.specs.Kept.{keptWith, keptAfter}
 use Rattle.cache.specs.Claim.{Refinement}
 use Rattle.cache.proofs.Walked.{split, room-is, find-is-lookup}
-use Rattle.cache.proofs.Refine.{empty-stands, insert-stands, insert-counts, insert-none, keys-once, rows-kept, rows-most}
+use Rattle.cache.proofs.Refine.{empty-stands, insert-stands, insert-counts, insert-none, insert-bounded, keys-once, rows-kept, rows-most}
 
 abbrev On : ℕ → ℕ → Cache → List Entry → Type 0
 On k e t l = Stands (t .words) k (t .order) l × (t .order .next ≤ e)
@@ -115,6 +115,7 @@ refinement = record {
   keeps = λ w k r l S x a b c z. insert-stands w k r l S (x .key) (x .terms) (x .n) (x .rows) (x .from) (a .some-row) b (a .all-rows) c z;
   counts = λ w k r l S x a b c z. insert-counts w k r l S (x .key) (x .terms) (x .n) (x .rows) (x .from) (a .some-row) b (a .all-rows) c z;
   passes = λ w k r x h. insert-none w k r (x .key) (x .terms) (x .n) (x .rows) (x .from) h;
+  bounded = λ w k r x h. insert-bounded w k r (x .key) (x .terms) (x .n) (x .rows) (x .from) h;
   once = keys-once;
   rows = rows-kept;
   atMost = rows-most;

@@ -202,9 +202,9 @@ order oldest next first-row next-row = record { oldest = oldest; next = next; «
 unfoldable pub raised : ℕ → ℕ → ℕ → ℕ
 raised first-row next-row n = pick (ltb n (next-row - first-row)) (first-row + n) next-row
 
--- the oldest go until at most `room` rows are left
+-- the oldest go until at most `room` rows are left; where no entry is left there is no row
 unfoldable pub evict : ℕ → List ℕ → ℕ → ℕ → ℕ → ℕ → ℕ → ℕ → CacheOrder
-evict zero w k room next next-row oldest first-row = order oldest next first-row next-row
+evict zero w k room next next-row oldest first-row = order oldest next next-row next-row
 evict (suc n) w k room next next-row oldest first-row =
     pick (ltb room (next-row - first-row)) (evict n w k room next next-row (oldest + 1) (raised first-row next-row (countOf w k oldest)))
     (order oldest next first-row next-row)

@@ -41,6 +41,9 @@ pub record Refinement : Type 0 where
   pub once : (w : List ℕ) (k : ℕ) (r : CacheOrder) (l : List Entry) → Stands w k r l → Once l
   pub rows : (w : List ℕ) (k : ℕ) (r : CacheOrder) (l : List Entry) → Stands w k r l → r .«first_row» + cachedRows l ≡ r .«next_row»
   pub atMost : (w : List ℕ) (k : ℕ) (r : CacheOrder) (l : List Entry) → Stands w k r l → cachedRows l ≤ k
+  -- whatever the words and the positions: where these say at most k rows, they say so afterwards
+  pub bounded : (w : List ℕ) (k : ℕ) (r : CacheOrder) (x : Evaluated) → r .«next_row» - r .«first_row» ≤ k
+      → insertOf w k r x .order .«next_row» - insertOf w k r x .order .«first_row» ≤ k
   -- so after any list of evaluations, each looked up and kept where it is not found
   pub run : (k : ℕ) (xs : List Evaluated) (t : Cache) (l : List Entry) → AllLent xs → Stands (t .words) k (t .order) l
       → t .order .next + length xs < half

@@ -38,7 +38,7 @@ fn raised(first_row: usize, next_row: usize, n: usize) -> usize
     next_row
 }
 
-// Drops the oldest entries until at most `room` rows are left.
+// Drops the oldest entries until at most `room` rows are left. Where no entry is left there is no row.
 fn evict(words: &[u64], k: usize, room: usize, order: CacheOrder) -> CacheOrder
     requires { ⌜ (0 < k) × (k ≤ 100000) ⌝ }
     ensures { λ r. ⌜ r ≡ evict (order .next - order .oldest) (now (words .entry)) k room
@@ -64,7 +64,7 @@ fn evict(words: &[u64], k: usize, room: usize, order: CacheOrder) -> CacheOrder
     CacheOrder {
         oldest,
         next,
-        first_row,
+        first_row: next_row,
         next_row,
     }
 }

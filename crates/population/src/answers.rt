@@ -46,8 +46,8 @@ pub fn keep(
     }
 }
 
-// The number of rows that are kept.
-fn cached_rows(order: CacheOrder) -> usize
+// The number of rows that are kept, by the positions of the kept evaluations.
+pub fn cached_rows(order: CacheOrder) -> usize
     ensures { λ r. ⌜ r ≡ orderRows order ⌝ }
 {
     if order.first_row < order.next_row {

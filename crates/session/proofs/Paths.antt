@@ -22,8 +22,9 @@ use Rattle.setup.specs.declared.Setup.{Setup}
 use Rattle.search.specs.Subjects.{oneOf, twoOf, beginSubject}
 use Rattle.search.specs.declared.Progress.{Progress}
 use Rattle.search.specs.declared.Tally.{Tally}
+use Rattle.population.specs.Kept.{orderRows}
 use Rattle.population.specs.Population.{rowsOf}
-use Rattle.session.specs.Calls.{firstState, admitObjective, trialBy}
+use Rattle.session.specs.Calls.{firstState, stands, admitObjective, trialBy}
 use Rattle.session.specs.Session.{countWithin, searchWithin, searchWithin2, isPlaced, isStanding}
 use Rattle.session.specs.declared.State.{State}
 
@@ -53,6 +54,16 @@ module _ (effects : ℕ) (counts : List ℕ) (n : ℕ) (p : Progress) where
     unfolding isPlaced
     placed l one ex q = yes _ (lt-ltb _ _ inside) (no _ (le-ltb _ _ (fit l)) (no _ (ne-eqb _ _ one) (q ∙ ap searchWithin ex)))
 
+-- ---- the kept rows; r is what `cached_rows` answered
+module _ (setup : Setup) (counts : List ℕ) (n : ℕ) (state : State) (tally : Tally) {r : ℕ} (l : tally .«cached_rows» .0 ≤ setup .k) (e : r ≡ orderRows (state .order)) where
+  pub too-many-kept : setup .k < r → false ≡ stands setup counts n state tally
+  unfolding isStanding
+  too-many-kept m = no _ (le-ltb _ _ l) (yes _ (lt-ltb _ _ (subst (λ (x : ℕ). setup .k < x) e m)) refl)
+
+  pub few-kept : {b : Bool} → r ≤ setup .k → b ≡ isPlaced (setup .effects) counts n (state .progress) → b ≡ stands setup counts n state tally
+  unfolding isStanding
+  few-kept m q = no _ (le-ltb _ _ l) (no _ (le-ltb _ _ (subst (λ (x : ℕ). x ≤ setup .k) e m)) q)
+
 -- ---- the first state; p is what `begin_subject` answered
 pub first-made : (setup : Setup) {p : Progress} → p ≡ beginSubject (setup .effects) 0 0 (record { first = word 0; second = word 0 }) (word 0) (word 0)
     → record { parameters = record { theta = record { first = word 0; second = word 0 }; omega = setup .omega00; «additive_sd» = setup .«additive_sd» }; progress = p; order = order 1 1 0 0 } ≡
@@ -66,18 +77,18 @@ first-made setup e =
     }) e
 
 -- ---- what lets a new objective in: 19, then 1 to 5; b is what `is_standing` answered
-module _ (setup : Setup) (counts : List ℕ) (lent : Lent) (check : Check) (parameters : Parameters) (progress : Progress) (tally : Tally) where
-  pub objective-awaits : progress .awaits ≡ true → A.Refused 19 ≡ admitObjective setup counts lent check parameters progress tally
+module _ (setup : Setup) (counts : List ℕ) (lent : Lent) (check : Check) (parameters : Parameters) (state : State) (tally : Tally) where
+  pub objective-awaits : state .progress .awaits ≡ true → A.Refused 19 ≡ admitObjective setup counts lent check parameters state tally
   unfolding admitObjective
   objective-awaits e = yes _ e refl
 
-  module _ {b : Bool} (e : progress .awaits ≡ false) (q : b ≡ isStanding setup counts (lent .observations) tally progress) where
+  module _ {b : Bool} (e : state .progress .awaits ≡ false) (q : b ≡ stands setup counts (lent .observations) state tally) where
     pub objective-checked : {own : Setup} {a : Admission} → b ≡ true → own ≡ withParameters setup parameters → a ≡ checks own counts lent check → a ≡ admitObjective setup counts lent check parameters
-        progress tally
+        state tally
     unfolding admitObjective
     objective-checked t o d = no _ e (yesOf _ q t (d ∙ ap (λ (s : Setup). checks s counts lent check) o))
 
-    pub objective-unplaced : b ≡ false → A.Refused 19 ≡ admitObjective setup counts lent check parameters progress tally
+    pub objective-unplaced : b ≡ false → A.Refused 19 ≡ admitObjective setup counts lent check parameters state tally
     unfolding admitObjective
     objective-unplaced f = no _ e (noOf _ q f refl)
 

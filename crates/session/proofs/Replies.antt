@@ -20,30 +20,28 @@ use Rattle.setup.specs.SubjectChecks.{subjectChecks}
 use Rattle.search.proofs.Fits.{own-fit}
 use Rattle.search.specs.Subjects.{fitIn, fitOf, wantedBy}
 use Rattle.search.specs.declared.Fit.{Fit}
-use Rattle.search.specs.declared.Progress.{Progress}
 use Rattle.search.specs.declared.Tally.{Tally}
 use Rattle.search.specs.declared.Wanted.{Wanted}
 use Rattle.search.specs.declared.Wanted.the-variants as Wants
 use Rattle.population.specs.Population.{rowsOf}
-use Rattle.session.specs.Calls.{awaitedPoint, unawaited, awaitedFor, admitAwaited, trialBy, nothingAdmitted, admittedOver, admitReply}
-use Rattle.session.specs.Session.{isStanding}
+use Rattle.session.specs.Calls.{stands, awaitedPoint, unawaited, awaitedFor, admitAwaited, trialBy, nothingAdmitted, admittedOver, admitReply}
 use Rattle.session.specs.declared.Admitted.{Admitted}
 use Rattle.session.specs.declared.Awaited.{Awaited}
 use Rattle.session.specs.declared.State.{State}
 use Rattle.session.specs.SubjectReply.{subjectAwaited, admitSubjectReply}
 
 -- ---- the point that is awaited; b is what `is_standing` answered
-module _ (setup : Setup) (counts : List ℕ) (n : ℕ) (fit : Fit) (progress : Progress) (tally : Tally) where
-  pub unasked : progress .awaits ≡ false → Wants.Refused 19 ≡ awaitedPoint setup counts n fit progress tally
+module _ (setup : Setup) (counts : List ℕ) (n : ℕ) (fit : Fit) (state : State) (tally : Tally) where
+  pub unasked : state .progress .awaits ≡ false → Wants.Refused 19 ≡ awaitedPoint setup counts n fit state tally
   unfolding awaitedPoint
   unasked e = no _ e refl
 
-  module _ {b : Bool} (e : progress .awaits ≡ true) (q : b ≡ isStanding setup counts n tally progress) where
-    pub unplaced : b ≡ false → Wants.Refused 19 ≡ awaitedPoint setup counts n fit progress tally
+  module _ {b : Bool} (e : state .progress .awaits ≡ true) (q : b ≡ stands setup counts n state tally) where
+    pub unplaced : b ≡ false → Wants.Refused 19 ≡ awaitedPoint setup counts n fit state tally
     unfolding awaitedPoint
     unplaced f = yes _ e (noOf _ q f refl)
 
-    pub asked : {wanted : Wanted} → b ≡ true → wanted ≡ wantedBy fit progress → wanted ≡ awaitedPoint setup counts n fit progress tally
+    pub asked : {wanted : Wanted} → b ≡ true → wanted ≡ wantedBy fit (state .progress) → wanted ≡ awaitedPoint setup counts n fit state tally
     unfolding awaitedPoint
     asked t w = yes _ e (yesOf _ q t w)
 
@@ -70,16 +68,16 @@ module _ (setup : Setup) (state : State) {own : Setup} {fit : Fit} (eo : own ≡
       e ∙ (λ i. awaitedFor (f i) ((d ∙ ap judged eo) i) ((w ∙ ap wants f) i))
 
   module _ (counts : List ℕ) (lent : Lent) (check : Check) (tally : Tally) {wanted : Wanted} {a : Admission} {r : Awaited} where
-    pub awaited-by : wanted ≡ awaitedPoint setup counts (lent .observations) fit (state .progress) tally → a ≡ checks own counts lent check → r ≡ awaitedFor fit a wanted
+    pub awaited-by : wanted ≡ awaitedPoint setup counts (lent .observations) fit state tally → a ≡ checks own counts lent check → r ≡ awaitedFor fit a wanted
         → r ≡ admitAwaited setup counts lent check state tally
     unfolding admitAwaited
-    awaited-by w d e = awaited-own (λ f. awaitedPoint setup counts (lent .observations) f (state .progress) tally) (λ s. checks s counts lent check) w d e
+    awaited-by w d e = awaited-own (λ f. awaitedPoint setup counts (lent .observations) f state tally) (λ s. checks s counts lent check) w d e
 
-    pub subject-awaited : wanted ≡ awaitedPoint setup counts 100000 fit (state .progress) tally → a ≡ subjectChecks own counts (state .progress .subject) lent check → r ≡ awaitedFor fit a wanted
+    pub subject-awaited : wanted ≡ awaitedPoint setup counts 100000 fit state tally → a ≡ subjectChecks own counts (state .progress .subject) lent check → r ≡ awaitedFor fit a wanted
         → r ≡ subjectAwaited setup counts lent check state tally
     unfolding subjectAwaited
     subject-awaited w d e =
-        awaited-own (λ f. awaitedPoint setup counts 100000 f (state .progress) tally) (λ s. subjectChecks s counts (state .progress .subject) lent check) w d e
+        awaited-own (λ f. awaitedPoint setup counts 100000 f state tally) (λ s. subjectChecks s counts (state .progress .subject) lent check) w d e
 
 -- ---- what is begun with a reply; v is the admission that `awaited` has
 module _ (setup : Setup) (trial : Trial) (reply : List ℕ) (awaited : Awaited) (from to : ℕ) {v : Admission} (t : awaited .admission ≡ v) where

@@ -1,4 +1,5 @@
 -- The calls as the code has them, over the lent words of the kept evaluations.
+use mathlib.Core.Bool.{Bool}
 use mathlib.Core.List.{List, []}
 use Prim.Native.Nat.{ℕ, _+_}
 use lib.IntN.{pos}
@@ -33,7 +34,7 @@ use Rattle.search.specs.declared.Step.the-variants.{Refused}
 use Rattle.search.specs.declared.Wanted.{Wanted}
 use Rattle.search.specs.declared.Wanted.the-variants as Wants
 use Rattle.machine.specs.Machine.{Moved, Ran, ran, onward, loop}
-use Rattle.population.specs.Kept.{cacheOf, words}
+use Rattle.population.specs.Kept.{cacheOf, orderRows, words}
 use Rattle.population.specs.Population.{rowsOf, warmOf, wholeOf, turn, spent}
 use Rattle.session.specs.Session.{Held, held, fuel, isStanding, whenAdmitted, opened, replied, turnHeld}
 use Rattle.session.specs.declared.State.{State}
@@ -132,18 +133,24 @@ startOf parameters warm effects order = record {
   order = order;
 }
 
-unfoldable pub admitObjective : Setup → List ℕ → Lent → Check → Parameters → Progress → Tally → Admission
-admitObjective setup counts lent check parameters progress tally =
-    pick (progress .awaits) (A.Refused 19)
-    (pick (isStanding setup counts (lent .observations) tally progress) (checks (withParameters setup parameters) counts lent check)
+-- 19, of a state with so many observations lent
+abbrev pub stands : Setup → List ℕ → ℕ → State → Tally → Bool
+stands setup counts n state tally = isStanding setup counts n tally (orderRows (state .order)) (state .progress)
+
+unfoldable pub admitObjective : Setup → List ℕ → Lent → Check → Parameters → State → Tally → Admission
+admitObjective setup counts lent check parameters state tally =
+    pick (state .progress .awaits) (A.Refused 19)
+    (pick (stands setup counts (lent .observations) state tally) (checks (withParameters setup parameters) counts lent check)
     (A.Refused 19))
 
 -- ---- a reply, and its failure
 
 -- 19: a reply is awaited, and the positions are within the subjects, n observations and the search's limits; then what the search wants
-unfoldable pub awaitedPoint : Setup → List ℕ → ℕ → Fit → Progress → Tally → Wanted
-awaitedPoint setup counts n fit progress tally =
-    pick (progress .awaits) (pick (isStanding setup counts n tally progress) (wantedBy fit progress) (Wants.Refused 19)) (Wants.Refused 19)
+unfoldable pub awaitedPoint : Setup → List ℕ → ℕ → Fit → State → Tally → Wanted
+awaitedPoint setup counts n fit state tally =
+    pick (state .progress .awaits)
+    (pick (stands setup counts n state tally) (wantedBy fit (state .progress)) (Wants.Refused 19))
+    (Wants.Refused 19)
 
 abbrev pub unawaited : Fit → Awaited
 unawaited fit = record { admission = A.Refused 19; eta = record { first = word 0; second = word 0 }; fit = fit }
@@ -158,7 +165,7 @@ unfoldable pub admitAwaited : Setup → List ℕ → Lent → Check → State �
 admitAwaited setup counts lent check state tally =
     let fit = fitOf setup (state .parameters) in
     awaitedFor fit (checks (withParameters setup (state .parameters)) counts lent check)
-    (awaitedPoint setup counts (lent .observations) fit (state .progress) tally)
+    (awaitedPoint setup counts (lent .observations) fit state tally)
 
 abbrev pub trialBy : Setup → State → ℕ → Trial
 trialBy setup state rows = record {

@@ -78,9 +78,16 @@ isPlaced effects counts observations p =
     (pick (eqb effects 2) (searchWithin2 (twoOf (p .search))) (searchWithin (oneOf (p .search)))))
     false
 
--- and kept rows at most K, with n observations lent
-unfoldable pub isStanding : Setup → List ℕ → ℕ → Tally → Progress → Bool
-isStanding setup counts n tally p = pick (ltb (setup .k) (tally .«cached_rows» .0)) false (isPlaced (setup .effects) counts n p)
+-- and kept rows at most K, those of the tally and those by the positions of the kept evaluations (rows), with n observations lent
+unfoldable pub isStanding : Setup → List ℕ → ℕ → Tally → ℕ → Progress → Bool
+isStanding setup counts n tally rows p =
+    pick (ltb (setup .k) (tally .«cached_rows» .0)) false
+    (pick (ltb (setup .k) rows) false
+    (isPlaced (setup .effects) counts n p))
+
+-- of all that a call takes
+abbrev pub standing : (S : Store) → Setup → List ℕ → ℕ → Whole S → Bool
+standing S setup counts n w = isStanding setup counts n (w .tally) (S .rows (w .kept)) (w .progress)
 
 abbrev pub lentOf : (S : Store) → Setup → ℕ → Whole S → Lent
 lentOf S setup n w = record {
@@ -176,7 +183,7 @@ module _ (S : Store) (setup : Setup) (counts : List ℕ) (n : ℕ) (check : Chec
   unfoldable pub enterObjective : Parameters → Held S → Moved (Held S) Step
   enterObjective parameters h =
       pick (h .whole .progress .awaits) (unaltered S 19 At.Nowhere h)
-      (pick (isStanding setup counts n (h .whole .tally) (h .whole .progress))
+      (pick (standing S setup counts n (h .whole))
       (whenAdmitted S h (on (begun S setup counts parameters (h .whole))) (admitted parameters (h .whole)))
       (unaltered S 19 At.Nowhere h))
 
@@ -189,7 +196,7 @@ module _ (S : Store) (setup : Setup) (counts : List ℕ) (n : ℕ) (check : Chec
   unfoldable pub whenAwaited : Held S → (Pair → Moved (Held S) Step) → Moved (Held S) Step
   whenAwaited h go =
       pick (h .whole .progress .awaits)
-      (pick (isStanding setup counts n (h .whole .tally) (h .whole .progress))
+      (pick (standing S setup counts n (h .whole))
       (atWanted h go (wantedBy (fitOf setup (h .parameters)) (h .whole .progress))) (unaltered S 19 At.Nowhere h))
       (unaltered S 19 At.Nowhere h)
 

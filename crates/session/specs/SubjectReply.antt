@@ -21,7 +21,7 @@ unfoldable pub subjectAwaited : Setup → List ℕ → Lent → Check → State 
 subjectAwaited setup counts lent check state tally =
     let fit = fitOf setup (state .parameters) in
     awaitedFor fit (subjectChecks (withParameters setup (state .parameters)) counts (state .progress .subject) lent check)
-    (awaitedPoint setup counts mostRows fit (state .progress) tally)
+    (awaitedPoint setup counts mostRows fit state tally)
 
 unfoldable pub admitSubjectReply : Setup → List ℕ → Lent → Check → State → Tally → List ℕ → Admitted
 admitSubjectReply setup counts lent check state tally reply =

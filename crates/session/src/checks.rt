@@ -5,9 +5,9 @@ ghost use mathlib.Core.Path.{_≡_};
 ghost use Prim.Native.Nat.{_+_};
 ghost use lib.ListN.{length};
 ghost use Rattle.words.specs.Words.{smaller};
-ghost use Rattle.session.specs.Calls.{admitObjective, awaitedPoint, unawaited, awaitedFor, admitAwaited, trialBy, nothingAdmitted};
+ghost use Rattle.session.specs.Calls.{stands, admitObjective, awaitedPoint, unawaited, awaitedFor, admitAwaited, trialBy, nothingAdmitted};
 ghost use Rattle.session.specs.Calls.{unadmitted, admittedOver, admitReply};
-ghost use Rattle.session.specs.Session.{countWithin, searchWithin, searchWithin2, isPlaced, isStanding};
+ghost use Rattle.session.specs.Session.{countWithin, searchWithin, searchWithin2, isPlaced};
 ghost use Rattle.session.specs.SubjectReply.{admitSubjectReply};
 use super::Admitted;
 use super::Awaited;
@@ -82,20 +82,24 @@ fn is_placed(effects: u32, counts: &[u64], observations: usize, progress: Progre
     false
 }
 
-// Whether the state's positions are in range as for `is_placed`, and the kept rows are at most K.
+// Whether the state's positions are in range as for `is_placed`, and the kept rows are at most K, those of the
+// tally and those by the positions of the kept evaluations.
 fn is_standing(
     setup: Setup,
     counts: &[u64],
     observations: usize,
+    state: State,
     tally: Tally,
-    progress: Progress,
 ) -> bool
-    ensures { λ r. ⌜ r ≡ isStanding setup (now (counts .entry)) observations tally progress ⌝ }
+    ensures { λ r. ⌜ r ≡ stands setup (now (counts .entry)) observations state tally ⌝ }
 {
     if setup.k < tally.cached_rows.0 {
         return false;
     }
-    is_placed(setup.effects, counts, observations, progress)
+    if setup.k < population::answers::cached_rows(state.order) {
+        return false;
+    }
+    is_placed(setup.effects, counts, observations, state.progress)
 }
 
 // ---- a new objective
@@ -104,18 +108,18 @@ fn is_standing(
 pub fn admit_objective(
     setup: Setup,
     parameters: Parameters,
-    progress: Progress,
+    state: State,
     tally: Tally,
     check: Check,
     lent: Lent,
     counts: &[u64],
 ) -> Admission
-    ensures { λ r. ⌜ r ≡ admitObjective setup (now (counts .entry)) lent check parameters progress tally ⌝ }
+    ensures { λ r. ⌜ r ≡ admitObjective setup (now (counts .entry)) lent check parameters state tally ⌝ }
 {
-    if progress.awaits {
+    if state.progress.awaits {
         return Admission::Refused(19);
     }
-    if is_standing(setup, counts, lent.observations, tally, progress) {
+    if is_standing(setup, counts, lent.observations, state, tally) {
         let own = setup::with_parameters(setup, parameters);
         return setup::checks::checks(own, counts, lent, check);
     }
@@ -129,16 +133,16 @@ pub fn admit_objective(
 fn awaited_point(
     setup: Setup,
     fit: Fit,
-    progress: Progress,
+    state: State,
     tally: Tally,
     counts: &[u64],
     observations: usize,
 ) -> Wanted
-    ensures { λ r. ⌜ r ≡ awaitedPoint setup (now (counts .entry)) observations fit progress tally ⌝ }
+    ensures { λ r. ⌜ r ≡ awaitedPoint setup (now (counts .entry)) observations fit state tally ⌝ }
 {
-    if progress.awaits {
-        if is_standing(setup, counts, observations, tally, progress) {
-            return search::points::wanted_by(fit, progress);
+    if state.progress.awaits {
+        if is_standing(setup, counts, observations, state, tally) {
+            return search::points::wanted_by(fit, state.progress);
         }
         return Wanted::Refused(19);
     }
@@ -187,7 +191,7 @@ pub fn admit_awaited(
 {
     let own = setup::with_parameters(setup, state.parameters);
     let fit = search::fit_of(own, state.parameters.theta);
-    let wanted = awaited_point(setup, fit, state.progress, tally, counts, lent.observations);
+    let wanted = awaited_point(setup, fit, state, tally, counts, lent.observations);
     awaited_for(fit, wanted, setup::checks::checks(own, counts, lent, check))
 }
 
@@ -286,7 +290,7 @@ pub fn admit_subject_reply(
 {
     let own = setup::with_parameters(setup, state.parameters);
     let fit = search::fit_of(own, state.parameters.theta);
-    let wanted = awaited_point(setup, fit, state.progress, tally, counts, work::MOST_ROWS);
+    let wanted = awaited_point(setup, fit, state, tally, counts, work::MOST_ROWS);
     let subject = state.progress.subject;
     let admission = setup::checks::subject_checks(own, counts, subject, lent, check);
     let awaited = awaited_for(fit, wanted, admission);

@@ -40,9 +40,9 @@ use Rattle.population.specs.Through.{taken}
 use Rattle.population.specs.declared.kept_points.InHand.the-variants as Hand
 use Rattle.population.specs.Steps.{wholeFrom}
 use Rattle.population.proofs.StepsPaths.{begun-own}
-use Rattle.session.specs.Calls.{heldOf, called, runIn, entered, enteredIn, lentBy, refusedAs, endedAs, firstState, Setting, begunWith, opening, openedBy, startOf, admitObjective}
+use Rattle.session.specs.Calls.{heldOf, called, runIn, entered, enteredIn, lentBy, refusedAs, endedAs, firstState, Setting, begunWith, opening, openedBy, startOf, stands, admitObjective}
 use Rattle.session.specs.Calls.{awaitedPoint, awaitedFor, admitAwaited, followed, finishReply}
-use Rattle.session.specs.Session.{Held, held, fuel, noTally, isStanding, lentOf, whenAdmitted, begun, admitted, enterObjective, atWanted, whenAwaited, enterFailure, over, replied, unaltered}
+use Rattle.session.specs.Session.{Held, held, fuel, noTally, lentOf, whenAdmitted, begun, admitted, enterObjective, atWanted, whenAwaited, enterFailure, over, replied, unaltered}
 use Rattle.session.proofs.Loops.{run-held}
 use Rattle.session.specs.declared.Awaited.{Awaited}
 use Rattle.session.specs.declared.Called.{Called}
@@ -119,21 +119,21 @@ module _ (setup : Setup) (counts : List ℕ) (n : ℕ) (check : Check) (paramete
   h = heldOf state tally cache work warm results
 
   enters : enterObjective words setup counts n check parameters h
-      ≡ whenAdmitted words h (on (begun words setup counts parameters (h .whole))) (admitObjective setup counts (lentOf words setup n (h .whole)) check parameters (state .progress) tally)
+      ≡ whenAdmitted words h (on (begun words setup counts parameters (h .whole))) (admitObjective setup counts (lentOf words setup n (h .whole)) check parameters state tally)
   unfolding enterObjective admitObjective admitted whenAdmitted
   enters =
       let f : Admission → Moved (Held words) Step = whenAdmitted words h (on (begun words setup counts parameters (h .whole))) in
       let checked = checks (withParameters setup parameters) counts (lentOf words setup n (h .whole)) check in
-      let stands = isStanding setup counts n tally (state .progress) in
-      ap (pick (state .progress .awaits) (unaltered words 19 At.Nowhere h)) (through-pick f stands checked (A.Refused 19))
-      ∙ through-pick f (state .progress .awaits) (A.Refused 19) (pick stands checked (A.Refused 19))
+      let standing = stands setup counts n state tally in
+      ap (pick (state .progress .awaits) (unaltered words 19 At.Nowhere h)) (through-pick f standing checked (A.Refused 19))
+      ∙ through-pick f (state .progress .awaits) (A.Refused 19) (pick standing checked (A.Refused 19))
 
   pub objective-enters : {lent : Lent} {a : Admission} → lent ≡ lentBy n (length cache) (length work) (length warm) (length results) → a ≡ admitObjective setup counts lent check parameters
-      (state .progress) tally
+      state tally
       → enterObjective words setup counts n check parameters h ≡ whenAdmitted words h (on (begun words setup counts parameters (h .whole))) a
   objective-enters el ea =
       enters ∙ ap (whenAdmitted words h (on (begun words setup counts parameters (h .whole)))) (sym
-      (ea ∙ ap (λ (l : Lent). admitObjective setup counts l check parameters (state .progress) tally) el))
+      (ea ∙ ap (λ (l : Lent). admitObjective setup counts l check parameters state tally) el))
 
   -- the start, as the code makes it, with nothing in hand
   pub objective-starts : {s : State} {fit : Fit} {z : Ran (Held words) Step} → fit ≡ fitOf setup parameters → s ≡ startOf parameters warm (setup .effects) (state .order)
@@ -174,11 +174,11 @@ module _ (setup : Setup) (counts : List ℕ) (n : ℕ) (check : Check) (state : 
   unfolding whenAwaited admitAwaited awaitedPoint awaitedFor goes whenAdmitted
   all-goes =
       let w = wantedBy fit (state .progress) in
-      let stands = isStanding setup counts n tally (state .progress) in
+      let standing = stands setup counts n state tally in
       let out = unaltered words 19 At.Nowhere at in
-      ap (λ (m : Moved (Held words) Step). pick (state .progress .awaits) (pick stands m out) out) (wanted-goes w)
-      ∙ ap (λ (m : Moved (Held words) Step). pick (state .progress .awaits) m out) (through-pick goes-for stands w (Wants.Refused 19))
-      ∙ through-pick goes-for (state .progress .awaits) (pick stands w (Wants.Refused 19)) (Wants.Refused 19)
+      ap (λ (m : Moved (Held words) Step). pick (state .progress .awaits) (pick standing m out) out) (wanted-goes w)
+      ∙ ap (λ (m : Moved (Held words) Step). pick (state .progress .awaits) m out) (through-pick goes-for standing w (Wants.Refused 19))
+      ∙ through-pick goes-for (state .progress .awaits) (pick standing w (Wants.Refused 19)) (Wants.Refused 19)
 
   pub awaited-enters : {a : Awaited} {lent : Lent} → lent ≡ lentHere → a ≡ admitAwaited setup counts lent check state tally → whenAwaited words setup counts n check at go ≡ whenAdmitted
       words at (go (a .eta)) (a .admission)

@@ -38,9 +38,9 @@ use Rattle.search.specs.declared.Step.the-variants.{Refused}
 use Rattle.search.specs.declared.Tally.{Tally}
 use Rattle.search.specs.declared.Wanted.{Wanted}
 use Rattle.machine.specs.Machine.{Moved, halt, Ran, call}
-use Rattle.population.specs.Kept.{words, cacheOf}
+use Rattle.population.specs.Kept.{words, cacheOf, orderRows}
 use Rattle.population.specs.Population.{rowsOf, wholeOf}
-use Rattle.session.specs.Calls.{heldOf, entered, lentBy, awaitedPoint, awaitedFor, admitAwaited, trialBy, admittedOver, admitReply, finishReply}
+use Rattle.session.specs.Calls.{heldOf, entered, lentBy, stands, awaitedPoint, awaitedFor, admitAwaited, trialBy, admittedOver, admitReply, finishReply}
 use Rattle.session.specs.Session.{Held, held, Call, isPlaced, isStanding, whenAdmitted, over, replied, enterObjective, whenAwaited, enterFailure, allChecked, evaluated, answered}
 use Rattle.session.specs.Session.{enterReply, enter, objective, reply, failure, session}
 use Rattle.session.proofs.Loops.{awaited-fit, own-finish}
@@ -81,11 +81,11 @@ placed-within effects counts n p =
     (λ _. cases Fits (ltb n (p .first + rowsOf counts (p .subject))) (λ _ e. never e) (λ f _. ltb-false n (p .first + rowsOf counts (p .subject)) f))
     (λ _ e. never e)
 
-standing-within : (setup : Setup) (counts : List ℕ) (n : ℕ) (tally : Tally) (p : Progress) → isStanding setup counts n tally p ≡ true → p .first + rowsOf counts (p .subject) ≤ n
+standing-within : (setup : Setup) (counts : List ℕ) (n : ℕ) (tally : Tally) (rows : ℕ) (p : Progress) → isStanding setup counts n tally rows p ≡ true → p .first + rowsOf counts (p .subject) ≤ n
 unfolding isStanding
-standing-within setup counts n tally p =
+standing-within setup counts n tally rows p =
     let Fits : Bool → Type 0 = λ b. b ≡ true → p .first + rowsOf counts (p .subject) ≤ n in
-    cases Fits (ltb (setup .k) (tally .«cached_rows» .0)) (λ _ e. never e) (λ _ e. placed-within (setup .effects) counts n p e)
+    cases Fits (ltb (setup .k) (tally .«cached_rows» .0)) (λ _ e. never e) (λ _. cases Fits (ltb (setup .k) rows) (λ _ e. never e) (λ _ e. placed-within (setup .effects) counts n p e))
 
 awaited-within : (setup : Setup) (counts : List ℕ) (lent : Lent) (check : Check) (state : State) (tally : Tally) → admitAwaited setup counts lent check state tally .admission ≡ A.Accepted
     → state .progress .first + rowsOf counts (state .progress .subject) ≤ lent .observations
@@ -95,7 +95,7 @@ awaited-within setup counts lent check state tally =
     let judged = checks (withParameters setup (state .parameters)) counts lent check in
     let Fits : Wanted → Type 0 = λ w. awaitedFor fit judged w .admission ≡ A.Accepted → state .progress .first + rowsOf counts (state .progress .subject) ≤ lent .observations in
     cases Fits (state .progress .awaits)
-    (λ _. cases Fits (isStanding setup counts (lent .observations) tally (state .progress)) (λ s _. standing-within setup counts (lent .observations) tally (state .progress) s)
+    (λ _. cases Fits (stands setup counts (lent .observations) state tally) (λ s _. standing-within setup counts (lent .observations) tally (orderRows (state .order)) (state .progress) s)
     (λ _ e. refused-never 19 e))
     (λ _ e. refused-never 19 e)
 

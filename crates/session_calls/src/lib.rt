@@ -168,16 +168,7 @@ pub fn begin_objective(
         (heldOf state tally (now (cache .entry)) (now (work .entry)) (now (warm .entry)) (now (results .entry)))) ⌝ }
 {
     let lent = session::lent_by(observations, cache, work, warm, results);
-    let progress = state.progress;
-    match session::checks::admit_objective(
-        setup,
-        parameters,
-        progress,
-        tally,
-        check,
-        lent,
-        counts,
-    ) {
+    match session::checks::admit_objective(setup, parameters, state, tally, check, lent, counts) {
         Admission::Accepted => {
             let own = setup::with_parameters(setup, parameters);
             let fit = search::fit_of(own, parameters.theta);

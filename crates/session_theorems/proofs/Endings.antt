@@ -86,8 +86,8 @@ pub record Tells (N : ℕ → Type 0) (Refuses : ℕ → Place → ℕ → Type 
   pub mode : (n i : ℕ) → 16 ≤ n → n ≤ 17 → Refuses n (At.Subject i) c
   pub total : Refuses 18 At.Nowhere c
 
--- ---- a call with L work words lent, and c evaluations in the tally
-module _ (N : ℕ → Type 0) (Refuses : ℕ → Place → ℕ → Type 0) (setup : Setup) (counts : List ℕ) (L c : ℕ) (tells : Tells N Refuses (setup .«max_evaluations») c) where
+-- ---- a call with L work words lent, c evaluations in the tally, and at most R kept rows
+module _ (N : ℕ → Type 0) (Refuses : ℕ → Place → ℕ → Type 0) (setup : Setup) (counts : List ℕ) (L c R : ℕ) (tells : Tells N Refuses (setup .«max_evaluations») c) where
   abbrev most : ℕ
   most = setup .«max_evaluations»
 
@@ -106,6 +106,7 @@ module _ (N : ℕ → Type 0) (Refuses : ℕ → Place → ℕ → Type 0) (setu
   pub record Answered (a : Step) (t : Held words) : Type 0 where
     pub says : Says a (t .whole .progress .awaits) (t .whole .tally .calls .0)
     pub zeroed : B.isOver a ≡ true → t .whole .work ≡ zeros L
+    pub rows : t .whole .tally .«cached_rows» .0 ≤ R
 
   -- the search has at most `left` points to ask for, and every subject after it 6,343 and its end
   pub record Ahead (n : ℕ) (p : Progress) : Type 0 where
@@ -118,6 +119,7 @@ module _ (N : ℕ → Type 0) (Refuses : ℕ → Place → ℕ → Type 0) (setu
     pub ahead : Ahead n (h .whole .progress)
     pub work : length (h .whole .work) ≡ L
     pub calls : h .whole .tally .calls .0 ≡ c
+    pub rows : h .whole .tally .«cached_rows» .0 ≤ R
 
   one-left : (h : Held words) → Going 0 h → ⊥
   one-left h g = go (g .ahead .left) (h .whole .progress .subject) (length counts) (g .ahead .subject) (g .ahead .enough)
@@ -148,7 +150,7 @@ module _ (N : ℕ → Type 0) (Refuses : ℕ → Place → ℕ → Type 0) (setu
 
     TurnsTo : Turned → Type 0
     TurnsTo (On q) = Ahead n q
-    TurnsTo (Halt x) = Says (x .step) (x .progress .awaits) (x .tally .calls .0)
+    TurnsTo (Halt x) = Says (x .step) (x .progress .awaits) (x .tally .calls .0) × (x .tally .«cached_rows» .0 ≤ R)
 
     record Ends (e : Ended) : Type 0 where
       turned : TurnsTo (e .turned)
@@ -158,13 +160,13 @@ module _ (N : ℕ → Type 0) (Refuses : ℕ → Place → ℕ → Type 0) (setu
         → Moves (turnHeld words setup counts) Going Answered n
         (heldBy words (h .parameters) (moved words (w .tally) (w .kept) (pick (isOver t) (zeros (length work)) work) warm results t))
     unfolding Moves heldBy moved isOver TurnsTo pick
-    closes (On q) work warm results t l = record { ahead = t; work = l; calls = g .calls }
-    closes (Halt x) work warm results t l = record { says = t; zeroed = λ e. pick-yes _ _ _ e ∙ ap zeros l }
+    closes (On q) work warm results t l = record { ahead = t; work = l; calls = g .calls; rows = g .rows }
+    closes (Halt x) work warm results t l = record { says = t .0; zeroed = λ e. pick-yes _ _ _ e ∙ ap zeros l; rows = t .1 }
 
     -- a refusal that leaves the tally
     refuses : (number : ℕ) (place : Place) → Refuses number place c → TurnsTo (Halt (B.refusedBy p (w .tally) number place))
     unfolding TurnsTo Says B.refusedBy B.idle B.withSearch
-    refuses number place r = (refl, subst (Refuses number place) (sym (g .calls)) r)
+    refuses number place r = ((refl, subst (Refuses number place) (sym (g .calls)) r), g .rows)
 
     refused-ends : (number : ℕ) (place : Place) (warm results : List ℕ) → Refuses number place c → Ends (ended (Halt (B.refusedBy p (w .tally) number place)) (w .work) warm results)
     refused-ends number place warm results r = record { turned = refuses number place r; work = g .work }
@@ -173,6 +175,10 @@ module _ (N : ℕ → Type 0) (Refuses : ℕ → Place → ℕ → Type 0) (setu
     counts-up : B.counted (w .tally) .calls .0 ≡ suc c
     unfolding B.counted
     counts-up = let e = g .calls in omega (arith, e)
+
+    rows-stay : B.counted (w .tally) .«cached_rows» .0 ≤ R
+    unfolding B.counted
+    rows-stay = g .rows
 
     Seven : Answer Pair → Type 0
     Seven (given v) = Unit
@@ -184,8 +190,10 @@ module _ (N : ℕ → Type 0) (Refuses : ℕ → Place → ℕ → Type 0) (setu
 
     asks-for : c < most → (eta : Pair) (v : Answer Pair) → Seven v → TurnsTo (Halt (B.askFor p (B.counted (w .tally)) eta v))
     unfolding TurnsTo Says Seven B.askFor B.awaiting B.refusedBy B.idle B.withSearch
-    asks-for l eta (given v) s = (refl, counts-up, l)
-    asks-for l eta (refused k) s = let at = At.Subject (p .subject) in (refl, subst (Refuses k at) (sym counts-up) (subst (λ (i : ℕ). Refuses i at (suc c)) (sym s) (tells .wild (p .subject) l)))
+    asks-for l eta (given v) s = ((refl, counts-up, l), rows-stay)
+    asks-for l eta (refused k) s =
+        let at = At.Subject (p .subject) in
+        ((refl, subst (Refuses k at) (sym counts-up) (subst (λ (i : ℕ). Refuses i at (suc c)) (sym s) (tells .wild (p .subject) l))), rows-stay)
 
     asks : (eta : Pair) → TurnsTo (Halt (B.ask fit p (w .tally) eta))
     unfolding B.ask
@@ -249,7 +257,7 @@ module _ (N : ℕ → Type 0) (Refuses : ℕ → Place → ℕ → Type 0) (setu
         finishes : (ofv squares : Float) → TurnsTo (Halt (B.objectiveOf p (w .tally) ofv squares))
         finishes ofv squares =
             unfold B.objectiveOf in both (λ (x : Halted). TurnsTo (Halt x)) (nonfinite ofv) (refuses 18 _ (tells .total))
-            (unfold TurnsTo Says B.finished in (refl, g .calls))
+            (unfold TurnsTo Says B.finished in ((refl, g .calls), g .rows))
 
     closed : (k : Closed) → Ends (closing fit counts p (w .tally) rows (w .work) (w .warm) (w .results) k)
     unfolding closing

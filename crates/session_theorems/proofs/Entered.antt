@@ -5,7 +5,7 @@ use mathlib.Core.List.{List}
 use mathlib.Core.Logic.{_⊎_, inl, inr}
 use Prim.Native.Nat.{ℕ, suc, _+_, _-_, _≤_, _<_, _^_}
 use native.Mathlib.Omega.{arith}
-use borrow.Author.Tests.{ltb-true}
+use borrow.Author.Tests.{ltb-true, ltb-false}
 use lib.Dec.{ltb, eqb}
 use lib.ListN.{getD, length, take, drop, length-take}
 use Rattle.float64.specs.Pick.{both, cases}
@@ -20,7 +20,10 @@ use Rattle.subject.specs.declared.Evaluation.the-variants as E
 use Rattle.subject.specs.declared.Sums.{Sums}
 use Rattle.subject.specs.declared.Trial.{Trial}
 use Rattle.subject.proofs.Ends.{evaluates}
+use Rattle.cache.specs.Kept.{Evaluated}
+use Rattle.cache.proofs.Run.{refinement}
 use Rattle.words.specs.Words.{zeros}
+use Rattle.work.specs.Work.{block}
 use Rattle.setup.specs.Admission.{isCohort, roomy, checksOf, checks, admitted}
 use Rattle.setup.specs.declared.Admission.{Admission}
 use Rattle.setup.specs.declared.Admission.the-variants as A
@@ -39,13 +42,13 @@ use Rattle.search.specs.declared.Step.{Step}
 use Rattle.search.specs.declared.Step.the-variants as Answers
 use Rattle.search.specs.declared.Wanted.{Wanted}
 use Rattle.search.specs.declared.Wanted.the-variants as Wants
-use Rattle.search.proofs.Fits.{fit-effects}
+use Rattle.search.proofs.Fits.{fit-effects, fit-k}
 use Rattle.machine.specs.Machine.{Moved, on, halt, onward, loop}
-use Rattle.population.specs.Kept.{words}
+use Rattle.population.specs.Kept.{words, orderRows}
 use Rattle.population.specs.Population.{rowsOf, spent, receive, take as takes}
 use Rattle.session.specs.Calls.{entered}
 use Rattle.session.specs.Session as S
-use Rattle.session.specs.Session.{Held, Call, objective, reply, failure, fuel, isStanding, turnHeld, whenAdmitted, enter}
+use Rattle.session.specs.Session.{Held, Call, objective, reply, failure, fuel, isStanding, standing, turnHeld, whenAdmitted, enter}
 use Rattle.session_theorems.specs.Refusals.{AltersNothing, EndsObjective, Carries}
 use Rattle.session_theorems.proofs.Endings.{Tells, Says, Answered, Ahead, Going, comes-to, never-spent}
 use Rattle.session_theorems.proofs.Evaluated.{work-length}
@@ -161,10 +164,10 @@ module _ (setup : Setup) (counts : List ℕ) (h : Held words) where
   L = length (h .whole .work)
 
   abbrev Goes-on : ℕ → Held words → Type 0
-  Goes-on = Going OfSearch (Ending most c) setup counts L c (endings most c)
+  Goes-on = Going OfSearch (Ending most c) setup counts L c (setup .k) (endings most c)
 
   abbrev pub Answers-with : Step → Held words → Type 0
-  Answers-with = Answered OfSearch (Ending most c) setup counts L c (endings most c)
+  Answers-with = Answered OfSearch (Ending most c) setup counts L c (setup .k) (endings most c)
 
   -- a refusal that alters nothing
   pub record Stays (a : Step) (t : Held words) : Type 0 where
@@ -184,12 +187,12 @@ module _ (setup : Setup) (counts : List ℕ) (h : Held words) where
 
   pub done : (m : Moved (Held words) Step) → Enters m → Done (entered setup counts m .answer) (entered setup counts m .state)
   unfolding Enters onward
-  done (on t) e = inr (comes-to _ _ setup counts L c (endings most c) (e .0) t (e .1))
+  done (on t) e = inr (comes-to _ _ setup counts L c (setup .k) (endings most c) (e .0) t (e .1))
   done (halt a t) e = e
 
   pub unspent : (t : Held words) → Enters (on t) → (other : Step) (more : ℕ) → loop (turnHeld words setup counts) other (fuel + more) t ≡ loop (turnHeld words setup counts) spent fuel t
   unfolding Enters
-  unspent t e = never-spent _ _ setup counts L c (endings most c) (e .0) t (e .1)
+  unspent t e = never-spent _ _ setup counts L c (setup .k) (endings most c) (e .0) t (e .1)
 
   -- ---- 1 to 5 and 19
   stays : (n : ℕ) → AltersNothing n → Carries n At.Nowhere → Enters (S.unaltered words n At.Nowhere h)
@@ -210,9 +213,8 @@ module _ (setup : Setup) (counts : List ℕ) (h : Held words) where
   pub record Like (u : Held words) : Type 0 where
     pub work : length (u .whole .work) ≡ L
     pub calls : u .whole .tally .calls .0 ≡ c
-
-  pub like : Like h
-  like = record { work = refl; calls = refl }
+    pub rows : u .whole .tally .«cached_rows» .0 ≤ setup .k
+    pub kept : words .rows (u .whole .kept) ≤ setup .k
 
   pub over : (u : Held words) → Like u → (n : ℕ) (place : Place) → Refusal n place → Enters (S.over words n place u)
   unfolding Enters S.over Says B.idle B.withSearch
@@ -222,12 +224,20 @@ module _ (setup : Setup) (counts : List ℕ) (h : Held words) where
       inr (record {
         says = (refl, record { number = (omega (arith, low), omega (arith, high)); carries = r .2; rise = inl (l .calls); six = λ e. absurd (omega (arith, low, e)) });
         zeroed = λ e. ap zeros (l .work);
+        rows = l .rows;
       })
 
   -- ---- a search goes on with a reply
-  pub stood : (n : ℕ) (p : Progress) → isStanding setup counts n (h .whole .tally) p ≡ true → Stood setup counts p
+  pub stood : (n : ℕ) → standing words setup counts n (h .whole) ≡ true → Stood setup counts (h .whole .progress)
   unfolding isStanding
-  stood n p e = placed OfSearch (endings most c .known) (setup .effects) counts n p (not-first _ _ false-not-true e .1)
+  stood n e = placed OfSearch (endings most c .known) (setup .effects) counts n (h .whole .progress) (not-first _ _ false-not-true (not-first _ _ false-not-true e .1) .1)
+
+  -- and few rows are kept
+  pub like : (n : ℕ) → standing words setup counts n (h .whole) ≡ true → Like h
+  unfolding isStanding
+  like n e =
+      let tallied = not-first _ _ false-not-true e in
+      record { work = refl; calls = refl; rows = ltb-false _ _ (tallied .0); kept = ltb-false _ _ (not-first _ _ false-not-true (tallied .1) .0) }
 
   module _ (u : Held words) (l : Like u) (stands : Stood setup counts (u .whole .progress)) (eta : Pair) (wants : wantedAt setup u ≡ Wants.Point eta) (few : length counts ≤ 4096) where
     abbrev fit : Fit
@@ -246,7 +256,7 @@ module _ (setup : Setup) (counts : List ℕ) (h : Held words) where
         let at : Goes 6343 ((x : Pair) (sums : Sums) → Left (fit .effects) (B.advanceBy fit p x sums .progress)) (Wants.Point eta) = subst (Goes 6343 _) wants g in
         at .1 eta sums
 
-    ahead : (sums : Sums) → Ahead OfSearch (Ending most c) setup counts L c (endings most c) fuel (B.advanceBy fit p eta sums .progress)
+    ahead : (sums : Sums) → Ahead OfSearch (Ending most c) setup counts L c (setup .k) (endings most c) fuel (B.advanceBy fit p eta sums .progress)
     ahead sums =
         let e = advanced-alike fit p eta sums .subject in
         record {
@@ -256,9 +266,19 @@ module _ (setup : Setup) (counts : List ℕ) (h : Held words) where
           enough = omega (arith, few);
         }
 
+    few-kept : (sums : Sums) (work : List ℕ)
+        → words .rows (words .keep (u .whole .kept) (fit .k) (B.keyOf fit (p .subject) eta) (B.termsOf sums) (rowsOf counts (p .subject)) work (block (rowsOf counts (p .subject)) 3)) ≤ setup .k
+    unfolding orderRows
+    few-kept sums work =
+        let rows = rowsOf counts (p .subject) in
+        let x : Evaluated = record { key = B.keyOf fit (p .subject) eta; terms = B.termsOf sums; n = rows; rows = work; from = block rows 3 } in
+        let same = fit-k setup (u .parameters) in
+        subst (λ (k : ℕ). words .rows (words .keep (u .whole .kept) (fit .k) (x .key) (x .terms) rows work (x .from)) ≤ k) same
+        (refinement .bounded (u .whole .kept .words) (fit .k) (u .whole .kept .order) x (subst (λ (k : ℕ). words .rows (u .whole .kept) ≤ k) (sym same) (l .kept)))
+
     pub replies : (work : List ℕ) → length work ≡ L → (x : Evaluation) → Late x → Enters (S.replied words counts fit eta u work x)
     unfolding Enters S.replied Late receive takes
-    replies work long (E.Running sums) z = (few, record { ahead = ahead sums; work = move-rows-length _ _ work ∙ long; calls = l .calls })
+    replies work long (E.Running sums) z = (few, record { ahead = ahead sums; work = move-rows-length _ _ work ∙ long; calls = l .calls; rows = few-kept sums work })
     replies work long (E.Refused n) z = over u l n _ (z (p .subject))
     replies work long (E.RefusedAt n i) z = over u l n _ (z (p .subject))
 
@@ -272,40 +292,41 @@ module _ (setup : Setup) (counts : List ℕ) (h : Held words) where
     unfolding S.enterObjective
     objectives parameters =
         both Enters _ nineteen
-        (cases Enters (isStanding setup counts n (h .whole .tally) (h .whole .progress))
-        (λ t. admits _ _ (judged parameters) (λ e few. begun few (stood n (h .whole .progress) t .0))) (λ f. nineteen))
+        (cases Enters (standing words setup counts n (h .whole))
+        (λ t. admits _ _ (judged parameters) (λ e few. begun few (stood n t .0) (like n t .rows))) (λ f. nineteen))
       where
-        begun : length counts ≤ 4096 → h .whole .progress .subject < length counts → Enters (on (S.begun words setup counts parameters (h .whole)))
-        begun few some = unfold Enters S.begun B.beginSubject in (
+        begun : length counts ≤ 4096 → h .whole .progress .subject < length counts → h .whole .tally .«cached_rows» .0 ≤ setup .k → Enters (on (S.begun words setup counts parameters (h .whole)))
+        begun few some rows = unfold Enters S.begun B.beginSubject in (
           few,
           record {
             ahead = record { subject = omega (arith, some); left = 6343; search = begins OfSearch (endings most c .known) _ _ 0 0 _ _ _; enough = omega (arith, few) };
             work = refl;
             calls = refl;
+            rows = rows;
           },
         )
 
     awaited : (go : Pair → Moved (Held words) Step)
-        → ((eta : Pair) → Stood setup counts (h .whole .progress) → wantedAt setup h ≡ Wants.Point eta → length counts ≤ 4096 → Enters (go eta))
+        → ((eta : Pair) → Like h → Stood setup counts (h .whole .progress) → wantedAt setup h ≡ Wants.Point eta → length counts ≤ 4096 → Enters (go eta))
         → Enters (S.whenAwaited words setup counts n check h go)
     unfolding S.whenAwaited
-    awaited go f = both Enters _ (cases Enters (isStanding setup counts n (h .whole .tally) (h .whole .progress)) (λ t. at (stood n (h .whole .progress) t) _ refl) (λ g. nineteen)) nineteen
+    awaited go f = both Enters _ (cases Enters (standing words setup counts n (h .whole)) (λ t. at (like n t) (stood n t) _ refl) (λ g. nineteen)) nineteen
       where
-        at : Stood setup counts (h .whole .progress) → (v : Wanted) → wantedAt setup h ≡ v → Enters (S.atWanted words setup counts n check h go v)
-        at s (Wants.Point eta) e = unfold S.atWanted in admits _ _ (judged (h .parameters)) (λ q. f eta s e)
-        at s Wants.Mode e = unfold S.atWanted in nineteen
-        at s (Wants.Refused k) e = unfold S.atWanted in nineteen
+        at : Like h → Stood setup counts (h .whole .progress) → (v : Wanted) → wantedAt setup h ≡ v → Enters (S.atWanted words setup counts n check h go v)
+        at l s (Wants.Point eta) e = unfold S.atWanted in admits _ _ (judged (h .parameters)) (λ q. f eta l s e)
+        at l s Wants.Mode e = unfold S.atWanted in nineteen
+        at l s (Wants.Refused k) e = unfold S.atWanted in nineteen
 
   module _ (observations : List Observation) where
-    answered : (said : List ℕ) (eta : Pair) → Stood setup counts (h .whole .progress) → wantedAt setup h ≡ Wants.Point eta → length counts ≤ 4096
+    answered : (said : List ℕ) (eta : Pair) → Like h → Stood setup counts (h .whole .progress) → wantedAt setup h ≡ Wants.Point eta → length counts ≤ 4096
         → Enters (S.answered words setup counts observations said eta h)
     unfolding S.answered
-    answered said eta s e few =
+    answered said eta l s e few =
         let p = h .whole .progress in
         let rows = rowsOf counts (p .subject) in
         let os = take rows (drop (p .first) observations) in
         let trial = S.trialOf words setup counts (B.fitOf setup (h .parameters)) p in
-        replies h like s eta e few _ (work-length trial said (setup .width) (setup .effects) (setup .«output_budget») os (h .whole .work)) _
+        replies h l s eta e few _ (work-length trial said (setup .width) (setup .effects) (setup .«output_budget») os (h .whole .work)) _
         (late trial (setup .«output_budget») said os (h .whole .work) (short (rows-few counts (p .subject)) (drop (p .first) observations)))
       where
         short : {rows : ℕ} → rows ≤ 100000 → (os : List Observation) → length (take rows os) < 2 ^ 64
@@ -315,4 +336,4 @@ module _ (setup : Setup) (counts : List ℕ) (h : Held words) where
     unfolding enter S.enterReply S.enterFailure
     enters (objective parameters) = objectives (length observations) (S.allChecked setup counts observations) parameters
     enters (reply said) = awaited (length observations) (S.allChecked setup counts observations) _ (answered said)
-    enters failure = awaited (length observations) (S.allChecked setup counts observations) _ (λ eta s e few. over h like 8 _ (omega arith, omega arith, inl (omega arith, omega arith)))
+    enters failure = awaited (length observations) (S.allChecked setup counts observations) _ (λ eta l s e few. over h l 8 _ (omega arith, omega arith, inl (omega arith, omega arith)))

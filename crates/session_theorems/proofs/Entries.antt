@@ -136,7 +136,7 @@ module _ (S : Store) (setup : Setup) (counts : List ℕ) (observations : List Ob
     unfolding N.enterObjective
     at-objective parameters =
         cases (Goes c h) (p .awaits) (λ t. unaltered 19 At.Nowhere)
-        (λ t. both (Goes c h) (N.isStanding setup counts (length observations) (w .tally) (w .progress)) (when-admitted _ _ (starts parameters t)) (unaltered 19 At.Nowhere))
+        (λ t. both (Goes c h) (N.standing S setup counts (length observations) w) (when-admitted _ _ (starts parameters t)) (unaltered 19 At.Nowhere))
 
     -- ---- a reply is awaited
     at-wanted : (go : Pair → Moved (Held S) Step) (v : Wanted) → ((eta : Pair) → v ≡ Wants.Point eta → Goes c h (go eta)) → Goes c h
@@ -150,7 +150,7 @@ module _ (S : Store) (setup : Setup) (counts : List ℕ) (observations : List Ob
         (N.whenAwaited S setup counts (length observations) (N.allChecked setup counts observations) h go)
     unfolding N.whenAwaited
     when-awaited go f =
-        cases (Goes c h) (p .awaits) (λ t. both (Goes c h) (N.isStanding setup counts (length observations) (w .tally) (w .progress)) (at-wanted go (B.wantedBy fit p) (f t)) (unaltered 19 At.Nowhere))
+        cases (Goes c h) (p .awaits) (λ t. both (Goes c h) (N.standing S setup counts (length observations) w) (at-wanted go (B.wantedBy fit p) (f t)) (unaltered 19 At.Nowhere))
         (λ t. unaltered 19 At.Nowhere)
 
   -- ---- a reply

@@ -1,5 +1,5 @@
 -- A session's state stays of the format from call to call, so that its words tell it. Assumes nothing.
-use mathlib.Core.Path.{_≡_, refl, sym, subst}
+use mathlib.Core.Path.{_≡_, refl, sym, ap, subst}
 use mathlib.Core.Bool.{true}
 use mathlib.Core.List.{List}
 use mathlib.Core.Option.{Option, none, some}
@@ -14,7 +14,7 @@ use lib.Ieee.Fits.{add-fits, mul-fits}
 use Rattle.float64.specs.Arithmetic.{word}
 use Rattle.float64.specs.Answer.{Answer, given, refused}
 use Rattle.float64.specs.Float64.{nonfinite}
-use Rattle.float64.specs.Pick.{both}
+use Rattle.float64.specs.Pick.{pick, both}
 use Rattle.matrix.specs.declared.Pair.{Pair}
 use Rattle.likelihood.specs.declared.population_focei.Observation.{Observation}
 use Rattle.mode.specs.declared.population_focei.Stage.{Stage}
@@ -288,18 +288,19 @@ count-few Warm n e = let l = ltb-true n 1 e in omega (arith, l)
 count-few Secant n e = let l = ltb-true n 16 e in omega (arith, l)
 count-few Halving n e = let l = ltb-true n 49 e in omega (arith, l)
 
-halted-few : (k : ℕ) → (k ≡ 13) ⊎ ((k ≡ 14) ⊎ (k ≡ 16)) → 4 + k ≤ 4 + words2.largest
-halted-few k (inl e) = omega (arith, e)
-halted-few k (inr (inl e)) = omega (arith, e)
-halted-few k (inr (inr e)) = omega (arith, e)
+halted-known : (k : ℕ) → (k ≡ 13) ⊎ ((k ≡ 14) ⊎ (k ≡ 16)) → words2.isNoStage (4 + k) ≡ false
+unfolding words2.isNoStage pick
+halted-known k (inl e) = ap (λ (n : ℕ). words2.isNoStage (4 + n)) e
+halted-known k (inr (inl e)) = ap (λ (n : ℕ). words2.isNoStage (4 + n)) e
+halted-known k (inr (inr e)) = ap (λ (n : ℕ). words2.isNoStage (4 + n)) e
 
-stage-few : (st : Stage2) → Numbered st → words2.stageWord st ≤ 4 + words2.largest
-unfolding words2.stageWord Numbered
-stage-few S2.Zero n = omega arith
-stage-few S2.Start n = omega arith
-stage-few S2.Trial n = omega arith
-stage-few S2.Found n = omega arith
-stage-few (S2.Halted k) n = halted-few k n
+stage-known : (st : Stage2) → Numbered st → words2.isNoStage (words2.stageWord st) ≡ false
+unfolding words2.isNoStage words2.stageWord Numbered pick
+stage-known S2.Zero n = refl
+stage-known S2.Start n = refl
+stage-known S2.Trial n = refl
+stage-known S2.Found n = refl
+stage-known (S2.Halted k) n = halted-known k n
 
 additive-fits : (a : AdditiveSd) → FitsSd a → FitsAdditive a
 unfolding FitsAdditive
@@ -324,7 +325,7 @@ state-fits setup counts observations lent a h place warm g =
       squares = s .squares;
       one = record { count = count-few _ _ one; first = s .one .first; latest = s .one .latest; left = s .one .left; right = s .one .right; best = s .one .best };
       two = record {
-        stage = stage-few _ (two .number);
+        stage = stage-known _ (two .number);
         seed = let l = two .seed in omega (arith, l);
         round = let l = two .round in omega (arith, l);
         reduction = let l = two .reduction in omega (arith, l);

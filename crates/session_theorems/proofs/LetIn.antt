@@ -139,16 +139,19 @@ module _ (setup : Setup) (counts : List ℕ) (observations : List Observation) (
     abbrev check : Check
     check = N.allChecked setup counts observations
 
+    rows-kept : words .rows (h .whole .kept) ≤ setup .k
+    rows-kept = kept-rows (setup .k) (room .some) (room .most) (s .count) (h .whole .kept) (s .trust)
+
     few-rows : h .whole .tally .«cached_rows» .0 ≤ setup .k
-    few-rows = subst (λ (m : ℕ). m ≤ setup .k) (sym (g .rows)) (kept-rows (setup .k) (room .some) (room .most) (s .count) (h .whole .kept) (s .trust))
+    few-rows = subst (λ (m : ℕ). m ≤ setup .k) (sym (g .rows)) rows-kept
 
     rows-lent : h .whole .progress .first + rowsOf counts (h .whole .progress .subject) ≤ n
     rows-lent = let l = observations-lent setup counts observations lent a (lent .observations) (a .largest) (a .adds) h g in omega (arith, l, many)
 
-    placed : N.isStanding setup counts n (h .whole .tally) (h .whole .progress) ≡ true
+    placed : N.standing words setup counts n (h .whole) ≡ true
     unfolding N.isStanding N.isPlaced
     placed =
-        pick-no _ _ _ (le-ltb _ _ few-rows) ∙ pick-yes _ _ false (lt-ltb _ _ (g .place .subject)) ∙ pick-no _ false _ (le-ltb _ _ rows-lent)
+        pick-no _ _ _ (le-ltb _ _ few-rows) ∙ pick-no _ _ _ (le-ltb _ _ rows-kept) ∙ pick-yes _ _ false (lt-ltb _ _ (g .place .subject)) ∙ pick-no _ false _ (le-ltb _ _ rows-lent)
         ∙ both (λ (b : Bool). b ≡ true) (eqb (setup .effects) 2) (within2-true _ (g .place .two)) (g .place .one)
 
     others : (parameters : Parameters) → isNoOmega (withParameters setup parameters) ≡ false → isNoShape (withParameters setup parameters) ≡ false → admission setup counts observations parameters h ≡

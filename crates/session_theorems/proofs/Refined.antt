@@ -129,6 +129,9 @@ module _ (k : ℕ) (counts : List ℕ) where
   pick-both true p q = p
   pick-both false p q = q
 
+  pick-alike : {b b' : Bool} → b ≡ b' → {x y : Moved (Held words) Step} {x' y' : Moved (Held entries) Step} → Both x x' → Both y y' → Both (pick b x y) (pick b' x' y')
+  pick-alike {b = b} e {x} {y} {x'} {y'} p q = subst (λ (t : Bool). Both (pick b x y) (pick t x' y')) e (pick-both b p q)
+
   pick-when : (b : Bool) {x y : Moved (Held words) Step} {x' y' : Moved (Held entries) Step} → (b ≡ true → Both x x') → Both y y' → Both (pick b x y) (pick b x' y')
   unfolding pick
   pick-when true p q = p refl
@@ -253,6 +256,13 @@ module _ (setup : Setup) (counts : List ℕ) (observations : List Observation) (
           (served-by v) (moves _ _ _ _)
 
       -- ---- entries
+      same-rows : words .rows c ≡ entries .rows l
+      unfolding orderRows
+      same-rows = let n = refinement .rows (c .words) (setup .k) (c .order) l st in omega (arith, n)
+
+      stands-alike : N.standing words setup counts (length observations) (h .whole) ≡ N.standing entries setup counts (length observations) (g .whole)
+      stands-alike = ap (λ (r : ℕ). N.isStanding setup counts (length observations) tally r p) same-rows
+
       unaltered : (number : ℕ) (place : Place) → Pair' (N.unaltered words number place h) (N.unaltered entries number place g)
       unaltered number place = both-halt (link p tally work warm results)
 
@@ -281,10 +291,10 @@ module _ (setup : Setup) (counts : List ℕ) (observations : List Observation) (
 
       objective-both : (q : Parameters) → Pair' (N.enterObjective words setup counts (length observations) (N.allChecked setup counts observations) q h)
           (N.enterObjective entries setup counts (length observations) (N.allChecked setup counts observations) q g)
-      unfolding N.enterObjective N.isStanding N.begun
+      unfolding N.enterObjective N.begun
       objective-both q =
           pick-both (setup .k) counts (p .awaits) (unaltered 19 _)
-          (pick-both (setup .k) counts _ (admitted-both q _ _ (both-on (record { is = alike q _ tally c l work warm results st; own = own }))) (unaltered 19 _))
+          (pick-alike (setup .k) counts stands-alike (admitted-both q _ _ (both-on (record { is = alike q _ tally c l work warm results st; own = own }))) (unaltered 19 _))
 
       at-wanted : (x : Pair → Moved (Held words) Step) (y : Pair → Moved (Held entries) Step) (v : Wanted) → ((eta : Pair) → v ≡ Wants.Point eta → Pair' (x eta) (y eta)) → Pair'
           (N.atWanted words setup counts (length observations) (N.allChecked setup counts observations) h x v) (N.atWanted entries setup counts (length observations)
@@ -297,9 +307,9 @@ module _ (setup : Setup) (counts : List ℕ) (observations : List Observation) (
       when-awaited : (x : Pair → Moved (Held words) Step) (y : Pair → Moved (Held entries) Step) → (p .awaits ≡ true → (eta : Pair) → B.wantedBy fit p ≡ Wants.Point eta → Pair' (x eta) (y eta))
           → Pair' (N.whenAwaited words setup counts (length observations) (N.allChecked setup counts observations) h x)
           (N.whenAwaited entries setup counts (length observations) (N.allChecked setup counts observations) g y)
-      unfolding N.whenAwaited N.isStanding
+      unfolding N.whenAwaited
       when-awaited x y f =
-          pick-when (setup .k) counts (p .awaits) (λ t. pick-both (setup .k) counts _ (at-wanted x y (B.wantedBy fit p) (f t)) (unaltered 19 _)) (unaltered 19 _)
+          pick-when (setup .k) counts (p .awaits) (λ t. pick-alike (setup .k) counts stands-alike (at-wanted x y (B.wantedBy fit p) (f t)) (unaltered 19 _)) (unaltered 19 _)
 
       -- a reply
       module _ (said : List ℕ) (t : p .awaits ≡ true) (eta : Pair) (e : B.wantedBy fit p ≡ Wants.Point eta) where

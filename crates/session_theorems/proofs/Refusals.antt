@@ -18,6 +18,7 @@ use Rattle.subject.specs.declared.Evaluation.{Evaluation}
 use Rattle.subject.specs.declared.Trial.{Trial}
 use Rattle.words.specs.Words.{zeros}
 use Rattle.work.specs.Work.{mostRows}
+use Rattle.cache.specs.declared.CacheOrder.{CacheOrder}
 use Rattle.setup.specs.Admission.{isCohort, checksOf, checks, withParameters}
 use Rattle.setup.specs.declared.Admission.{Admission}
 use Rattle.setup.specs.declared.Admission.the-variants as A
@@ -37,9 +38,9 @@ use Rattle.search.specs.declared.Tally.{Tally}
 use Rattle.search.specs.declared.Wanted.{Wanted}
 use Rattle.search.specs.declared.Wanted.the-variants as Wants
 use Rattle.machine.specs.Machine.{Moved, Ran, ran, onward, call}
-use Rattle.population.specs.Kept.{words}
+use Rattle.population.specs.Kept.{words, orderRows}
 use Rattle.population.specs.Population.{rowsOf}
-use Rattle.session.specs.Calls.{heldOf, lentBy, stateOf, entered, openedBy, opening, awaitedPoint, awaitedFor, trialBy, nothingAdmitted, admittedOver, finishReply}
+use Rattle.session.specs.Calls.{heldOf, lentBy, stateOf, entered, openedBy, opening, stands, awaitedPoint, awaitedFor, trialBy, nothingAdmitted, admittedOver, finishReply}
 use Rattle.session.proofs.Loops.{own-finish}
 use Rattle.session.specs.Session as S
 use Rattle.session.specs.Session.{Held, Call, objective, reply, failure, fuel, isPlaced, isStanding, whenAdmitted, enter, session, allChecked}
@@ -54,11 +55,11 @@ use Rattle.host_calls.specs.Hosting as H
 use Rattle.host_calls.specs.Hosting.{Out, out, did, unknown, withState, answered, placeWords, isUnaltered, finishWith, setupOver, callOver}
 use Rattle.host_calls.specs.declared.AnswerWords.{AnswerWords}
 use Rattle.host_calls.specs.SubjectReplies.{subjectChecked, admitSubjectWith, subjectReplyOver}
-use Rattle.session_theorems.specs.Refusals.{Exported, opens, calls, replies, Lending, does, AltersNothing, EndsObjective, Carries, Awaits, OutOfTurn, EveryRefusal, SixOnlyAtTheLimit}
-use Rattle.session_theorems.specs.Refusals.{ZerosAfterAnEnd, NeverSpent, ForAllWords}
+use Rattle.session_theorems.specs.Refusals.{Exported, opens, calls, replies, Lending, does, AltersNothing, EndsObjective, Carries, Awaits, keptBy, OutOfTurn, EveryRefusal, SixOnlyAtTheLimit}
+use Rattle.session_theorems.specs.Refusals.{ZerosAfterAnEnd, KeptWithin, NeverSpent, ForAllWords}
 use Rattle.session_theorems.proofs.Accepted.{is-cohort}
 use Rattle.session_theorems.proofs.Endings.{Tells, Says, Going, never-spent}
-use Rattle.session_theorems.proofs.Entered.{Judged, counts-judged, one, unheard, late, stood, Done, Enters, Stood, wantedAt, done, unspent, admits, replies as goes-on, enters, Ending}
+use Rattle.session_theorems.proofs.Entered.{Judged, counts-judged, one, unheard, late, stood, Like, like, Done, Enters, Stood, wantedAt, done, unspent, admits, replies as goes-on, enters, Ending}
 use Rattle.session_theorems.proofs.Entered.{Answers-with}
 use Rattle.session_theorems.proofs.Evaluated.{work-length}
 use Rattle.session_theorems.proofs.Remaining.{lifts, placed}
@@ -96,18 +97,20 @@ idle-word : (s : State) (state : List ℕ) → W.stateSize ≤ length state → 
 unfolding W.flag
 idle-word s state l e a = let z : getD (savedState s state) 0 0 ≡ 0 = saved-word s state l ∙ pick-no _ _ _ e in omega (arith, a, z)
 
--- ---- words that are a state: word 0 is 1 where a reply is awaited, and word 8 the subject
+-- ---- words that are a state: word 0 is 1 where a reply is awaited, word 8 the subject, and words 14 to 17 the positions of the kept evaluations
 pub record Loaded (state : List ℕ) (s : State) : Type 0 where
   pub long : W.stateSize ≤ length state
   pub awaits : s .progress .awaits ≡ eqb (getD state 0 0) 1
   pub subject : s .progress .subject ≡ getD state 8 0
+  pub order : s .order ≡ W.orderAt state
 
 abbrev Reads : List ℕ → State → Type 0
-Reads state s = (s .progress .awaits ≡ eqb (getD state 0 0) 1) × (s .progress .subject ≡ getD state 8 0)
+Reads state s = (s .progress .awaits ≡ eqb (getD state 0 0) 1) × (s .progress .subject ≡ getD state 8 0) × (s .order ≡ W.orderAt state)
 
 search-loaded : (state : List ℕ) (s : State) (l : Answer SubjectSearch) → through (W.stateAt state) l ≡ given s → Reads state s
 unfolding through W.stateAt W.progressAt
-search-loaded state s (given x) e = let q : W.stateAt state x ≡ s = cc in (ap (λ (t : State). t .progress .awaits) (sym q), ap (λ (t : State). t .progress .subject) (sym q))
+search-loaded state s (given x) e =
+    let q : W.stateAt state x ≡ s = cc in (ap (λ (t : State). t .progress .awaits) (sym q), ap (λ (t : State). t .progress .subject) (sym q), ap (λ (t : State). t .order) (sym q))
 search-loaded state s (refused n) e = absurd (let z : _≡_ {A = ℕ} 0 1 = cc in omega arith)
 
 pub loaded : (state : List ℕ) (s : State) → loadedState state ≡ given s → Loaded state s
@@ -117,7 +120,7 @@ loaded state s e =
     let long = not-first (ltb (length state) W.stateSize) _ never e in
     let flags = not-first _ _ never (not-first _ _ never (long .1) .1) in
     let r = search-loaded state s _ (flags .1) in
-    record { long = ltb-false _ _ (long .0); awaits = r .0; subject = r .1 }
+    record { long = ltb-false _ _ (long .0); awaits = r .0; subject = r .1; order = r .2 }
 
 -- ---- what a call gives back and writes, with all that it was lent
 module _ (setup : Setup) (counts : List ℕ) (observations : List Observation) (tally : Tally) (state answer cache work warm results : List ℕ) where
@@ -142,6 +145,7 @@ module _ (setup : Setup) (counts : List ℕ) (observations : List Observation) (
     awaits : Awaits (o .told .state)
     rise : o .told .done .tally .calls .0 ≡ suc c
     below : c < most
+    rows : o .told .done .tally .«cached_rows» .0 ≤ setup .k
 
   record Finishes (o : Out) : Type 0 where
     number : o .told .done .number ≡ 0
@@ -151,6 +155,7 @@ module _ (setup : Setup) (counts : List ℕ) (observations : List Observation) (
     idle : Awaits (o .told .state) → ⊥
     work-is : o .work ≡ zeros (length work)
     rise : o .told .done .tally .calls .0 ≤ c
+    rows : o .told .done .tally .«cached_rows» .0 ≤ setup .k
 
   record Refuses (o : Out) : Type 0 where
     place : Place
@@ -158,6 +163,7 @@ module _ (setup : Setup) (counts : List ℕ) (observations : List Observation) (
     idle : Awaits (o .told .state) → ⊥
     work-is : o .work ≡ zeros (length work)
     ending : Ending most c (o .told .done .number) place (o .told .done .tally .calls .0)
+    rows : o .told .done .tally .«cached_rows» .0 ≤ setup .k
 
   data Way (o : Out) : Type 0 where
     stays : (n : ℕ) (place : Place) → AltersNothing n → Carries n place → o ≡ kept n place → Way o
@@ -186,6 +192,7 @@ module _ (setup : Setup) (counts : List ℕ) (observations : List Observation) (
           awaits = subst Awaits (sym q) (awaited-word (stateOf t) state long (g .says .0));
           rise = g .says .1;
           below = g .says .2;
+          rows = g .rows;
         })
     went (Answers.Finished ofv) t g =
         let q : pick (isUnaltered 0) state (savedState (stateOf t) state) ≡ savedState (stateOf t) state = pick-no _ _ _ (pick-yes _ _ _ refl) in
@@ -197,11 +204,12 @@ module _ (setup : Setup) (counts : List ℕ) (observations : List Observation) (
           idle = λ x. idle-word (stateOf t) state long (g .says .0) (subst Awaits q x);
           work-is = g .zeroed refl;
           rise = let e = g .says .1 in omega (arith, e);
+          rows = g .rows;
         })
     went (Answers.Refused n place) t g =
         let r = g .says .1 in
         let q : pick (isUnaltered n) state (savedState (stateOf t) state) ≡ savedState (stateOf t) state = pick-no _ _ _ (unaltered-no n (r .number)) in
-        refuses (record { place = place; answer-is = refl; idle = λ x. idle-word (stateOf t) state long (g .says .0) (subst Awaits q x); work-is = g .zeroed refl; ending = r })
+        refuses (record { place = place; answer-is = refl; idle = λ x. idle-word (stateOf t) state long (g .says .0) (subst Awaits q x); work-is = g .zeroed refl; ending = r; rows = g .rows })
 
     way : (z : Ran (Held words) Step) → Done setup counts (h s) (z .answer) (z .state) → Way (did z state answer)
     way z (inl k) = stays (k .number) (k .place) (k .unaltering) (k .carries) ((λ i. did (ran (k .answer i) (k .same i)) state answer) ∙ stayed (k .number) (k .place) (k .unaltering))
@@ -223,6 +231,7 @@ module _ (setup : Setup) (counts : List ℕ) (observations : List Observation) (
         idle = idle-word (stateOf (S.opened words setup counts lent results)) state long refl;
         work-is = refl;
         rise = omega arith;
+        rows = omega arith;
       })
   opens-way long (A.Refused n) j = stays n At.Nowhere (j .0) (j .1) refl
   opens-way long (A.Unsound at) j = stays 4 _ (inl (omega arith, omega arith)) (inl refl) refl
@@ -268,7 +277,7 @@ module _ (setup : Setup) (counts : List ℕ) (observations : List Observation) (
       abbrev wanting : Wanted → Out
       wanting v = let w = awaitedFor (fitOf setup (s .parameters)) judgement v in ends-as (admittedOver setup trial said w 0 (length observations) (w .admission)) s
 
-      wanting-is : told-to (given s) ≡ wanting (awaitedPoint setup counts mostRows (fitOf setup (s .parameters)) (s .progress) tally)
+      wanting-is : told-to (given s) ≡ wanting (awaitedPoint setup counts mostRows (fitOf setup (s .parameters)) s tally)
       unfolding withState admitSubjectWith admitSubjectReply subjectAwaited
       wanting-is = refl
 
@@ -308,34 +317,34 @@ module _ (setup : Setup) (counts : List ℕ) (observations : List Observation) (
       unfolding admittedOver
       refused-way long eta n j = barred-way long eta (A.Refused n) (λ q. let z : _≡_ {A = ℕ} 0 1 = cc in omega arith) j n
 
-      point-way : W.stateSize ≤ length state → (eta : Pair) → Stood setup counts (s .progress) → wantedAt setup (h s) ≡ Wants.Point eta
+      point-way : W.stateSize ≤ length state → (eta : Pair) → Like setup counts (h s) → Stood setup counts (s .progress) → wantedAt setup (h s) ≡ Wants.Point eta
           → (a : Admission) → judgement ≡ a → Judged (length counts) a → Way (ends-as (admittedOver setup trial said (awaited a eta) 0 (length observations) a) s)
       unfolding admittedOver Judged whenAdmitted
-      point-way long eta st wants A.Accepted q j =
+      point-way long eta lk st wants A.Accepted q j =
           let os = take (length observations - 0) (drop 0 observations) in
           let e = addObservations trial said os (evaluating (begin said (setup .width) (setup .effects) (setup .«output_budget»)) work) in
           let l = work-length trial said (setup .width) (setup .effects) (setup .«output_budget») os work in
           let n = length-take (length observations - 0) (drop 0 observations) in
           let few = few-lent q in
           let u = heldOf s tally cache (e .work) warm results in
-          by-own (awaited A.Accepted eta) (e .evaluation) u refl (way s long _ (done setup counts (h s) _ (goes-on setup counts (h s) u (record { work = l; calls = refl }) st eta wants j (e .work) l _
+          by-own (awaited A.Accepted eta) (e .evaluation) u refl (way s long _ (done setup counts (h s) _ (goes-on setup counts (h s) u (record { work = l; calls = refl; rows = lk .rows; kept = lk .kept }) st eta wants j (e .work) l _
           (late trial (setup .«output_budget») said os work (omega (arith, n, few))))))
-      point-way long eta st wants (A.Refused n) q j = refused-way long eta n j
-      point-way long eta st wants (A.Unsound at) q j = barred-way long eta (A.Unsound at) (λ q. let z : _≡_ {A = ℕ} 0 1 = cc in omega arith) j 4
+      point-way long eta lk st wants (A.Refused n) q j = refused-way long eta n j
+      point-way long eta lk st wants (A.Unsound at) q j = barred-way long eta (A.Unsound at) (λ q. let z : _≡_ {A = ℕ} 0 1 = cc in omega arith) j 4
 
       -- a point is awaited only where the positions are right, and then it is what the search wants
-      point-wanted : (eta : Pair) → awaitedPoint setup counts mostRows (fitOf setup (s .parameters)) (s .progress) tally ≡ Wants.Point eta
-          → (isStanding setup counts mostRows tally (s .progress) ≡ true) × (wantedAt setup (h s) ≡ Wants.Point eta)
+      point-wanted : (eta : Pair) → awaitedPoint setup counts mostRows (fitOf setup (s .parameters)) s tally ≡ Wants.Point eta
+          → (stands setup counts mostRows s tally ≡ true) × (wantedAt setup (h s) ≡ Wants.Point eta)
       unfolding awaitedPoint
       point-wanted eta =
           let never : Wants.Refused 19 ≡ Wants.Point eta → ⊥ = λ q. let z : _≡_ {A = ℕ} 0 1 = cc in omega arith in
-          let st = isStanding setup counts mostRows tally (s .progress) in
+          let st = stands setup counts mostRows s tally in
           let P : Wanted → Type 0 = λ (w : Wanted). w ≡ Wants.Point eta → (st ≡ true) × (wantedAt setup (h s) ≡ Wants.Point eta) in
           cases P (s .progress .awaits) (λ t. cases P st (λ i q. (i, q)) (λ f q. absurd (never q))) (λ f q. absurd (never q))
 
-      wanted-way : W.stateSize ≤ length state → (v : Wanted) → awaitedPoint setup counts mostRows (fitOf setup (s .parameters)) (s .progress) tally ≡ v → Way (wanting v)
+      wanted-way : W.stateSize ≤ length state → (v : Wanted) → awaitedPoint setup counts mostRows (fitOf setup (s .parameters)) s tally ≡ v → Way (wanting v)
       unfolding awaitedFor
-      wanted-way long (Wants.Point eta) e = let w = point-wanted eta e in point-way long eta (stood setup counts (h s) mostRows (s .progress) (w .0)) (w .1) judgement refl judged
+      wanted-way long (Wants.Point eta) e = let w = point-wanted eta e in point-way long eta (like setup counts (h s) mostRows (w .0)) (stood setup counts (h s) mostRows (w .0)) (w .1) judgement refl judged
       wanted-way long Wants.Mode e = refused-way long _ 19 (unheard (length counts))
       wanted-way long (Wants.Refused n) e = refused-way long _ 19 (unheard (length counts))
 
@@ -387,25 +396,25 @@ module _ (setup : Setup) (counts : List ℕ) (observations : List Observation) (
   failure-refused a s e = pick-no _ _ _ (idle-is s e a)
 
   -- no reply is awaited, or the positions are not right
-  unwanted : (said : List ℕ) (s : State) → awaitedPoint setup counts mostRows (fitOf setup (s .parameters)) (s .progress) tally ≡ Wants.Refused 19 → told-to said (given s) .told .done .number ≡ 19
+  unwanted : (said : List ℕ) (s : State) → awaitedPoint setup counts mostRows (fitOf setup (s .parameters)) s tally ≡ Wants.Refused 19 → told-to said (given s) .told .done .number ≡ 19
   unfolding awaitedFor admittedOver finishReply whenAdmitted onward H.told H.numberOf
   unwanted said s e = ap (λ (o : Out). o .told .done .number) (wanting-is said s) ∙ ap (λ (v : Wanted). wanting said s v .told .done .number) e
 
-  subject-refused : (said : List ℕ) → ((s : State) → loadedState state ≡ given s → awaitedPoint setup counts mostRows (fitOf setup (s .parameters)) (s .progress) tally ≡ Wants.Refused 19)
+  subject-refused : (said : List ℕ) → ((s : State) → loadedState state ≡ given s → awaitedPoint setup counts mostRows (fitOf setup (s .parameters)) s tally ≡ Wants.Refused 19)
       → (l : Answer State) → loadedState state ≡ l → told-to said l .told .done .number ≡ 19
   unfolding withState admitSubjectWith
   subject-refused said f (given s) e = unwanted said s (f s e)
   subject-refused said f (refused n) e = refl
 
   -- ---- any call but setup: the positions are not right
-  module _ (wrong : (n : ℕ) (s : State) → loadedState state ≡ given s → isStanding setup counts n tally (s .progress) ≡ false) where
+  module _ (wrong : (n : ℕ) (s : State) → loadedState state ≡ given s → stands setup counts n s tally ≡ false) where
     barred : (x : Call) (s : State) → loadedState state ≡ given s → Refused x s
     unfolding Refused enter S.enterObjective S.enterReply S.enterFailure S.whenAwaited
     barred (objective parameters) s e = pick-same _ _ _ (pick-no _ _ _ (wrong _ s e))
     barred (reply said) s e = both (λ m. m ≡ S.unaltered words 19 At.Nowhere (h s)) _ (pick-no _ _ _ (wrong _ s e)) refl
     barred failure s e = both (λ m. m ≡ S.unaltered words 19 At.Nowhere (h s)) _ (pick-no _ _ _ (wrong _ s e)) refl
 
-    unpointed : (s : State) → loadedState state ≡ given s → awaitedPoint setup counts mostRows (fitOf setup (s .parameters)) (s .progress) tally ≡ Wants.Refused 19
+    unpointed : (s : State) → loadedState state ≡ given s → awaitedPoint setup counts mostRows (fitOf setup (s .parameters)) s tally ≡ Wants.Refused 19
     unfolding awaitedPoint
     unpointed s e = both (λ (v : Wanted). v ≡ Wants.Refused 19) _ (pick-no _ _ _ (wrong _ s e)) refl
 
@@ -415,16 +424,22 @@ module _ (setup : Setup) (counts : List ℕ) (observations : List Observation) (
     nineteen (calls x) inside = called x (barred x) (loadedState state) refl
     nineteen (replies said) inside = subject-refused said unpointed (loadedState state) refl
 
-  misplaced : length counts ≤ getD state 8 0 → (n : ℕ) (s : State) → loadedState state ≡ given s → isStanding setup counts n tally (s .progress) ≡ false
+  misplaced : length counts ≤ getD state 8 0 → (n : ℕ) (s : State) → loadedState state ≡ given s → stands setup counts n s tally ≡ false
   unfolding isStanding isPlaced
   misplaced far n s e =
       let q = loaded state s e .subject in
       let beyond : length counts ≤ s .progress .subject = omega (arith, far, q) in
-      pick-same _ _ _ (pick-no _ _ _ (le-ltb _ _ beyond))
+      pick-same _ _ _ (pick-same _ _ _ (pick-no _ _ _ (le-ltb _ _ beyond)))
 
-  crowded : setup .k < tally .«cached_rows» .0 → (n : ℕ) (s : State) → loadedState state ≡ given s → isStanding setup counts n tally (s .progress) ≡ false
+  crowded : setup .k < tally .«cached_rows» .0 → (n : ℕ) (s : State) → loadedState state ≡ given s → stands setup counts n s tally ≡ false
   unfolding isStanding
   crowded many n s e = pick-yes _ _ _ (lt-ltb _ _ many)
+
+  overfull : setup .k < keptBy state → (n : ℕ) (s : State) → loadedState state ≡ given s → stands setup counts n s tally ≡ false
+  unfolding isStanding orderRows W.orderAt
+  overfull many n s e =
+      let q = loaded state s e .order in
+      pick-same _ _ _ (pick-yes _ _ _ (lt-ltb _ _ (subst (λ (o : CacheOrder). setup .k < o .«next_row» - o .«first_row») (sym q) many)))
 
   out-of-turn : OutOfTurn all
   unfolding callOver subjectReplyOver finishWith setupOver H.openWith awaitedPoint
@@ -436,6 +451,7 @@ module _ (setup : Setup) (counts : List ℕ) (observations : List Observation) (
     stateless = λ n e. nineteen (λ m s q. absurd (never n s (sym e ∙ q)));
     misplaced = λ far. nineteen (misplaced far);
     crowded = λ many. nineteen (crowded many);
+    overfull = λ many. nineteen (overfull many);
     short = λ i. ap (λ (o : Out). o .told .done .number) (pick-yes _ _ _ (lt-ltb _ _ i));
   }
     where
@@ -492,6 +508,12 @@ module _ (l : Lending) (x : Exported) where
     rises = ⊎-elim (λ e. inl (omega (arith, e))) (λ e. let a = e .0 in let b = e .1 in inr (a, omega (arith, a, b))) (k .ending .rise);
   }
 
+  rows-of : Taken → KeptWithin l x
+  rows-of (stays n place u k e) = record { few = λ never. absurd (never (subst AltersNothing (sym (ap (λ (y : Out). y .told .done .number) e)) u)) }
+  rows-of (asks k) = record { few = λ never. k .rows }
+  rows-of (finishes k) = record { few = λ never. k .rows }
+  rows-of (refuses k) = record { few = λ never. k .rows }
+
   -- the answer's first word
   kinds : (a : AnswerWords) {k n : ℕ} → a .kind ≡ k → o .told .answer ≡ answered a (l .answer) → 1 ≤ length (l .answer) → getD (o .told .answer) 0 0 ≡ n → k ≡ n
   kinds a d e i q = sym d ∙ sym (answer-word a (l .answer) i) ∙ sym (ap (λ (w : List ℕ). getD w 0 0) e) ∙ q
@@ -536,18 +558,19 @@ module _ (setup : Setup) (counts : List ℕ) where
   anything most c = record { known = λ n a b. tt; ended = λ n i a. tt; limit = λ i l. tt; wild = λ i l. tt; mode = λ n i a b. tt; total = tt }
 
   stands-so : length counts ≤ 4096 → (n : ℕ) (h : Held words) → isPlaced (setup .effects) counts n (h .whole .progress) ≡ true
-      → Going (λ n. Unit) (λ n place k. Unit) setup counts (length (h .whole .work)) (h .whole .tally .calls .0) (anything _ _) fuel h
+      → Going (λ n. Unit) (λ n place k. Unit) setup counts (length (h .whole .work)) (h .whole .tally .calls .0) (h .whole .tally .«cached_rows» .0) (anything _ _) fuel h
   stands-so few n h e =
       let p = placed (λ n. Unit) (λ n a b. tt) (setup .effects) counts n (h .whole .progress) e in
       record {
         ahead = record { subject = p .0; left = 6343; search = lifts (λ n. Unit) (λ n a b. tt) (λ n. tt) _ 6343 (h .whole .progress) (p .1); enough = omega (arith, few) };
         work = refl;
         calls = refl;
+        rows = omega arith;
       }
 
   requests : NeverSpent setup counts
   requests = record {
-    within = λ few n h e. never-spent _ _ setup counts _ _ (anything _ _) few h (stands-so few n h e);
+    within = λ few n h e. never-spent _ _ setup counts _ _ _ (anything _ _) few h (stands-so few n h e);
     entered = λ observations x h t e. unspent setup counts h t (subst (Enters setup counts h) e (enters setup counts h observations x));
   }
 
@@ -559,5 +582,6 @@ for-all-words =
       refusals = λ l x. refusals-of l x (taken l x);
       limits = λ l x. limits-of l x (taken l x);
       ends = λ l x. ends-of l x (taken l x);
+      rows = λ l x. rows-of l x (taken l x);
       requests = requests;
     }

@@ -28,10 +28,10 @@ use Rattle.search.specs.declared.Tally.{Tally}
 use Rattle.search.specs.Subjects.{fitOf, wantedBy}
 use Rattle.search.specs.declared.Wanted.{Wanted}
 use Rattle.search.specs.declared.Wanted.the-variants as Wants
-use Rattle.population.specs.Kept.{words}
+use Rattle.population.specs.Kept.{words, orderRows}
 use Rattle.population.specs.Population.{rowsOf}
-use Rattle.session.specs.Calls.{lentBy, awaitedPoint, awaitedFor, trialBy, admitAwaited, admittedOver, admitReply}
-use Rattle.session.specs.Session.{Held, allChecked, isPlaced, isStanding, admitted, reply}
+use Rattle.session.specs.Calls.{lentBy, stands, awaitedPoint, awaitedFor, trialBy, admitAwaited, admittedOver, admitReply}
+use Rattle.session.specs.Session.{Held, allChecked, isPlaced, isStanding, standing, admitted, reply}
 use Rattle.session.specs.declared.Admitted.{Admitted}
 use Rattle.session.specs.declared.Awaited.{Awaited}
 use Rattle.session.specs.declared.State.{State}
@@ -49,36 +49,38 @@ use Rattle.session_theorems.proofs.SubjectChecks.{IsSound, part-sound, 
 
 -- where the answer is not that of a test that fails, the test held
 -- ---- 19: the positions are right among all observations, and so among the most that there can be
-module _ (setup : Setup) (counts : List ℕ) (n : ℕ) (tally : Tally) (p : Progress) (e : isStanding setup counts n tally p ≡ true) where
+module _ (setup : Setup) (counts : List ℕ) (n : ℕ) (tally : Tally) (rows : ℕ) (p : Progress) (e : isStanding setup counts n tally rows p ≡ true) where
   pub placed : (p .subject < length counts) × (p .first + rowsOf counts (p .subject) ≤ n)
   unfolding isStanding isPlaced
   placed =
       let kept = not-first _ _ false-not-true e in
-      let inside = only-first _ _ (kept .1) in
+      let few = not-first _ _ false-not-true (kept .1) in
+      let inside = only-first _ _ (few .1) in
       (ltb-true _ _ (inside .0), ltb-false _ _ (not-first _ _ false-not-true (inside .1) .0))
 
-  stands-for-most : n ≤ mostRows → isStanding setup counts mostRows tally p ≡ true
+  stands-for-most : n ≤ mostRows → isStanding setup counts mostRows tally rows p ≡ true
   unfolding isStanding isPlaced
   stands-for-most h =
       let kept = not-first _ _ false-not-true e in
-      let inside = only-first _ _ (kept .1) in
+      let few = not-first _ _ false-not-true (kept .1) in
+      let inside = only-first _ _ (few .1) in
       let among = not-first _ _ false-not-true (inside .1) in
       let m : p .first + rowsOf counts (p .subject) ≤ n = ltb-false _ _ (among .0) in
       let low : p .first + rowsOf counts (p .subject) ≤ mostRows = omega (arith, m, h) in
-      sym (no _ (kept .0) (yes _ (inside .0) (no _ (le-ltb _ _ low) (sym (among .1)))))
+      sym (no _ (kept .0) (no _ (few .0) (yes _ (inside .0) (no _ (le-ltb _ _ low) (sym (among .1))))))
 
 -- the point that is awaited is the same
-same-point : (setup : Setup) (counts : List ℕ) (n m : ℕ) (fit : Fit) (p : Progress) (tally : Tally) → isStanding setup counts n tally p ≡ true → isStanding setup counts m tally p ≡ true →
-    awaitedPoint setup counts n fit p tally ≡ awaitedPoint setup counts m fit p tally
+same-point : (setup : Setup) (counts : List ℕ) (n m : ℕ) (fit : Fit) (s : State) (tally : Tally) → stands setup counts n s tally ≡ true → stands setup counts m s tally ≡ true →
+    awaitedPoint setup counts n fit s tally ≡ awaitedPoint setup counts m fit s tally
 unfolding awaitedPoint
-same-point setup counts n m fit p tally a b =
-    let wanted = wantedBy fit p in
+same-point setup counts n m fit s tally a b =
+    let wanted = wantedBy fit (s .progress) in
     let at : (b : Bool) → b ≡ true → pick b wanted (Wants.Refused 19) ≡ wanted = λ b t. pick-yes b wanted (Wants.Refused 19) t in
-    ap (λ (w : Wanted). pick (p .awaits) w (Wants.Refused 19)) (at _ a ∙ sym (at _ b))
+    ap (λ (w : Wanted). pick (s .progress .awaits) w (Wants.Refused 19)) (at _ a ∙ sym (at _ b))
 
 -- ---- the whole of it
 module _ (setup : Setup) (counts : List ℕ) (observations : List Observation) (tally : Tally) (state answer cache work warm results : List ℕ) (said : List ℕ) (s : State)
-    (stands : isStanding setup counts (length observations) tally (s .progress) ≡ true)
+    (placing : stands setup counts (length observations) s tally ≡ true)
     (accepted : checks (withParameters setup (s .parameters)) counts (lentBy (length observations) (length cache) (length work) (length warm) (length results)) (allChecked setup counts observations) ≡
     A.Accepted) where
   abbrev own : List Observation
@@ -100,7 +102,7 @@ module _ (setup : Setup) (counts : List ℕ) (observations : List Observation) (
   all = passed set counts (lent (length observations)) (lent (length own)) (allChecked setup counts observations) accepted
 
   abbrev inside : (subject < length counts) × (s .progress .first + rows ≤ length observations)
-  inside = placed setup counts (length observations) tally (s .progress) stands
+  inside = placed setup counts (length observations) tally (orderRows (s .order)) (s .progress) placing
 
   -- the subject's rows are its count, and as many observations are lent
   rows-are : rows ≡ getD counts subject 0
@@ -131,8 +133,8 @@ module _ (setup : Setup) (counts : List ℕ) (observations : List Observation) (
   same-awaited =
       let most : length observations ≤ mostRows = let n = count-in set counts (lent (length observations)) (lent (length own)) (allChecked setup counts observations) all subject (inside .0) in omega
       (arith, n .3, total-is) in
-      (λ i. awaitedFor (fitOf setup (s .parameters)) ((sym own-accepted ∙ sym accepted) i) (same-point setup counts mostRows (length observations) (fitOf setup (s .parameters)) (s .progress) tally
-      (stands-for-most setup counts (length observations) tally (s .progress) stands most) stands i))
+      (λ i. awaitedFor (fitOf setup (s .parameters)) ((sym own-accepted ∙ sym accepted) i) (same-point setup counts mostRows (length observations) (fitOf setup (s .parameters)) s tally
+      (stands-for-most setup counts (length observations) tally (orderRows (s .order)) (s .progress) placing most) placing i))
 
   abbrev trial : Trial
   trial = trialBy setup s rows
@@ -188,14 +190,14 @@ module _ (setup : Setup) (counts : List ℕ) (observations : List Observation) (
         (ap (admitWith setup counts (lent (length observations)) (allChecked setup counts observations) tally said) (sym loads)) refl refl
 
 pub every-subject-reply : EverySubjectReply
-every-subject-reply setup counts observations tally state answer cache work warm results said s loads stands accepted = subject-reply setup counts observations tally state answer cache work warm
-    results said s stands accepted loads
+every-subject-reply setup counts observations tally state answer cache work warm results said s loads placing accepted = subject-reply setup counts observations tally state answer cache work warm
+    results said s placing accepted loads
 
 -- wherever a session stands, the positions are right and 1 to 5 pass
 pub in-every-session : InEverySession
 unfolding admitted
 in-every-session setup counts observations lent before granted acts tally state answer cache work warm results said s loads here =
-    let stands = let-in setup counts observations lent before granted acts in
+    let here-stands = let-in setup counts observations lent before granted acts in
     every-subject-reply setup counts observations tally state answer cache work warm results said s loads
-    (subst (λ (h : Held words). isStanding setup counts (length observations) (h .whole .tally) (h .whole .progress) ≡ true) (sym here) (stands .placed))
-    (subst (λ (h : Held words). admitted words setup counts (length observations) (allChecked setup counts observations) (h .parameters) (h .whole) ≡ A.Accepted) (sym here) (stands .accepted))
+    (subst (λ (h : Held words). standing words setup counts (length observations) (h .whole) ≡ true) (sym here) (here-stands .placed))
+    (subst (λ (h : Held words). admitted words setup counts (length observations) (allChecked setup counts observations) (h .parameters) (h .whole) ≡ A.Accepted) (sym here) (here-stands .accepted))

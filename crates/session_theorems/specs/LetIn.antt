@@ -19,7 +19,7 @@ use Rattle.search.specs.declared.Place.the-variants.{Subject}
 use Rattle.search.specs.declared.Step.the-variants.{Refused}
 use Rattle.machine.specs.Machine.{on, call, Act, run}
 use Rattle.population.specs.Kept.{words}
-use Rattle.session.specs.Session.{Held, Call, objective, reply, failure, isStanding, whenAdmitted, begun, over, admitted, allChecked}
+use Rattle.session.specs.Session.{Held, Call, objective, reply, failure, standing, whenAdmitted, begun, over, admitted, allChecked}
 use Rattle.session.specs.Session.{enterObjective, enterReply, enterFailure, answered, session, opened}
 use Rattle.session_theorems.specs.Inner.{pointWanted}
 use Rattle.session_theorems.specs.Setup.{Granted}
@@ -40,8 +40,8 @@ module _ (setup : Setup) (counts : List ℕ) (observations : List Observation) w
   Ruled failure h = h .whole .progress .awaits ≡ true
 
   pub record LetIn (h : Held words) : Type 0 where
-    -- 19's positions
-    pub placed : isStanding setup counts (length observations) (h .whole .tally) (h .whole .progress) ≡ true
+    -- 19's positions and kept rows
+    pub placed : standing words setup counts (length observations) (h .whole) ≡ true
     -- 1 to 5 of the objective's own parameters; of others only 2 and 3 can refuse
     pub accepted : admission (h .parameters) h ≡ Accepted
     pub others : (parameters : Parameters) → isNoOmega (withParameters setup parameters) ≡ false

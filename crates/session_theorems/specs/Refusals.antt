@@ -4,7 +4,7 @@ use mathlib.Core.Path.{_≡_}
 use mathlib.Core.Bool.{true}
 use mathlib.Core.List.{List}
 use mathlib.Core.Logic.{_⊎_}
-use Prim.Native.Nat.{ℕ, suc, _+_, _≤_, _<_}
+use Prim.Native.Nat.{ℕ, suc, _+_, _-_, _≤_, _<_}
 use lib.ListN.{length, getD}
 use Rattle.float64.specs.Answer.{refused}
 use Rattle.likelihood.specs.declared.population_focei.Observation.{Observation}
@@ -73,6 +73,10 @@ Carries n (At.Subject i) = ((6 ≤ n) × (n ≤ 9)) ⊎ ((12 ≤ n) × (n ≤ 17
 abbrev pub Awaits : List ℕ → Type 0
 Awaits state = getD state 0 0 ≡ 1
 
+-- the rows that are kept by a state's positions: its words 16 and 17 are the numbers of the first row and of the next one
+abbrev pub keptBy : List ℕ → ℕ
+keptBy state = getD state 17 0 - getD state 16 0
+
 module _ (l : Lending) where
   abbrev pub number : Exported → ℕ
   number x = does l x .told .done .number
@@ -93,10 +97,11 @@ module _ (l : Lending) where
     pub answers : (Awaits (l .state) → ⊥) → (said : List ℕ) → number (calls (reply said)) ≡ 19
     pub subjects : (Awaits (l .state) → ⊥) → (said : List ℕ) → number (replies said) ≡ 19
     pub failures : (Awaits (l .state) → ⊥) → number (calls failure) ≡ 19
-    -- any call but setup: words that are no state; a subject that has no count; kept rows above K
+    -- any call but setup: words that are no state; a subject that has no count; kept rows above K, by the tally or by the state's positions
     pub stateless : (n : ℕ) → loadedState (l .state) ≡ refused n → (x : Exported) → (x ≡ opens → ⊥) → number x ≡ 19
     pub misplaced : length (l .counts) ≤ getD (l .state) 8 0 → (x : Exported) → (x ≡ opens → ⊥) → number x ≡ 19
     pub crowded : l .setup .k < l .tally .«cached_rows» .0 → (x : Exported) → (x ≡ opens → ⊥) → number x ≡ 19
+    pub overfull : l .setup .k < keptBy (l .state) → (x : Exported) → (x ≡ opens → ⊥) → number x ≡ 19
     -- setup: too few words for the state that it is to give
     pub short : length (l .state) < stateSize → number opens ≡ 19
 
@@ -134,6 +139,12 @@ module _ (l : Lending) where
     -- after a question, where the answer's first word is 0, the state awaits its reply
     pub asked : 1 ≤ length (l .answer) → getD (does l x .told .answer) 0 0 ≡ 0 → Awaits (does l x .told .state)
 
+  -- ---- kept rows
+
+  -- a call that does more than to refuse leaves at most K of them in the tally, whatever the words of the kept evaluations
+  pub record KeptWithin (x : Exported) : Type 0 where
+    pub few : (AltersNothing (number x) → ⊥) → does l x .told .done .tally .«cached_rows» .0 ≤ l .setup .k
+
 -- ---- the requests that a call may make are never used up: more of them, and whatever answer after the last, would change nothing
 
 pub record NeverSpent (setup : Setup) (counts : List ℕ) : Type 0 where
@@ -153,4 +164,5 @@ pub record ForAllWords : Type 0 where
   pub refusals : (l : Lending) (x : Exported) → EveryRefusal l x
   pub limits : (l : Lending) (x : Exported) → SixOnlyAtTheLimit l x
   pub ends : (l : Lending) (x : Exported) → ZerosAfterAnEnd l x
+  pub rows : (l : Lending) (x : Exported) → KeptWithin l x
   pub requests : (setup : Setup) (counts : List ℕ) → NeverSpent setup counts

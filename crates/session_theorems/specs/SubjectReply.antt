@@ -15,8 +15,8 @@ use Rattle.search.specs.declared.Tally.{Tally}
 use Rattle.machine.specs.Machine.{Act, run}
 use Rattle.population.specs.Kept.{words}
 use Rattle.population.specs.Population.{rowsOf}
-use Rattle.session.specs.Calls.{heldOf, lentBy}
-use Rattle.session.specs.Session.{allChecked, isStanding, reply, opened, session}
+use Rattle.session.specs.Calls.{heldOf, lentBy, stands}
+use Rattle.session.specs.Session.{allChecked, reply, opened, session}
 use Rattle.session.specs.declared.State.{State}
 use Rattle.state_words.specs.SessionWords.{loadedState}
 use Rattle.host_calls.specs.Hosting.{callOver}
@@ -30,7 +30,7 @@ ownOf counts observations s = take (rowsOf counts (s .progress .subject)) (drop 
 abbrev pub EverySubjectReply : Type 0
 EverySubjectReply = (setup : Setup) (counts : List ℕ) (observations : List Observation) (tally : Tally)
     → (state answer cache work warm results : List ℕ) (said : List ℕ) (s : State) → loadedState state ≡ given s
-    → isStanding setup counts (length observations) tally (s .progress) ≡ true
+    → stands setup counts (length observations) s tally ≡ true
     → checks (withParameters setup (s .parameters)) counts
     (lentBy (length observations) (length cache) (length work) (length warm) (length results)) (allChecked setup counts observations)
     ≡ Accepted

@@ -154,7 +154,7 @@ pub record FitsPoint2 (c : Conditional2) : Type 0 where
   pub i11 : Fits (c .i11)
 
 pub record FitsSearch2 (x : Search2) : Type 0 where
-  pub stage : two.stageWord (x .stage) ≤ 4 + two.largest
+  pub stage : two.isNoStage (two.stageWord (x .stage)) ≡ false
   pub seed : x .seed ≤ two.largest
   pub round : x .round ≤ two.largest
   pub reduction : x .reduction ≤ two.largest
@@ -228,7 +228,7 @@ search2-back x rest f =
     let long : two.searchSize ≤ length (two.saved x ++ rest) = let l = length-append (two.saved x) rest in omega arith in
     sym
     (no _ (le-ltb _ _ long)
-    (no _ (le-ltb _ _ (f .stage))
+    (no _ (f .stage)
     (no _ (le-ltb _ _ (f .seed))
     (no _ (le-ltb _ _ (f .round))
     (no _ (le-ltb _ _ (f .reduction))

@@ -1,4 +1,5 @@
 -- A search with two effects as twenty-five words: the words of a search, and the search of some words, or 19 where they are none.
+use mathlib.Core.Bool.{Bool, false, not}
 use mathlib.Core.List.{List, [], _∷_, _++_}
 use Prim.Native.Nat.{ℕ, _+_, _-_}
 use lib.Dec.{ltb, eqb}
@@ -40,6 +41,10 @@ saved x =
 abbrev pub searchSize : ℕ
 searchSize = 25
 
+-- 13, 14 and 16 are the refusals of a search: any other word above 3 is no stage's
+unfoldable pub isNoStage : ℕ → Bool
+isNoStage n = pick (ltb n 4) false (pick (eqb n (4 + 13)) false (pick (eqb n (4 + 14)) false (not (eqb n (4 + 16)))))
+
 unfoldable pub stageOf : ℕ → Stage2
 stageOf n = pick (eqb n 0) Zero (pick (eqb n 1) Start (pick (eqb n 2) Trial (pick (eqb n 3) Found (Halted (n - 4)))))
 
@@ -76,13 +81,13 @@ searchOf words =
       best = conditionalAt words 16;
     }
 
--- the largest u32, for the number of a refusal and the three counts
+-- the largest u32, for the three counts
 abbrev pub largest : ℕ
 largest = 4294967295
 
 unfoldable pub loadedLent : List ℕ → Answer Search2
 loadedLent words =
-    pick (ltb (4 + largest) (at words 0)) (refused 19)
+    pick (isNoStage (at words 0)) (refused 19)
     (pick (ltb largest (at words 1)) (refused 19)
     (pick (ltb largest (at words 2)) (refused 19)
     (pick (ltb largest (at words 3)) (refused 19)

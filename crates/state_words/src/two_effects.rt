@@ -1,11 +1,11 @@
 // A search with two effects as twenty-five words, for a host that keeps it: its stage (0 zero, 1 start, 2
-// trial, 3 found, and of a search that was refused 4 more than the number), seed, round, reduction, current,
+// trial, 3 found, and of a search that was refused 4 more than 13, 14 or 16), seed, round, reduction, current,
 // trial, decrease and best. A float is its word, and a point the words of its eta, nll, score and
 // information. Each public function is defined for all words and searches.
 ghost use mathlib.Core.Path.{_≡_};
 ghost use Prim.Native.Nat.{_+_, _≤_, _<_};
 ghost use lib.ListN.{length};
-ghost use Rattle.state_words.specs.SearchWords2.{searchSize, conditionalAt, wordsOf, stageOf, stageWord, saved};
+ghost use Rattle.state_words.specs.SearchWords2.{searchSize, conditionalAt, wordsOf, isNoStage, stageOf, stageWord, saved};
 ghost use Rattle.state_words.specs.SearchWords2.{loadedLent, loaded, answer};
 use mode_2d::population_focei_2d::Conditional2;
 use mode_2d::population_focei_2d::Search2;
@@ -20,8 +20,24 @@ pub enum Loaded2 {
     None,
 }
 
+// Whether a word is no stage's. A search refuses with 13, 14 and 16 alone.
+fn is_no_stage(word: u64) -> bool
+    ensures { λ r. ⌜ r ≡ isNoStage word ⌝ }
+{
+    if word < 4 {
+        return false;
+    }
+    if word == 17 {
+        return false;
+    }
+    if word == 18 {
+        return false;
+    }
+    word != 20
+}
+
 fn stage_of(word: u64) -> Stage2
-    requires { ⌜ word < 4294967300 ⌝ }
+    requires { ⌜ word < 21 ⌝ }
     ensures { λ r. ⌜ r ≡ stageOf word ⌝ }
 {
     if word == 0 {
@@ -85,13 +101,13 @@ fn words_of(c: Conditional2) -> [u64; 9]
     ]
 }
 
-// The search that twenty-five words stand for. They are no search where the refusal's number, the seed, the
-// round or the reduction does not fit in a u32.
+// The search that twenty-five words stand for. They are no search where the stage is none, or where the seed,
+// the round or the reduction does not fit in a u32.
 fn load_lent(words: &[u64]) -> Loaded2
     requires { ⌜ searchSize ≤ length (now words) ⌝ }
     ensures { λ r. ⌜ answer r ≡ loadedLent (now (words .entry)) ⌝ }
 {
-    if words[0] > 4294967299 {
+    if is_no_stage(words[0]) {
         return Loaded2::None;
     }
     if words[1] > 4294967295 {

@@ -176,6 +176,10 @@ fn evicted(words: &[u64], k: usize, room: usize, order: [u64; 4]) -> [u64; 4] {
         first_row = first_row.saturating_add(gone).min(next_row);
         oldest += 1;
     }
+    // where no entry is left there is no row
+    if oldest >= next {
+        first_row = next_row;
+    }
     [oldest, next, first_row, next_row]
 }
 
