@@ -8,6 +8,7 @@ use lib.ListN.{getD, set, length}
 use lib.Ieee.{binary64, toBits}
 use Rattle.float64.specs.Arithmetic.{_+ᶠ_, _*ᶠ_, word}
 use Rattle.float64.specs.Pick.{pick}
+use Rattle.float64.specs.Answer.{Answer, given, refused}
 use Rattle.matrix.specs.declared.Pair.{Pair}
 use Rattle.subject.specs.declared.Sums.{Sums}
 use Rattle.words.specs.Words.{zeros}
@@ -25,7 +26,6 @@ use Rattle.search.specs.declared.Wanted.{Wanted}
 use Rattle.search.specs.declared.Wanted.the-variants as Wants
 use Rattle.search.specs.declared.Mode.{Mode}
 use Rattle.search.specs.declared.Closed.{Closed}
-use Rattle.search.specs.declared.Closed.the-variants.{Positive, NotPositive}
 use Rattle.cache.specs.Cache.{Cache}
 use Rattle.population.specs.Kept.{Recalled, Store, words}
 use Rattle.population.specs.declared.Turned.{Turned}
@@ -105,16 +105,20 @@ abbrev pub ended : Turned → List ℕ → List ℕ → List ℕ → Ended
 ended t work warm results = record { turned = t; work = work; warm = warm; results = results }
 
 -- 16, the warm start, 17, the results
-unfoldable pub closing : Fit → List ℕ → Progress → Tally → ℕ → List ℕ → List ℕ → List ℕ → Closed → Ended
-closing fit counts progress tally rows work warm results NotPositive =
-    ended (Halt (B.refusedBy progress tally 16 (Subject (progress .subject)))) work warm results
-closing fit counts progress tally rows work warm results (Positive mode) =
+abbrev pub closingWith : Fit → List ℕ → Progress → Tally → ℕ → List ℕ → List ℕ → List ℕ → Answer Mode → Ended
+closingWith fit counts progress tally rows work warm results (refused number) =
+    ended (Halt (B.refusedBy progress tally number (Subject (progress .subject)))) work warm results
+closingWith fit counts progress tally rows work warm results (given mode) =
     let stored = warmStored (fit .effects) (progress .subject) (mode .eta) warm in
     let next = nextSubject fit counts progress tally mode rows stored work in
     let fitted = fittedWritten (length counts) (progress .first) work rows
     (resultWritten (progress .subject) (mode .eta) (mode .nll) results) in
     pick (isSameGrid work rows) (ended (next .value) (next .work) stored fitted)
     (ended (Halt (B.refusedBy progress tally 17 (Subject (progress .subject)))) work stored results)
+
+unfoldable pub closing : Fit → List ℕ → Progress → Tally → ℕ → List ℕ → List ℕ → List ℕ → Closed → Ended
+closing fit counts progress tally rows work warm results c =
+    closingWith fit counts progress tally rows work warm results (B.modeAnswer c)
 
 unfoldable pub atMode : Fit → List ℕ → Progress → Tally → List ℕ → List ℕ → List ℕ → Ended
 atMode fit counts progress tally work warm results =

@@ -356,6 +356,11 @@ isOver (Refused number place) = true
 
 -- ---- a mode: check 16, and its part of the objective
 
+-- a mode whose curvature is not positive is refused with 16
+abbrev pub modeAnswer : Closed → Answer Mode
+modeAnswer (Positive mode) = given mode
+modeAnswer NotPositive = refused 16
+
 -- 2 nll - n log 2π + eta² / omega + log (omega · curvature)
 unfoldable pub closed1 : Fit → Conditional → ℕ → Closed
 closed1 fit best rows =

@@ -22,7 +22,6 @@ use Rattle.setup.specs.declared.Setup.{Setup}
 use Rattle.search.specs.Subjects.{oneOf, twoOf, beginSubject}
 use Rattle.search.specs.declared.Progress.{Progress}
 use Rattle.search.specs.declared.Tally.{Tally}
-use Rattle.population.specs.Kept.{orderRows}
 use Rattle.population.specs.Population.{rowsOf}
 use Rattle.session.specs.Calls.{firstState, stands, admitObjective, trialBy}
 use Rattle.session.specs.Session.{countWithin, searchWithin, searchWithin2, isPlaced, isStanding}
@@ -55,12 +54,12 @@ module _ (effects : ℕ) (counts : List ℕ) (n : ℕ) (p : Progress) where
     placed l one ex q = yes _ (lt-ltb _ _ inside) (no _ (le-ltb _ _ (fit l)) (no _ (ne-eqb _ _ one) (q ∙ ap searchWithin ex)))
 
 -- ---- the kept rows; r is what `cached_rows` answered
-module _ (setup : Setup) (counts : List ℕ) (n : ℕ) (state : State) (tally : Tally) {r : ℕ} (l : tally .«cached_rows» .0 ≤ setup .k) (e : r ≡ orderRows (state .order)) where
-  pub too-many-kept : setup .k < r → false ≡ stands setup counts n state tally
+module _ (setup : Setup) (counts : List ℕ) (n : ℕ) (tally : Tally) {r rows : ℕ} (p : Progress) (l : tally .«cached_rows» .0 ≤ setup .k) (e : r ≡ rows) where
+  pub too-many-kept : setup .k < r → false ≡ isStanding setup counts n tally rows p
   unfolding isStanding
   too-many-kept m = no _ (le-ltb _ _ l) (yes _ (lt-ltb _ _ (subst (λ (x : ℕ). setup .k < x) e m)) refl)
 
-  pub few-kept : {b : Bool} → r ≤ setup .k → b ≡ isPlaced (setup .effects) counts n (state .progress) → b ≡ stands setup counts n state tally
+  pub few-kept : {b : Bool} → r ≤ setup .k → b ≡ isPlaced (setup .effects) counts n p → b ≡ isStanding setup counts n tally rows p
   unfolding isStanding
   few-kept m q = no _ (le-ltb _ _ l) (no _ (le-ltb _ _ (subst (λ (x : ℕ). x ≤ setup .k) e m)) q)
 

@@ -9,6 +9,8 @@ use Rattle.float64.specs.Arithmetic.{_-ᶠ_, _/ᶠ_, word, one}
 use Rattle.float64.specs.Pick.{pick}
 use Rattle.matrix.specs.declared.Pair.{Pair}
 use Rattle.words.specs.Words.{smaller}
+use Rattle.subject.specs.Observations.{Verdict}
+use Rattle.subject.specs.Observations.Verdict.{passes, fails, failsAt}
 use Rattle.subject.specs.Subject.{begin, finish}
 use Rattle.subject.specs.declared.AdditiveSd.the-variants.{Own}
 use Rattle.subject.specs.declared.Check.{Check}
@@ -16,7 +18,7 @@ use Rattle.subject.specs.declared.Evaluation.{Evaluation}
 use Rattle.subject.specs.declared.Evaluation.the-variants as E
 use Rattle.subject.specs.declared.Trial.{Trial}
 use Rattle.work.specs.Work.{block}
-use Rattle.setup.specs.Admission.{checks, withParameters}
+use Rattle.setup.specs.Admission.{verdict, checks, withParameters}
 use Rattle.setup.specs.declared.Lent.{Lent}
 use Rattle.setup.specs.declared.Parameters.{Parameters}
 use Rattle.setup.specs.declared.Setup.{Setup}
@@ -109,15 +111,19 @@ abbrev pub begunWith : Begun → List ℕ → List ℕ → List ℕ → Setting
 begunWith r cache work warm = record { begun = r; cache = cache; work = work; warm = warm }
 
 -- a session, where 1 to 5 pass; else a refusal that alters nothing
-unfoldable pub opening : Setup → List ℕ → Lent → Tally → List ℕ → List ℕ → List ℕ → List ℕ → Admission → Setting
-opening setup counts lent tally cache work warm results A.Accepted =
+abbrev pub openingJudged : Setup → List ℕ → Lent → Tally → List ℕ → List ℕ → List ℕ → List ℕ → Verdict → Setting
+openingJudged setup counts lent tally cache work warm results passes =
     let h = opened words setup counts lent results in
     begunWith (record { opening = Opens.Opened (stateOf h); tally = h .whole .tally }) (h .whole .kept .words) (h .whole .work)
     (h .whole .warm)
-opening setup counts lent tally cache work warm results (A.Refused number) =
+openingJudged setup counts lent tally cache work warm results (fails number) =
     begunWith (record { opening = Opens.Refused number At.Nowhere; tally = tally }) cache work warm
-opening setup counts lent tally cache work warm results (A.Unsound at) =
-    begunWith (record { opening = Opens.Refused 4 (At.Observation (at .subject) (at .observation)); tally = tally }) cache work warm
+openingJudged setup counts lent tally cache work warm results (failsAt number at) =
+    begunWith (record { opening = Opens.Refused number (At.Observation (at .subject) (at .observation)); tally = tally }) cache work warm
+
+unfoldable pub opening : Setup → List ℕ → Lent → Tally → List ℕ → List ℕ → List ℕ → List ℕ → Admission → Setting
+opening setup counts lent tally cache work warm results admission =
+    openingJudged setup counts lent tally cache work warm results (verdict admission)
 
 unfoldable pub openedBy : Setup → List ℕ → ℕ → Check → Tally → List ℕ → List ℕ → List ℕ → List ℕ → Setting
 openedBy setup counts n check tally cache work warm results =
@@ -188,8 +194,8 @@ unadmitted setup =
     (record { individual = zero; «additive_sd» = Own; width = 0; effects = 0; block = 0 }) 19
 
 -- what is begun with a reply that is accepted, over the observations lent from number `from` up to, but without, `to`
-unfoldable pub admittedOver : Setup → Trial → List ℕ → Awaited → ℕ → ℕ → Admission → Admitted
-admittedOver setup trial reply awaited from to A.Accepted =
+abbrev pub judgedOver : Setup → Trial → List ℕ → Awaited → ℕ → ℕ → Verdict → Admitted
+judgedOver setup trial reply awaited from to passes =
     record {
       awaited = awaited;
       from = from;
@@ -197,8 +203,11 @@ admittedOver setup trial reply awaited from to A.Accepted =
       evaluation = begin reply (setup .width) (setup .effects) (setup .«output_budget»);
       trial = trial;
     }
-admittedOver setup trial reply awaited from to (A.Refused number) = nothingAdmitted awaited trial number
-admittedOver setup trial reply awaited from to (A.Unsound at) = nothingAdmitted awaited trial 4
+judgedOver setup trial reply awaited from to (fails number) = nothingAdmitted awaited trial number
+judgedOver setup trial reply awaited from to (failsAt number at) = nothingAdmitted awaited trial number
+
+unfoldable pub admittedOver : Setup → Trial → List ℕ → Awaited → ℕ → ℕ → Admission → Admitted
+admittedOver setup trial reply awaited from to admission = judgedOver setup trial reply awaited from to (verdict admission)
 
 unfoldable pub admitReply : Setup → List ℕ → Lent → Check → State → Tally → List ℕ → Admitted
 admitReply setup counts lent check state tally reply =

@@ -13,7 +13,8 @@ use Rattle.mode.specs.declared.population_focei.Stage.the-variants.{Grid, Warm,
 use Rattle.mode.specs.declared.population_focei.Search.{Search}
 use Rattle.mode_2d.specs.declared.population_focei_2d.Search2.{Search2}
 use Rattle.likelihood.specs.declared.population_focei.Observation.{Observation}
-use Rattle.subject.specs.Observations.{firstCheck, checkObservations}
+use Rattle.subject.specs.Observations.{Verdict, firstCheck, checkObservations}
+use Rattle.subject.specs.Observations.Verdict.{passes, fails, failsAt}
 use Rattle.subject.specs.Subject.{Evaluating, evaluating, begin, addObservations, finish}
 use Rattle.subject.specs.declared.Trial.{Trial}
 use Rattle.subject.specs.declared.Check.{Check}
@@ -21,12 +22,11 @@ use Rattle.subject.specs.declared.Evaluation.{Evaluation}
 use Rattle.subject.specs.declared.Evaluation.the-variants as E
 use Rattle.words.specs.Words.{zeros}
 use Rattle.work.specs.Work.{block}
-use Rattle.setup.specs.Admission.{checks, withParameters}
+use Rattle.setup.specs.Admission.{verdict, checks, withParameters}
 use Rattle.setup.specs.declared.Setup.{Setup}
 use Rattle.setup.specs.declared.Parameters.{Parameters}
 use Rattle.setup.specs.declared.Lent.{Lent}
 use Rattle.setup.specs.declared.Admission.{Admission}
-use Rattle.setup.specs.declared.Admission.the-variants as A
 use Rattle.search.specs.Subjects.{fitOf, oneOf, twoOf, wantedBy, idle, beginSubject}
 use Rattle.search.specs.declared.Tally.{Tally}
 use Rattle.search.specs.declared.Fit.{Fit}
@@ -112,10 +112,13 @@ module _ (S : Store) where
   abbrev pub unaltered : ℕ → Place → Held S → Moved (Held S) Step
   unaltered number place h = halt (Refused number place) h
 
+  abbrev pub whenJudged : Held S → Moved (Held S) Step → Verdict → Moved (Held S) Step
+  whenJudged h go passes = go
+  whenJudged h go (fails number) = unaltered number At.Nowhere h
+  whenJudged h go (failsAt number place) = unaltered number (At.Observation (place .subject) (place .observation)) h
+
   unfoldable pub whenAdmitted : Held S → Moved (Held S) Step → Admission → Moved (Held S) Step
-  whenAdmitted h go A.Accepted = go
-  whenAdmitted h go (A.Refused number) = unaltered number At.Nowhere h
-  whenAdmitted h go (A.Unsound place) = unaltered 4 (At.Observation (place .subject) (place .observation)) h
+  whenAdmitted h go admission = whenJudged h go (verdict admission)
 
   -- a refusal that ends the objective
   unfoldable pub over : ℕ → Place → Held S → Moved (Held S) Step

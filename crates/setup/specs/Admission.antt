@@ -8,11 +8,14 @@ use lib.Ieee.{Float, le, lt, ne}
 use Rattle.float64.specs.Arithmetic.{word, edge}
 use Rattle.float64.specs.Float64.{nonfinite}
 use Rattle.float64.specs.Pick.{pick}
+use Rattle.float64.specs.Answer.{Answer, given, refused}
 use Rattle.matrix.specs.Matrix.{pair, Inverse, some, none, inversePositive}
 use Rattle.cache.specs.Cache.{keptWords}
 use Rattle.work.specs.Work.{mostSubjects, mostRows, workWords, resultWords, fittedWords}
 use Rattle.subject.specs.declared.AdditiveSd.{AdditiveSd}
 use Rattle.subject.specs.declared.AdditiveSd.the-variants.{Own, Override}
+use Rattle.subject.specs.Observations.{Verdict}
+use Rattle.subject.specs.Observations.Verdict.{passes, fails, failsAt}
 use Rattle.subject.specs.declared.Check.{Check}
 use Rattle.subject.specs.declared.Check.the-variants.{Sound, Unsound as UnsoundAt}
 use Rattle.setup.specs.declared.Setup.{Setup}
@@ -32,6 +35,16 @@ isBeyond x low high = pick (le low x) (pick (le x high) false true) true
 
 abbrev pub larger : ℕ → ℕ → ℕ
 larger a b = pick (ltb a b) b a
+
+-- the sum and the largest of the counts
+pub record Totals : Type 0 where
+  pub total : ℕ
+  pub largest : ℕ
+
+-- counts outside the domain are refused with 1
+abbrev pub totals : Counts → Answer Totals
+totals (Within total largest) = given (record { total = total; largest = largest })
+totals Outside = refused 1
 
 unfoldable pub countFrom : ℕ → ℕ → List ℕ → Counts
 countFrom total largest [] = Within total largest
@@ -103,6 +116,12 @@ isShort setup subjects total largest lent =
 
 -- ---- in their order; 4 is what the check of the observations found
 
+-- what an admission says: 4 carries subject and observation, the others no place
+abbrev pub verdict : Admission → Verdict
+verdict Accepted = passes
+verdict (Refused number) = fails number
+verdict (Unsound place) = failsAt 4 place
+
 unfoldable pub roomy : Setup → ℕ → ℕ → ℕ → Lent → Check → Admission
 roomy setup subjects total largest lent (UnsoundAt place) = Unsound place
 roomy setup subjects total largest lent (Sound place) = pick (isShort setup subjects total largest lent) (Refused 5) Accepted
@@ -113,10 +132,14 @@ admitted setup subjects total largest lent check =
     (pick (isNoShape setup) (Refused 3)
     (roomy setup subjects total largest lent check))
 
+abbrev pub checksWith : Setup → ℕ → Lent → Check → Answer Totals → Admission
+checksWith setup subjects lent check (given t) =
+    pick (isCohort (setup .effects) subjects (t .total) (lent .observations))
+    (admitted setup subjects (t .total) (t .largest) lent check) (Refused 1)
+checksWith setup subjects lent check (refused number) = Refused number
+
 unfoldable pub checksOf : Setup → ℕ → Lent → Check → Counts → Admission
-checksOf setup subjects lent check (Within total largest) =
-    pick (isCohort (setup .effects) subjects total (lent .observations)) (admitted setup subjects total largest lent check) (Refused 1)
-checksOf setup subjects lent check Outside = Refused 1
+checksOf setup subjects lent check counts = checksWith setup subjects lent check (totals counts)
 
 unfoldable pub checks : Setup → List ℕ → Lent → Check → Admission
 checks setup counts lent check = checksOf setup (length counts) lent check (countObservations counts)

@@ -1,15 +1,16 @@
 -- The ways through the code: one law for each, over plain variables. Assumes nothing.
-use mathlib.Core.Path.{_≡_, refl, sym, ap, _∙_}
-use mathlib.Core.Bool.{Bool}
+use mathlib.Core.Path.{_≡_, refl, sym, ap, subst, _∙_}
+use mathlib.Core.Bool.{Bool, true, false}
 use mathlib.Core.List.{List, [], _∷_, _++_}
 use Prim.Native.Nat.{ℕ, zero, suc, _+_, _-_, _≤_, _<_}
 use native.Mathlib.Nat.{not-suc-le-zero, le-of-suc-le-suc, add-zero}
 use native.Mathlib.Omega.{arith}
-use borrow.Author.Tests.{eq-eqb, ne-eqb}
+use borrow.Author.Tests.{eq-eqb, ne-eqb, ltb-true, eqb-true}
+use lib.Dec.{T, ltb, eqb}
 use lib.ListN.{getD, set, length, length-drop, take, drop, drop-of-length-le}
 use lib.Seq.{take-all}
 use Rattle.float64.specs.Answer.{Answer, given, refused, through}
-use Rattle.float64.specs.Pick.{yes, no}
+use Rattle.float64.specs.Pick.{yes, no, cases}
 use Rattle.mode.specs.declared.population_focei.Search.{Search}
 use Rattle.mode_2d.specs.declared.population_focei_2d.Search2.{Search2}
 use Rattle.state_words.specs.SearchWords as one
@@ -30,6 +31,17 @@ use Rattle.state_words.specs.declared.LoadedState.{LoadedState}
 use Rattle.state_words.specs.declared.LoadedState.the-variants.{Given, None}
 use Rattle.state_words.specs.SessionWords.{at, bits, flag, stateAt, loadedSearch, withSearch, answer, objectiveWords, progressWords, orderWords, searchWords, stateWords, putFrom}
 use Rattle.state_words.specs.SessionWords.{savedState}
+
+-- ---- a stage's word; b is what `is_no_stage` answered
+pub stage-low : {b : Bool} (n : ℕ) → b ≡ two.isNoStage n → b ≡ false → n < 21
+unfolding two.isNoStage
+stage-low n q f =
+    let Low : Bool → Type 0 = λ b. b ≡ false → n < 21 in
+    cases Low (ltb n 4) (λ t _. let l : n < 4 = ltb-true _ _ t in omega (arith, l))
+    (λ _. cases Low (eqb n 17) (λ t _. let e = eqb-true n 17 t in omega (arith, e))
+    (λ _. cases Low (eqb n 18) (λ t _. let e = eqb-true n 18 t in omega (arith, e))
+    (λ _. cases Low (eqb n 20) (λ t _. let e = eqb-true n 20 t in omega (arith, e)) (λ _ e. absurd (subst T e tt)))))
+    (sym q ∙ f)
 
 -- ---- load: r is what the words of the search came to
 module _ (words : List ℕ) where

@@ -1,5 +1,5 @@
 -- A search with two effects as twenty-five words: the words of a search, and the search of some words, or 19 where they are none.
-use mathlib.Core.Bool.{Bool, false, not}
+use mathlib.Core.Bool.{Bool, true, false}
 use mathlib.Core.List.{List, [], _∷_, _++_}
 use Prim.Native.Nat.{ℕ, _+_, _-_}
 use lib.Dec.{ltb, eqb}
@@ -43,7 +43,7 @@ searchSize = 25
 
 -- 13, 14 and 16 are the refusals of a search: any other word above 3 is no stage's
 unfoldable pub isNoStage : ℕ → Bool
-isNoStage n = pick (ltb n 4) false (pick (eqb n (4 + 13)) false (pick (eqb n (4 + 14)) false (not (eqb n (4 + 16)))))
+isNoStage n = pick (ltb n 4) false (pick (eqb n (4 + 13)) false (pick (eqb n (4 + 14)) false (pick (eqb n (4 + 16)) false true)))
 
 unfoldable pub stageOf : ℕ → Stage2
 stageOf n = pick (eqb n 0) Zero (pick (eqb n 1) Start (pick (eqb n 2) Trial (pick (eqb n 3) Found (Halted (n - 4)))))

@@ -33,7 +33,10 @@ fn is_no_stage(word: u64) -> bool
     if word == 18 {
         return false;
     }
-    word != 20
+    if word == 20 {
+        return false;
+    }
+    true
 }
 
 fn stage_of(word: u64) -> Stage2

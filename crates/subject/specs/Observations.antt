@@ -45,6 +45,17 @@ unfoldable pub checkAt : ℕ → List ℕ → Observation → Position → Check
 checkAt width counts observation place =
     pick (isSound observation width) (Sound (nextPlace place (getD counts (place .subject) 0))) (Unsound place)
 
+-- what a check says in document 01's words: that it passes; or its number, and where it carries a place, the subject and the observation
+pub data Verdict : Type 0 where
+  passes : Verdict
+  fails : ℕ → Verdict
+  failsAt : ℕ → Position → Verdict
+
+-- an observation that is not sound is refused with 4, at its place
+abbrev pub verdict : Check → Verdict
+verdict (Sound place) = passes
+verdict (Unsound place) = failsAt 4 place
+
 -- before the first observation
 abbrev pub firstCheck : Check
 firstCheck = Sound (record { subject = 0; observation = 0 })

@@ -13,6 +13,8 @@ pub const TRIAL: u64 = 2;
 pub const FOUND: u64 = 3;
 /// A search that was refused has this and the number of the refusal.
 pub const HALTED: u64 = 4;
+/// The numbers that a search refuses with.
+pub const REFUSALS: [u64; 3] = [13, 14, 16];
 
 /// Which of a search's words are whole numbers; the others are floats.
 pub const WHOLE: [usize; 4] = [0, 1, 2, 3];
@@ -34,12 +36,16 @@ pub struct Search2 {
 }
 
 impl Search2 {
-    /// None where the words are no search: a number, of a refusal too, of more
-    /// than 32 bits.
+    /// None where the words are no search: a refusal by another number than a
+    /// search's own, or a count of more than 32 bits.
     pub fn of_words(words: &[u64; 25]) -> Option<Search2> {
         let [stage, seed, round, reduction] = WHOLE.map(|at| words[at]);
-        let numbers = [stage.saturating_sub(HALTED), seed, round, reduction];
-        if numbers.iter().any(|number| *number > u32::MAX as u64) {
+        let refusals = REFUSALS.map(|number| HALTED + number);
+        if stage >= HALTED && !refusals.contains(&stage) {
+            return None;
+        }
+        let counts = [seed, round, reduction];
+        if counts.iter().any(|count| *count > u32::MAX as u64) {
             return None;
         }
         Some(Search2 {

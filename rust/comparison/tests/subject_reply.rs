@@ -23,6 +23,10 @@ struct Lent {
 
 const SUBJECT: usize = 8;
 const FIRST: usize = 9;
+/// The state's words with the numbers of the first row that is kept and of the
+/// next one.
+const FIRST_ROW: usize = 16;
+const NEXT_ROW: usize = 17;
 /// The state's word that says how many effects its search has.
 const EFFECTS: usize = 18;
 
@@ -264,7 +268,7 @@ fn both_replies_leave_the_same() {
 /// What is wrong with a reply, the number that it gets, and of 4 the observation.
 type Wrong = (fn(&mut Lent, &mut Vec<Observation>), u32, Option<u64>);
 
-const WRONG: [Wrong; 24] = [
+const WRONG: [Wrong; 26] = [
     (|_, own| own.truncate(1), 1, None),
     (|_, own| own.push(own[0]), 1, None),
     (|_, own| own.clear(), 1, None),
@@ -301,6 +305,12 @@ const WRONG: [Wrong; 24] = [
         19,
         None,
     ),
+    (
+        |lent, _| lent.state[NEXT_ROW] = lent.state[FIRST_ROW] + lent.setup.k as u64 + 1,
+        19,
+        None,
+    ),
+    (|lent, _| lent.state[NEXT_ROW] = 1_000_000, 19, None),
 ];
 
 #[test]

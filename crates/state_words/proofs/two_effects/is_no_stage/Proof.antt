@@ -20,7 +20,13 @@ returns-3 c = no _ (le-ltb _ _ (c .before .before .if1 .left)) (no _ (ne-eqb _ _
 
 returns-4 : tie.Need-returns-4
 unfolding isNoStage
-returns-4 c = no _ (le-ltb _ _ (c .before .before .if1 .left)) (no _ (ne-eqb _ _ (c .before .if2 .left)) (no _ (ne-eqb _ _ (c .if3 .left)) refl))
+returns-4 c = no _ (le-ltb _ _ (c .before .before .before .if1 .left)) (no _ (ne-eqb _ _ (c .before .before .if2 .left))
+    (no _ (ne-eqb _ _ (c .before .if3 .left)) (yes _ (eq-eqb _ _ (c .if4 .taken)) refl)))
+
+returns-5 : tie.Need-returns-5
+unfolding isNoStage
+returns-5 c = no _ (le-ltb _ _ (c .before .before .before .if1 .left)) (no _ (ne-eqb _ _ (c .before .before .if2 .left))
+    (no _ (ne-eqb _ _ (c .before .if3 .left)) (no _ (ne-eqb _ _ (c .if4 .left)) refl)))
 
 pub is-no-stage-spec : {M : Type 1} → statement M
-is-no-stage-spec = tie.close (tie.spec returns returns-2 returns-3 returns-4)
+is-no-stage-spec = tie.close (tie.spec returns returns-2 returns-3 returns-4 returns-5)

@@ -3,46 +3,49 @@ use borrow.Author.Needs.{needs}
 use borrow.Author.Tests.{lt-ltb, le-ltb}
 use mathlib.Core.Path.{refl}
 use native.Mathlib.Omega.{arith}
-use Rattle.float64.specs.Pick.{yes, no}
+use Rattle.float64.specs.Pick.{yes, no, yesOf, noOf}
 use Rattle.float64.proofs.Laws.{free}
 use Rattle.state_words.specs.SearchWords2.{loadedLent, answer, searchOf}
+use Rattle.state_words.proofs.Paths.{stage-low}
 use Rattle.state_words.proofs.two_effects.load_lent.Statement.{statement}
 use Rattle.state_words.proofs.two_effects.load_lent.Tie as tie
 
-shared-slice-read-if1 : tie.Need-shared-slice-read-if1
-shared-slice-read-if1 c = search needs
+shared-slice-read-is-no-stage : tie.Need-shared-slice-read-is-no-stage
+shared-slice-read-is-no-stage c = search needs
 
 returns : tie.Need-returns
 unfolding answer loadedLent
-returns c = yes _ (lt-ltb _ _ (c .if1 .taken)) refl
+returns c = yesOf _ (c .before .is-no-stage .ensures) (c .if1 .taken) refl
 
 shared-slice-read-if2 : tie.Need-shared-slice-read-if2
 shared-slice-read-if2 c = search needs
 
 returns-2 : tie.Need-returns-2
 unfolding answer loadedLent
-returns-2 c = no _ (le-ltb _ _ (c .before .before .if1 .left)) (yes _ (lt-ltb _ _ (c .if2 .taken)) refl)
+returns-2 c = noOf _ (c .before .before .before .is-no-stage .ensures) (c .before .before .if1 .left) (yes _ (lt-ltb _ _ (c .if2 .taken)) refl)
 
 shared-slice-read-if3 : tie.Need-shared-slice-read-if3
 shared-slice-read-if3 c = search needs
 
 returns-3 : tie.Need-returns-3
 unfolding answer loadedLent
-returns-3 c = no _ (le-ltb _ _ (c .before .before .before .before .if1 .left)) (no _ (le-ltb _ _ (c .before .before .if2 .left)) (yes _ (lt-ltb _ _ (c .if3 .taken)) refl))
+returns-3 c = noOf _ (c .before .before .before .before .before .is-no-stage .ensures) (c .before .before .before .before .if1 .left) (no _ (le-ltb _ _ (c .before .before .if2 .left)) (yes _ (lt-ltb _ _ (c .if3 .taken)) refl))
 
 shared-slice-read-if4 : tie.Need-shared-slice-read-if4
 shared-slice-read-if4 c = search needs
 
 returns-4 : tie.Need-returns-4
 unfolding answer loadedLent
-returns-4 c = no _ (le-ltb _ _ (c .before .before .before .before .before .before .if1 .left)) (no _ (le-ltb _ _ (c .before .before .before .before .if2 .left))
+returns-4 c = noOf _ (c .before .before .before .before .before .before .before .is-no-stage .ensures) (c .before .before .before .before .before .before .if1 .left) (no _ (le-ltb _ _ (c .before .before .before .before .if2 .left))
     (no _ (le-ltb _ _ (c .before .before .if3 .left)) (yes _ (lt-ltb _ _ (c .if4 .taken)) refl)))
 
 shared-slice-read-stage-of : tie.Need-shared-slice-read-stage-of
 shared-slice-read-stage-of c = search needs
 
 stage-of-requires : tie.Need-stage-of-requires
-stage-of-requires c κs = search needs
+stage-of-requires c κs =
+    let test = c .before .before .before .before .before .before .before in
+    stage-low _ (test .before .is-no-stage .ensures) (test .if1 .left)
 
 conditional-at-requires : tie.Need-conditional-at-requires
 conditional-at-requires c κs = search needs
@@ -56,7 +59,7 @@ conditional-at-requires-2 c κs = search needs
 shared-slice-read-t7 : tie.Need-shared-slice-read-t7
 shared-slice-read-t7 c =
     let start = c .before .before .before .before .before in
-    let h = start .before .before .before .before .before .before .before .before .before .before .pre in
+    let h = start .before .before .before .before .before .before .before .before .before .before .before .pre in
     omega arith
 
 cast-t14 : tie.Need-cast-t14
@@ -65,7 +68,7 @@ cast-t14 c = search needs
 shared-slice-read-t16 : tie.Need-shared-slice-read-t16
 shared-slice-read-t16 c =
     let start = c .before .before .before .before .before .before in
-    let h = start .before .before .before .before .before .before .before .before .before .before .pre in
+    let h = start .before .before .before .before .before .before .before .before .before .before .before .pre in
     omega arith
 
 cast-t17 : tie.Need-cast-t17
@@ -74,7 +77,7 @@ cast-t17 c = search needs
 shared-slice-read-t19 : tie.Need-shared-slice-read-t19
 shared-slice-read-t19 c =
     let start = c .before .before .before .before .before .before .before in
-    let h = start .before .before .before .before .before .before .before .before .before .before .pre in
+    let h = start .before .before .before .before .before .before .before .before .before .before .before .pre in
     omega arith
 
 cast-t20 : tie.Need-cast-t20
@@ -83,7 +86,7 @@ cast-t20 c = search needs
 shared-slice-read-from-word : tie.Need-shared-slice-read-from-word
 shared-slice-read-from-word c =
     let start = c .before .before .before .before .before .before .before .before in
-    let h = start .before .before .before .before .before .before .before .before .before .before .pre in
+    let h = start .before .before .before .before .before .before .before .before .before .before .before .pre in
     omega arith
 
 returns-5 : tie.Need-returns-5
@@ -94,7 +97,7 @@ returns-5 c =
     let current = trial .before in
     let stage = current .before in
     let tests = stage .before .before in
-    no _ (le-ltb _ _ (tests .before .before .before .before .before .before .if1 .left))
+    noOf _ (tests .before .before .before .before .before .before .before .is-no-stage .ensures) (tests .before .before .before .before .before .before .if1 .left)
     (no _ (le-ltb _ _ (tests .before .before .before .before .if2 .left))
     (no _ (le-ltb _ _ (tests .before .before .if3 .left))
     (no _ (le-ltb _ _ (tests .if4 .left))
@@ -104,7 +107,8 @@ pub load-lent-spec : {M : Type 1} → statement M
 load-lent-spec =
     tie.close
     (tie.spec
-    shared-slice-read-if1
+    shared-slice-read-is-no-stage
+    free
     returns
     shared-slice-read-if2
     returns-2
