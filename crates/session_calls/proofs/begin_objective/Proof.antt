@@ -50,11 +50,11 @@ returns : tie.Need-returns
 returns c =
     let start = c .before .before .before .before .before .before .before .before .before .before in
     let asked = start .before .before .before .before .before .before in
-    let d = asked .before .before .before .before .before .before .before .before .before .before .before in
+    let d = asked .before .before .before .before .before .before .before .before .before .before in
     let h = heldOf (d .args .state) (d .args .tally) (d .args .cache .now) (d .args .work .now) (d .args .warm .now) (d .args .results .now) in
     lets-in (λ x. run (d .args .setup) (d .args .counts .now) x) h (on (begun words (d .args .setup) (d .args .counts .now) (d .args .parameters) (h .whole)))
     (objective-enters (d .args .setup) (d .args .counts .now) (d .args .observations) (d .args .check) (d .args .parameters) (d .args .state) (d .args .tally)
-    (d .args .cache .now) (d .args .work .now) (d .args .warm .now) (d .args .results .now) (asked .before .before .lent-by .ensures) (asked .admit-objective .ensures))
+    (d .args .cache .now) (d .args .work .now) (d .args .warm .now) (d .args .results .now) (asked .before .lent-by .ensures) (asked .admit-objective .ensures))
     (start .before .before .before .before .enum-told .given .1)
     (objective-starts (d .args .setup) (d .args .counts .now) (d .args .observations) (d .args .check) (d .args .parameters) (d .args .state) (d .args .tally)
     (d .args .cache .now) (d .args .work .now) (d .args .warm .now) (d .args .results .now) (own-fit (d .args .setup) (d .args .parameters)
@@ -64,23 +64,23 @@ returns c =
 returns-2 : tie.Need-returns-2
 returns-2 c =
     let asked = c .before .before .before .before in
-    let d = asked .before .before .before .before .before .before .before .before .before .before .before in
+    let d = asked .before .before .before .before .before .before .before .before .before .before in
     let h = heldOf (d .args .state) (d .args .tally) (d .args .cache .now) (d .args .work .now) (d .args .warm .now) (d .args .results .now) in
     refused-called (d .args .state) (d .args .tally) _ _ (d .args .cache .now) (d .args .work .now) (d .args .warm .now) (d .args .results .now) (c .refused-as .ensures)
     (keeps-out (λ x. run (d .args .setup) (d .args .counts .now) x) h (on (begun words (d .args .setup) (d .args .counts .now) (d .args .parameters) (h .whole)))
     (objective-enters (d .args .setup) (d .args .counts .now) (d .args .observations) (d .args .check) (d .args .parameters) (d .args .state) (d .args .tally)
-    (d .args .cache .now) (d .args .work .now) (d .args .warm .now) (d .args .results .now) (asked .before .before .lent-by .ensures) (asked .admit-objective .ensures))
+    (d .args .cache .now) (d .args .work .now) (d .args .warm .now) (d .args .results .now) (asked .before .lent-by .ensures) (asked .admit-objective .ensures))
     (c .before .before .number .given .1))
 
 returns-3 : tie.Need-returns-3
 returns-3 c =
     let asked = c .before .before .before .before in
-    let d = asked .before .before .before .before .before .before .before .before .before .before .before in
+    let d = asked .before .before .before .before .before .before .before .before .before .before in
     let h = heldOf (d .args .state) (d .args .tally) (d .args .cache .now) (d .args .work .now) (d .args .warm .now) (d .args .results .now) in
     refused-called (d .args .state) (d .args .tally) _ _ (d .args .cache .now) (d .args .work .now) (d .args .warm .now) (d .args .results .now) (c .refused-as2 .ensures)
     (unsound-out (λ x. run (d .args .setup) (d .args .counts .now) x) h (on (begun words (d .args .setup) (d .args .counts .now) (d .args .parameters) (h .whole)))
     (objective-enters (d .args .setup) (d .args .counts .now) (d .args .observations) (d .args .check) (d .args .parameters) (d .args .state) (d .args .tally)
-    (d .args .cache .now) (d .args .work .now) (d .args .warm .now) (d .args .results .now) (asked .before .before .lent-by .ensures) (asked .admit-objective .ensures))
+    (d .args .cache .now) (d .args .work .now) (d .args .warm .now) (d .args .results .now) (asked .before .lent-by .ensures) (asked .admit-objective .ensures))
     (c .before .before .at .given .1))
 
 pub begin-objective-spec : {M : Type 1} → statement M

@@ -56,32 +56,32 @@ pair-at-requires c κs = search needs
 conditional-at-requires-2 : tie.Need-conditional-at-requires-2
 conditional-at-requires-2 c κs = search needs
 
-shared-slice-read-t7 : tie.Need-shared-slice-read-t7
-shared-slice-read-t7 c =
+shared-slice-read-t8 : tie.Need-shared-slice-read-t8
+shared-slice-read-t8 c =
     let start = c .before .before .before .before .before in
     let h = start .before .before .before .before .before .before .before .before .before .before .before .pre in
     omega arith
 
-cast-t14 : tie.Need-cast-t14
-cast-t14 c = search needs
+cast-t15 : tie.Need-cast-t15
+cast-t15 c = search needs
 
-shared-slice-read-t16 : tie.Need-shared-slice-read-t16
-shared-slice-read-t16 c =
+shared-slice-read-t17 : tie.Need-shared-slice-read-t17
+shared-slice-read-t17 c =
     let start = c .before .before .before .before .before .before in
     let h = start .before .before .before .before .before .before .before .before .before .before .before .pre in
     omega arith
 
-cast-t17 : tie.Need-cast-t17
-cast-t17 c = search needs
+cast-t18 : tie.Need-cast-t18
+cast-t18 c = search needs
 
-shared-slice-read-t19 : tie.Need-shared-slice-read-t19
-shared-slice-read-t19 c =
+shared-slice-read-t20 : tie.Need-shared-slice-read-t20
+shared-slice-read-t20 c =
     let start = c .before .before .before .before .before .before .before in
     let h = start .before .before .before .before .before .before .before .before .before .before .before .pre in
     omega arith
 
-cast-t20 : tie.Need-cast-t20
-cast-t20 c = search needs
+cast-t21 : tie.Need-cast-t21
+cast-t21 c = search needs
 
 shared-slice-read-from-word : tie.Need-shared-slice-read-from-word
 shared-slice-read-from-word c =
@@ -121,12 +121,12 @@ load-lent-spec =
     conditional-at-requires
     pair-at-requires
     conditional-at-requires-2
-    shared-slice-read-t7
-    cast-t14
-    shared-slice-read-t16
-    cast-t17
-    shared-slice-read-t19
-    cast-t20
+    shared-slice-read-t8
+    cast-t15
+    shared-slice-read-t17
+    cast-t18
+    shared-slice-read-t20
+    cast-t21
     shared-slice-read-from-word
     free
     returns-5)
