@@ -317,7 +317,7 @@ module _ (setup : Setup) (counts : List ℕ) (observations : List Observation) (
       unfolding admittedOver
       refused-way long eta n j = barred-way long eta (A.Refused n) (λ q. let z : _≡_ {A = ℕ} 0 1 = cc in omega arith) j n
 
-      point-way : W.stateSize ≤ length state → (eta : Pair) → Like setup counts (h s) → Stood setup counts (s .progress) → wantedAt setup (h s) ≡ Wants.Point eta
+      point-way : W.stateSize ≤ length state → (eta : Pair) → Like setup counts (h s) (h s) → Stood setup counts (s .progress) → wantedAt setup (h s) ≡ Wants.Point eta
           → (a : Admission) → judgement ≡ a → Judged (length counts) a → Way (ends-as (admittedOver setup trial said (awaited a eta) 0 (length observations) a) s)
       unfolding admittedOver Judged whenAdmitted
       point-way long eta lk st wants A.Accepted q j =
