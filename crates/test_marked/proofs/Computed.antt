@@ -112,7 +112,7 @@ hits = computed
 -- a host's own words
 unfoldable pub hosts : Computed
 unfolding SearchWords.wordsOf SearchWords.stageWord SearchWords.fallWord SearchWords.saved SearchWords.stageOf SearchWords.conditionalAt SearchWords.searchOf SearchWords.loaded
-    SearchWords2.wordsOf SearchWords2.stageWord SearchWords2.saved SearchWords2.stageOf SearchWords2.pairAt SearchWords2.conditionalAt SearchWords2.searchOf SearchWords2.loadedLent SearchWords2.loaded
+    SearchWords2.wordsOf SearchWords2.stageWord SearchWords2.saved SearchWords2.isNoStage SearchWords2.stageOf SearchWords2.pairAt SearchWords2.conditionalAt SearchWords2.searchOf SearchWords2.loadedLent SearchWords2.loaded
     SessionWords.additiveAt SessionWords.parametersAt SessionWords.progressAt SessionWords.orderAt SessionWords.stateAt SessionWords.loadedSearch SessionWords.withSearch
     SessionWords.loadedState SessionWords.flag SessionWords.objectiveWords SessionWords.progressWords SessionWords.orderWords SessionWords.searchWords SessionWords.stateWords
     SessionWords.putFrom SessionWords.savedState
