@@ -15,7 +15,7 @@ use Rattle.session_theorems.proofs.Plain.{split}
 use Rattle.focei_records.specs.Records.{records, noCohort, cohort}
 use Rattle.focei_text.specs.Report.{refusalLine}
 use Rattle.focei_fit.specs.Output.{whenRecords, output}
-use Rattle.focei_theorems.specs.Claim.{Reads, EveryFile}
+use Rattle.focei_theorems.specs.Claim.{EveryFile}
 
 too-long : (file : List ℕ) → 12288 < length file → cohort file ≡ noCohort
 unfolding cohort
@@ -31,7 +31,7 @@ twenty : (file : List ℕ) → 12288 < length file → output file ≡ refusalLi
 unfolding output whenRecords
 twenty file l = ap (whenRecords file) (too-long file l)
 
--- so does reading n bytes of it, where these are more than 256 records
+-- so that the first n bytes suffice, where these are more than 256 records
 reads-enough : (n : ℕ) (file : List ℕ) → 12288 < n → output (take n file) ≡ output file
 reads-enough n file m = by (split n (length file))
   where

@@ -7,7 +7,7 @@ use native.Mathlib.Omega.{arith}
 use borrow.Author.Tests.{lt-ltb, le-ltb}
 use lib.Ieee.{Float}
 use lib.ListN.{getD}
-use Rattle.float64.specs.Pick.{pick, pick-yes, pick-no}
+use Rattle.float64.specs.Pick.{pick-yes, pick-no}
 use Rattle.search.specs.declared.Place.{Place}
 use Rattle.session_theorems.proofs.Plain.{split}
 use Rattle.focei_text.specs.Writing.{glyph, digits, decimal}
@@ -39,11 +39,11 @@ refusal-is : (n : ℕ) (place : Place) → refusalLine n place ≡ with-digits (
 unfolding refusalLine line fields
 refusal-is n place = refl
 
--- the third byte, and the fourth
+-- byte i of a line, the first being 0
 byte : ℕ → List ℕ → ℕ
 byte i l = getD l i 0
 
-module _ (place place' : Place) where
+module _ (place : Place) where
   short-line : (n : ℕ) → n < 10 → byte 3 (refusalLine n place) ≡ 32
   unfolding byte fields
   short-line n l = ap (byte 3) (refusal-is n place) ∙ ap (λ (ds : List ℕ). byte 3 (with-digits ds place)) (one-digit n l)
@@ -59,13 +59,13 @@ number-read n m place place' h l k e = by (split n 10)
   where
     by : (n < 10) ⊎ (10 ≤ n) → n ≡ m
     by (inl s) =
-        let mine = short-line place place' n s in
-        let other = long-line place' place m l k .1 in
+        let mine = short-line place n s in
+        let other = long-line place' m l k .1 in
         let same = ap (byte 3) e in
         absurd (omega (arith, mine, other, same))
     by (inr s) =
-        let mine = long-line place place' n s h in
-        let other = long-line place' place m l k in
+        let mine = long-line place n s h in
+        let other = long-line place' m l k in
         let tens = ap (byte 2) e in
         let units = ap (byte 3) e in
         omega (arith, mine .0, mine .1, other .0, other .1, tens, units)

@@ -1,5 +1,5 @@
 -- The program never prints 19: its session's calls keep to the rules, and then none gets 19. Assumes nothing.
-use mathlib.Core.Path.{_≡_, refl, sym, ap, subst, _∙_}
+use mathlib.Core.Path.{_≡_, refl, ap, subst, _∙_}
 use mathlib.Core.List.{List, [], _∷_, _++_}
 use Prim.Native.Nat.{ℕ, zero, suc, _+_, _≤_, _<_}
 use native.Mathlib.Omega.{arith}
@@ -9,7 +9,7 @@ use Rattle.float64.specs.Answer.{Answer, given, refused}
 use Rattle.float64.specs.Pick.{both}
 use Rattle.matrix.specs.declared.Pair.{Pair}
 use Rattle.likelihood.specs.declared.population_focei.Observation.{Observation}
-use Rattle.setup.specs.Admission.{checks, countObservations}
+use Rattle.setup.specs.Admission.{checks}
 use Rattle.setup.specs.declared.Admission.{Admission}
 use Rattle.setup.specs.declared.Admission.the-variants as A
 use Rattle.setup.specs.declared.Lent.{Lent}
@@ -35,7 +35,7 @@ use Rattle.focei_text.specs.Report.{refusalLine}
 use Rattle.focei_fit.specs.Output.{mostEvaluations, settings, firstParameters, begun, play, ended, endOf, whenOpened, fitted, lent, whenRecords, output}
 use Rattle.focei_theorems.specs.Claim.{Never19}
 use Rattle.focei_theorems.proofs.Lines.{number-read, finished-other}
-use Rattle.focei_theorems.proofs.Questions.{few-numbers, asks, refuses, Ended, ends}
+use Rattle.focei_theorems.proofs.Questions.{few-numbers, asks, refuses, ends}
 
 -- ---- a session with one call more
 module _ (M : Machine) where

@@ -1,8 +1,8 @@
 -- A question raises the evaluations, so that as many answers as there are evaluations leave none. Assumes nothing.
-use mathlib.Core.Path.{_≡_, refl, sym, ap, subst, _∙_}
+use mathlib.Core.Path.{_≡_, refl, sym, subst, _∙_}
 use mathlib.Core.Bool.{true}
 use mathlib.Core.List.{List}
-use mathlib.Core.Logic.{_⊎_, inl, inr}
+use mathlib.Core.Logic.{inl, inr}
 use Prim.Native.Nat.{ℕ, zero, suc, _+_, _≤_, _<_}
 use native.Mathlib.Omega.{arith}
 use lib.ListN.{length}
@@ -39,7 +39,7 @@ module _ (counts observations : List ℕ) (c : Call) (h : Held words) where
   unfolding call
   comes-to = done settings counts h _ (enters settings counts h (observationsOf observations) c)
 
-  -- the same of an answer
+  -- what is known of an answer of this call that does not leave all as it was
   abbrev says : Step → Type 0
   says a =
       let most = settings .«max_evaluations» in
@@ -72,7 +72,7 @@ module _ (input counts observations : List ℕ) (Q : Call → Held words → Typ
     → (said : List ℕ) → Q (rows said) (callOf settings counts observations c h .state))
     (end : (c : Call) (h : Held words) → Q c h → G (callOf settings counts observations c h .answer)) where
   -- an answer that is no question
-  abbrev pub Ended : Step → Type 0
+  abbrev Ended : Step → Type 0
   Ended a = ((eta individual : Pair) → a ≡ Asked eta individual → ⊥) × G a
 
   abbrev Ends : ℕ → Type 0
