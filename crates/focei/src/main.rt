@@ -4,10 +4,9 @@ use libc::STDIN_FILENO;
 use libc::STDOUT_FILENO;
 
 fn main() {
-    // 256 records, and one byte more: so longer input is seen to be too long
-    let mut input = [0u8; 12289];
+    let mut input = [0u8; focei_fit::INPUT_BYTES];
     let mut out = [0u8; focei_fit::LONGEST_TEXT];
     let got = io::read_full(STDIN_FILENO, &mut input);
-    let length = focei_fit::focei(&input[..got], &mut out);
+    let length = focei_fit::focei(&input, got, &mut out);
     io::write_all(STDOUT_FILENO, &out[..length]);
 }

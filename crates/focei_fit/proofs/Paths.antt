@@ -5,6 +5,7 @@ use Prim.Native.Nat.{ℕ, zero, suc, _+_, _-_, _*_, _/_, _≤_, _<_}
 use native.Mathlib.Omega.{arith}
 use lib.Ieee.{Float}
 use lib.ListN.{length, take, replicate}
+use Rattle.float64.specs.Answer.{Answer, given}
 use Rattle.matrix.specs.declared.Pair.{Pair}
 use Rattle.setup.specs.declared.Setup.{Setup}
 use Rattle.setup.specs.declared.Parameters.{Parameters}
@@ -24,14 +25,14 @@ use Rattle.session.specs.declared.Begun.{Begun}
 use Rattle.session.specs.declared.Opening.{Opening}
 use Rattle.session.specs.declared.Opening.the-variants as Opens
 use Rattle.program_calls.specs.Recorded.{callOf, openOf}
-use Rattle.focei_records.specs.Records.{cohort, counts as countsIn, observations as observationsIn, reply}
+use Rattle.focei_records.specs.Records.{answer, cohort, counts as countsIn, observations as observationsIn, reply}
 use Rattle.focei_records.specs.declared.Cohort.{Cohort}
 use Rattle.focei_records.specs.declared.Cohort.the-variants as Cohorts
 use Rattle.focei_records.proofs.Bounds.{counts-length, observations-length, reply-length}
 use Rattle.focei_text.specs.Report.{finished, refusalLine}
 use Rattle.words.specs.Written.{Written, written, write}
 use Rattle.words.proofs.Front.{front, within}
-use Rattle.focei_fit.specs.Output.{settings, firstParameters, begun, replied, whenAsked, play, ended, endOf, whenOpened, fitted, lent, whenRecords, output}
+use Rattle.focei_fit.specs.Output.{mostEvaluations, settings, firstParameters, begun, replied, whenAsked, play, ended, endOf, whenOpened, fitted, lent, whenRecords, output}
 
 -- ---- the calls; `taken` are the words of the reply
 module _ (counts observations : List ℕ) (h : Held words) where
@@ -85,8 +86,8 @@ module _ (input counts observations : List ℕ) (left : ℕ) (r : Ran (Held word
 -- the objective to its end, from where it begins
 pub plays : {setup : Setup} {p : Parameters} {first r : Ran (Held words) Step} (input counts observations : List ℕ) (h : Held words) → setup ≡ settings → p ≡ firstParameters → first ≡ callOf setup
     counts observations (objective p) h
-    → r ≡ play input counts observations 10001 first → r ≡ play input counts observations 10001 (begun counts observations h)
-plays input counts observations h e f g q = q ∙ ap (play input counts observations 10001) (begins counts observations h e f g)
+    → r ≡ play input counts observations mostEvaluations first → r ≡ play input counts observations mostEvaluations (begun counts observations h)
+plays input counts observations h e f g q = q ∙ ap (play input counts observations mostEvaluations) (begins counts observations h e f g)
 
 -- ---- what is printed of the end
 module _ (counts : List ℕ) (state : State) (tally : Tally) (results : List ℕ) (step : Step) (t : Written) where
@@ -124,7 +125,7 @@ module _ (input counts observations cache work warm results : List ℕ) (t : Wri
   not-opened f g = g ∙ ap (λ (l : List ℕ). write l t) (opened-as _ f)
 
   pub is-opened : {state : State} {last : Called} {cache₂ work₂ warm₂ results₂ : List ℕ} {t' : Written} → b .opening ≡ Opens.Opened state
-      → called last cache₂ work₂ warm₂ results₂ ≡ play input counts observations 10001 (begun counts observations (heldOf state (b .tally) cache₁ work₁ warm₁ results))
+      → called last cache₂ work₂ warm₂ results₂ ≡ play input counts observations mostEvaluations (begun counts observations (heldOf state (b .tally) cache₁ work₁ warm₁ results))
       → t' ≡ write (ended counts (last .state) (last .tally) results₂ (last .step)) t → t' ≡ write (fitted input counts observations cache work warm results) t
   unfolding whenOpened endOf
   is-opened f p g = g ∙ ap (λ (r : Ran (Held words) Step). write (endOf counts r) t) p ∙ ap (λ (l : List ℕ). write l t) (opened-as _ f)
@@ -146,11 +147,16 @@ unfolding lent
 lends input n t e f q = q ∙ (λ i. write (fitted input (e i) (f i) (replicate 1536 0) (replicate 3072 0) (replicate 256 0) (replicate 1280 0)) t)
 
 -- ---- the program; c is what the check of the records found
-module _ (input : List ℕ) (t : Written) {c : Cohort} (e : c ≡ cohort input) where
-  pub is-cohort : {n : ℕ} {t' : Written} → c ≡ Cohorts.Subjects n → t' ≡ write (lent input n) t → t' ≡ write (output input) t
-  unfolding output whenRecords
-  is-cohort f q = q ∙ ap (λ (o : Cohort). write (whenRecords input o) t) (sym f ∙ e)
+module _ (input : List ℕ) (c : Cohort) (e : answer c ≡ cohort input) where
+  pub counted : {n : ℕ} → c ≡ Cohorts.Subjects n → cohort input ≡ given n
+  unfolding answer
+  counted f = sym e ∙ ap answer f
 
-  pub no-cohort : {t' : Written} → c ≡ Cohorts.Refused → t' ≡ write (refusalLine 20 Nowhere) t → t' ≡ write (output input) t
-  unfolding output whenRecords
-  no-cohort f q = q ∙ ap (λ (o : Cohort). write (whenRecords input o) t) (sym f ∙ e)
+  module _ (t : Written) where
+    pub is-cohort : {n : ℕ} {t' : Written} → c ≡ Cohorts.Subjects n → t' ≡ write (lent input n) t → t' ≡ write (output input) t
+    unfolding output whenRecords
+    is-cohort f q = q ∙ ap (λ (o : Answer ℕ). write (whenRecords input o) t) (sym (counted f))
+
+    pub no-cohort : {t' : Written} → c ≡ Cohorts.Refused → t' ≡ write (refusalLine 20 Nowhere) t → t' ≡ write (output input) t
+    unfolding answer output whenRecords
+    no-cohort f q = q ∙ ap (λ (o : Answer ℕ). write (whenRecords input o) t) (ap answer (sym f) ∙ e)

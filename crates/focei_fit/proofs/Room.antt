@@ -7,8 +7,9 @@ use native.Mathlib.Numerals.{add-one}
 use native.Mathlib.Omega.{arith}
 use borrow.Author.Tests.{ltb-true, ltb-false}
 use lib.Dec.{ltb}
-use lib.ListN.{getD, length, take, drop, List·getD-eq-default, drop-of-length-le}
-use lib.Seq.{drop-cons}
+use lib.ListN.{getD, length, take, drop, length-append, List·getD-eq-default, drop-of-length-le}
+use lib.Seq.{drop-cons, take-all}
+use Rattle.float64.specs.Answer.{Answer, given, refused}
 use Rattle.population.specs.Kept.{words}
 use Rattle.population.specs.Population.{rowsOf}
 use Rattle.search.specs.declared.Place.{Place}
@@ -21,14 +22,13 @@ use Rattle.session.specs.declared.State.{State}
 use Rattle.session.specs.declared.Opening.{Opening}
 use Rattle.session.specs.declared.Opening.the-variants as Opens
 use Rattle.focei_records.specs.Records.{cohort, counts as countsIn}
-use Rattle.focei_records.specs.declared.Cohort.{Cohort}
-use Rattle.focei_records.specs.declared.Cohort.the-variants as Cohorts
 use Rattle.focei_records.proofs.Bounds.{sum, counts-length, few-counted, few-records}
 use Rattle.focei_text.specs.Report.{subjectsOf}
 use Rattle.focei_text.proofs.Lengths.{rowsFrom, rows-at-most, few-subjects, finished-length, refusal-length}
-use Rattle.words.specs.Written.{written, write}
-use Rattle.words.proofs.Front.{front}
-use Rattle.focei_fit.specs.Output.{ended, endOf, whenOpened, fitted, lent, whenRecords, output}
+use Rattle.words.specs.Words.{smaller}
+use Rattle.words.specs.Written.{Written, written, write}
+use Rattle.words.proofs.Front.{fits}
+use Rattle.focei_fit.specs.Output.{ended, endOf, whenOpened, fitted, lent, whenRecords, output, printed}
 use Rattle.focei_fit.specs.Claim.{longestText, Short}
 
 -- ---- the rows of the subjects are no more than the counts add up to
@@ -71,21 +71,44 @@ module _ (counts : List ℕ) (few : length counts ≤ 256) (fewer : sum counts �
   unfolding fitted
   fitted-short input observations cache work warm results = opened-short input observations results _ _
 
-records-short : (input : List ℕ) (c : Cohort) → cohort input ≡ c → length (whenRecords input c) ≤ longestText
+records-short : (input : List ℕ) (c : Answer ℕ) → cohort input ≡ c → length (whenRecords input c) ≤ longestText
 unfolding whenRecords lent
-records-short input (Cohorts.Subjects n) e =
+records-short input (given n) e =
     let few = few-records input e in
     let low = few .0 in
     let lower = few .1 in
     let as-many = counts-length input n in
     let counted = few-counted input n in
     fitted-short (countsIn input n) (omega arith) (omega arith) _ _ _ _ _ _
-records-short input Cohorts.Refused e = let l = refusal-length 20 Nowhere in omega arith
+records-short input (refused number) e = let l = refusal-length number Nowhere in omega arith
 
 pub short : Short
 unfolding output
 short input = records-short input (cohort input) refl
 
--- so that what the program prints is its definition, whole
-pub printed : {r : ℕ} {out' : List ℕ} (input out : List ℕ) → longestText ≤ length out → written r out' ≡ write (output input) (written 0 out) → take r out' ≡ output input
-printed input out h e = let l = short input in front (output input) out (omega arith) e
+-- ---- so that it is printed whole; m is how many of the bytes are taken
+taken : (l : List ℕ) (got : ℕ) (b : Bool) → ltb got (length l) ≡ b → take (smaller got (length l)) l ≡ take got l
+taken l got true e =
+    let inside : got < length l = ltb-true _ _ e in
+    let same : smaller got (length l) ≡ got = omega arith in
+    ap (λ (n : ℕ). take n l) same
+taken l got false e =
+    let beyond : length l ≤ got = ltb-false _ _ e in
+    let same : smaller got (length l) ≡ length l = omega arith in
+    ap (λ (n : ℕ). take n l) same ∙ take-all (length l) l (omega arith) ∙ sym (take-all got l beyond)
+
+pub prints : {r m : ℕ} {out' : List ℕ} (input out : List ℕ) (got : ℕ) → longestText ≤ length out → m ≡ smaller got (length input)
+    → written r out' ≡ write (output (take m input)) (written 0 out) → written r out' ≡ printed (take got input) out
+unfolding printed
+prints input out got h e q =
+    let all = taken input got (ltb got (length input)) refl in
+    let l = short (take got input) in
+    q ∙ ap (λ (n : ℕ). write (output (take n input)) (written 0 out)) e ∙ ap (λ (i : List ℕ). write (output i) (written 0 out)) all
+    ∙ fits (output (take got input)) out (omega arith)
+
+-- and its length is within what is lent
+pub printed-within : {r : ℕ} {out' : List ℕ} (input out : List ℕ) → written r out' ≡ printed input out → r ≤ length out'
+unfolding printed
+printed-within input out e =
+    let text = output input in
+    subst (λ (t : Written). t .end ≤ length (t .lent)) (sym e) (omega (arith, length-append text (drop (length text) out)))

@@ -1,8 +1,10 @@
 -- Document 01's program: from the bytes of its records to the bytes that it prints.
-use mathlib.Core.List.{List, [], _∷_}
-use Prim.Native.Nat.{ℕ, zero, suc}
-use lib.ListN.{length, replicate}
+use mathlib.Core.List.{List, [], _∷_, _++_}
+use Prim.Native.Nat.{ℕ, zero, suc, _+_, _*_}
+use lib.ListN.{length, drop, replicate}
+use Rattle.float64.specs.Answer.{Answer, given, refused}
 use Rattle.float64.specs.Arithmetic.{word, one}
+use Rattle.words.specs.Written.{Written, written}
 use Rattle.matrix.specs.declared.Pair.{Pair}
 use Rattle.subject.specs.declared.AdditiveSd.the-variants.{Own}
 use Rattle.setup.specs.declared.Setup.{Setup}
@@ -21,10 +23,12 @@ use Rattle.session.specs.declared.State.{State}
 use Rattle.session.specs.declared.Opening.{Opening}
 use Rattle.session.specs.declared.Opening.the-variants as Opens
 use Rattle.program_calls.specs.Recorded.{callOf, openOf}
-use Rattle.focei_records.specs.Records.{cohort, counts, observations, reply}
-use Rattle.focei_records.specs.declared.Cohort.{Cohort}
-use Rattle.focei_records.specs.declared.Cohort.the-variants as Cohorts
+use Rattle.focei_records.specs.Records.{recordBytes, mostRecords, cohort, counts, observations, reply}
 use Rattle.focei_text.specs.Report.{finished, refusalLine}
+
+-- the evaluations of a session, and as many answers: each question raises them
+abbrev pub mostEvaluations : ℕ
+mostEvaluations = 10000
 
 -- omega 1, eta_bound 4, tolerance 1e-4, 10,000 evaluations, K 64, output budget 10,000, width 1, one effect
 unfoldable pub settings : Setup
@@ -40,7 +44,7 @@ settings = record {
   k = 64;
   «additive_sd» = Own;
   «output_budget» = 10000;
-  «max_evaluations» = 10000;
+  «max_evaluations» = mostEvaluations;
 }
 
 -- theta 1
@@ -72,8 +76,7 @@ module _ (input counts observations : List ℕ) where
 
 -- ---- what is printed
 
--- of the end; a question that is left after 10,001 answers is printed as 19, but no session has one: each raises the evaluations, of
--- which there are 10,000
+-- of the end; a question that is left after the last answer would be printed as 19, but there is none (focei_theorems/specs/Claim.antt)
 unfoldable pub ended : List ℕ → State → Tally → List ℕ → Step → List ℕ
 ended counts state tally results (Asked eta individual) = refusalLine 19 Nowhere
 ended counts state tally results (Finished x) = finished x (tally .calls .0) (shrinkage state (length counts)) counts results
@@ -85,7 +88,7 @@ endOf counts r = ended counts (stateOf (r .state)) (r .state .whole .tally) (r .
 unfoldable pub whenOpened : List ℕ → List ℕ → List ℕ → List ℕ → Setting → Opening → List ℕ
 whenOpened input counts observations results s (Opens.Opened state) =
     endOf counts
-    (play input counts observations 10001
+    (play input counts observations mostEvaluations
     (begun counts observations (heldOf state (s .begun .tally) (s .cache) (s .work) (s .warm) results)))
 whenOpened input counts observations results s (Opens.Refused number place) = refusalLine number place
 
@@ -100,9 +103,19 @@ unfoldable pub lent : List ℕ → ℕ → List ℕ
 lent input subjects =
     fitted input (counts input subjects) (observations input) (replicate 1536 0) (replicate 3072 0) (replicate 256 0) (replicate 1280 0)
 
-unfoldable pub whenRecords : List ℕ → Cohort → List ℕ
-whenRecords input (Cohorts.Subjects n) = lent input n
-whenRecords input Cohorts.Refused = refusalLine 20 Nowhere
+unfoldable pub whenRecords : List ℕ → Answer ℕ → List ℕ
+whenRecords input (given n) = lent input n
+whenRecords input (refused number) = refusalLine number Nowhere
 
 unfoldable pub output : List ℕ → List ℕ
 output input = whenRecords input (cohort input)
+
+-- ---- what is read and written
+
+-- the bytes that are read: 256 records, and one byte more, so that longer input is seen to be too long
+abbrev pub inputBytes : ℕ
+inputBytes = mostRecords * recordBytes + 1
+
+-- the text whole at the front of what is lent for it, the rest as it was; and its length
+unfoldable pub printed : List ℕ → List ℕ → Written
+printed input out = let text = output input in written (length text) (text ++ drop (length text) out)

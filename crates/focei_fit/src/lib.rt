@@ -2,10 +2,11 @@
 // omega 1, eta_bound 4, tolerance 1e-4, 10,000 evaluations, K 64, output budget 10,000, width 1, one effect.
 ghost use mathlib.Core.Path.{_≡_};
 ghost use Prim.Native.Nat.{_≤_};
-ghost use lib.ListN.{length};
+ghost use lib.ListN.{length, take};
 ghost use Rattle.session.specs.Calls.{called, heldOf};
 ghost use Rattle.words.specs.Written.{written, write};
-ghost use Rattle.focei_fit.specs.Output.{settings, firstParameters, replied, play, begun, ended, fitted, lent, output};
+ghost use Rattle.focei_fit.specs.Output.{mostEvaluations, settings, firstParameters, replied, play, begun, ended, fitted, lent};
+ghost use Rattle.focei_fit.specs.Output.{output, inputBytes, printed};
 use focei_records::Cohort;
 use matrix::Pair;
 use search::CachedRows;
@@ -20,8 +21,12 @@ use setup::Parameters;
 use setup::Setup;
 use subject::AdditiveSd;
 
-// One more than the questions of a session: each raises the evaluations, of which there are 10,000.
-pub const QUESTIONS: u32 = 10001;
+// The evaluations of a session, and the most questions that are answered: each question raises them.
+pub const MOST_EVALUATIONS: u32 = 10000;
+
+// The bytes that the program reads: all records that it takes, and one byte more, so that longer input is
+// seen to be too long.
+pub const INPUT_BYTES: usize = focei_records::MOST_RECORDS * focei_records::RECORD_BYTES + 1;
 
 // The bytes of the longest text that the program prints, with an `O` and an `H` line, and an `S` and an `F`
 // line for each of 256 records.
@@ -42,7 +47,7 @@ fn settings() -> Setup
         k: 64,
         additive_sd: AdditiveSd::Own,
         output_budget: 10000,
-        max_evaluations: 10000,
+        max_evaluations: MOST_EVALUATIONS,
     }
 }
 
@@ -111,11 +116,11 @@ fn play(
 ) -> Called
     requires { ⌜ (length (now input) ≤ 12288) × (1024 ≤ length (now reply)) ⌝ }
     ensures { λ r. ⌜ called r (now (cache .exit)) (now (work .exit)) (now (warm .exit)) (now (results .exit))
-        ≡ play (now (input .entry)) (now (counts .entry)) (now (observations .entry)) 10001
+        ≡ play (now (input .entry)) (now (counts .entry)) (now (observations .entry)) mostEvaluations
         (called first (now (cache .entry)) (now (work .entry)) (now (warm .entry)) (now (results .entry))) ⌝ }
 {
     let mut at = first;
-    let mut left = QUESTIONS;
+    let mut left = MOST_EVALUATIONS;
     while 0 < left {
         let step = at.step;
         match step {
@@ -145,8 +150,8 @@ fn play(
     at
 }
 
-// Writes what is printed of the end of an objective. A question that is left, which no session has, is
-// printed as 19.
+// Writes what is printed of the end of an objective. A question that is left would be printed as 19; there
+// is none (crate focei_theorems).
 fn told(at: Called, counts: &[u64], results: &[u64], out: &mut [u8]) -> usize
     requires { ⌜ length (now counts) ≤ 256 ⌝ }
     ensures { λ r. ⌜ written r (now (out .exit))
@@ -180,7 +185,7 @@ fn run(
 ) -> Called
     requires { ⌜ (length (now input) ≤ 12288) × (1024 ≤ length (now reply)) ⌝ }
     ensures { λ r. ⌜ called r (now (cache .exit)) (now (work .exit)) (now (warm .exit)) (now (results .exit))
-        ≡ play (now (input .entry)) (now (counts .entry)) (now (observations .entry)) 10001
+        ≡ play (now (input .entry)) (now (counts .entry)) (now (observations .entry)) mostEvaluations
         (begun (now (counts .entry)) (now (observations .entry))
         (heldOf state tally (now (cache .entry)) (now (work .entry)) (now (warm .entry)) (now (results .entry)))) ⌝ }
 {
@@ -292,13 +297,24 @@ fn lend(input: &[u8], subjects: usize, out: &mut [u8]) -> usize
     )
 }
 
-// Writes what the program prints of its input, as much of it as `out` has room for, and gives its length. It
-// is defined for all bytes.
-pub fn focei(input: &[u8], out: &mut [u8]) -> usize
+// Writes what the program prints of its input, as much of it as `out` has room for, and gives its length.
+fn print(input: &[u8], out: &mut [u8]) -> usize
     ensures { λ r. ⌜ written r (now (out .exit)) ≡ write (output (now (input .entry))) (written 0 (now (out .entry))) ⌝ }
 {
     match focei_records::cohort_of(input) {
         Cohort::Subjects(subjects) => lend(input, subjects, out),
         Cohort::Refused => focei_text::refused(out, 0, 20, Place::Nowhere),
     }
+}
+
+// The program between reading and writing: of the bytes that were read, the first `got` of `input` (where
+// there are fewer, all of them), it writes what is printed to the front of `out`, and gives its length. There
+// is room for every text, so that it stands there whole.
+pub fn focei(input: &[u8; INPUT_BYTES], got: usize, out: &mut [u8; LONGEST_TEXT]) -> usize
+    ensures { λ _. ⌜ length (now (input .entry)) ≡ inputBytes ⌝ }
+    ensures { λ r. ⌜ written r (now (out .exit)) ≡ printed (take got (now (input .entry))) (now (out .entry)) ⌝ }
+{
+    let bytes: &[u8] = input;
+    let read = words::smaller(got, bytes.len());
+    print(&bytes[..read], out)
 }

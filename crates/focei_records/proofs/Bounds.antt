@@ -8,11 +8,10 @@ use borrow.Author.Tests.{ltb-true, ltb-false, eqb-true, ne-eqb}
 use lib.Dec.{eqb, ltb}
 use lib.Ieee.{Float}
 use lib.ListN.{length, length-append}
+use Rattle.float64.specs.Answer.{Answer, given}
 use Rattle.float64.specs.Pick.{pick, cases, pick-no}
-use Rattle.focei_records.specs.declared.Cohort.{Cohort}
-use Rattle.focei_records.specs.declared.Cohort.the-variants.{Subjects, Refused}
-use Rattle.focei_records.specs.Records.{records, subjectAt, reservedAt, cohortFrom, cohort, countFrom, countsFrom, counts, observationAt, observationsFrom, observations, rowAt, repliedFrom}
-use Rattle.focei_records.specs.Records.{reply}
+use Rattle.focei_records.specs.Records.{records, subjectAt, reservedAt, noCohort, cohortFrom, cohort, countFrom, countsFrom, counts, observationAt, observationsFrom, observations, rowAt}
+use Rattle.focei_records.specs.Records.{repliedFrom, reply}
 
 -- ---- the counts: one for each subject
 counts-from : (left : ℕ) (input : List ℕ) (s : ℕ) → length (countsFrom left input s) ≡ left
@@ -48,39 +47,39 @@ unfolding reply
 reply-length input first rows individual = let most = reply-from rows input individual first in omega arith
 
 -- ---- the subjects: at most one for each record, and at most 256 of these
-subjects-from : (left : ℕ) (input : List ℕ) (i s : ℕ) {n : ℕ} → cohortFrom left input i s ≡ Subjects n → n ≤ s + left
+subjects-from : (left : ℕ) (input : List ℕ) (i s : ℕ) {n : ℕ} → cohortFrom left input i s ≡ given n → n ≤ s + left
 unfolding cohortFrom
 subjects-from zero input i s e = let same = subjects-same e in omega arith where
-  subjects-same : {a b : ℕ} → Subjects a ≡ Subjects b → a ≡ b
+  subjects-same : {a b : ℕ} → given a ≡ given b → a ≡ b
   subjects-same e = cc
 subjects-from (suc left) input i s {n} e =
-    cases (λ (r : Cohort). r ≡ Subjects n → n ≤ s + suc left) (eqb (reservedAt input i) 0)
+    cases (λ (r : Answer ℕ). r ≡ given n → n ≤ s + suc left) (eqb (reservedAt input i) 0)
     (λ _.
-    cases (λ (r : Cohort). r ≡ Subjects n → n ≤ s + suc left) (eqb (subjectAt input i) s)
+    cases (λ (r : Answer ℕ). r ≡ given n → n ≤ s + suc left) (eqb (subjectAt input i) s)
     (λ _ q. let most = subjects-from left input (i + 1) (s + 1) q in omega arith)
     (λ _.
-    cases (λ (r : Cohort). r ≡ Subjects n → n ≤ s + suc left) (eqb (subjectAt input i + 1) s)
+    cases (λ (r : Answer ℕ). r ≡ given n → n ≤ s + suc left) (eqb (subjectAt input i + 1) s)
     (λ _ q. let most = subjects-from left input (i + 1) s q in omega arith)
     (λ _ q. refuses q)))
     (λ _ q. refuses q)
     e
   where
-    refuses : Refused ≡ Subjects n → n ≤ s + suc left
+    refuses : noCohort ≡ given n → n ≤ s + suc left
     refuses q = let z : _≡_ {A = ℕ} 0 1 = cc in absurd (omega arith)
 
-pub few-records : (input : List ℕ) {n : ℕ} → cohort input ≡ Subjects n → (length input ≤ 12288) × (n ≤ 256)
+pub few-records : (input : List ℕ) {n : ℕ} → cohort input ≡ given n → (length input ≤ 12288) × (n ≤ 256)
 unfolding cohort
 few-records input {n} e =
-    cases (λ (r : Cohort). r ≡ Subjects n → (length input ≤ 12288) × (n ≤ 256)) (eqb (length input % 48) 0)
+    cases (λ (r : Answer ℕ). r ≡ given n → (length input ≤ 12288) × (n ≤ 256)) (eqb (length input % 48) 0)
     (λ w.
-    cases (λ (r : Cohort). r ≡ Subjects n → (length input ≤ 12288) × (n ≤ 256)) (ltb 256 (records input))
+    cases (λ (r : Answer ℕ). r ≡ given n → (length input ≤ 12288) × (n ≤ 256)) (ltb 256 (records input))
     (λ _ q. refuses q)
     (λ f q. let few : records input ≤ 256 = ltb-false _ _ f in let most = subjects-from (records input) input 0 0 q in let whole : length input % 48 ≡ 0 = eqb-true _ _ w in
     (omega arith, omega arith)))
     (λ _ q. refuses q)
     e
   where
-    refuses : Refused ≡ Subjects n → (length input ≤ 12288) × (n ≤ 256)
+    refuses : noCohort ≡ given n → (length input ≤ 12288) × (n ≤ 256)
     refuses q = let z : _≡_ {A = ℕ} 0 1 = cc in absurd (omega arith)
 
 -- ---- the counts add up to no more than the records: each record is of one subject

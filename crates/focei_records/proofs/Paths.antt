@@ -9,14 +9,14 @@ use borrow.Author.Tests.{lt-ltb, le-ltb, eq-eqb, ne-eqb}
 use lib.Ieee.{Float, binary64, toBits}
 use lib.Dec.{eqb}
 use lib.ListN.{length}
+use Rattle.float64.specs.Answer.{Answer}
 use Rattle.float64.specs.Arithmetic.{_+ᶠ_, _*ᶠ_, word}
 use Rattle.float64.specs.Pick.{pick, yes, no}
 use Rattle.words.specs.Written.{Written, written, write}
 use Rattle.words.proofs.Front.{write-append}
-use Rattle.focei_records.specs.declared.Cohort.{Cohort}
 use Rattle.focei_records.specs.declared.Cohort.the-variants.{Subjects, Refused}
-use Rattle.focei_records.specs.Records.{records, subjectAt, reservedAt, floatAt, cohortFrom, cohort, countFrom, countsFrom, counts, observationAt, observationsFrom, observations, rowAt}
-use Rattle.focei_records.specs.Records.{repliedFrom, reply}
+use Rattle.focei_records.specs.Records.{records, subjectAt, reservedAt, floatAt, answer, cohortFrom, cohort, countFrom, countsFrom, counts, observationAt, observationsFrom, observations}
+use Rattle.focei_records.specs.Records.{rowAt, repliedFrom, reply}
 
 -- ---- what is left of n turns after i
 none-left : (n i : ℕ) → n ≤ i → 0 ≡ n - i
@@ -27,16 +27,16 @@ one-more n i h = omega arith
 
 -- ---- 20, at record i of n, with s subjects before it; r is its reserved word, x its subject
 module _ (n i s : ℕ) (input : List ℕ) where
-  pub cohort-end : n ≤ i → Subjects s ≡ cohortFrom (n - i) input i s
-  unfolding cohortFrom
+  pub cohort-end : n ≤ i → answer (Subjects s) ≡ cohortFrom (n - i) input i s
+  unfolding answer cohortFrom
   cohort-end h = ap (λ (m : ℕ). cohortFrom m input i s) (none-left n i h)
 
   module _ {r : ℕ} (h : i < n) (er : r ≡ reservedAt input i) where
     here : cohortFrom (suc (n - (i + 1))) input i s ≡ cohortFrom (n - i) input i s
     here = ap (λ (m : ℕ). cohortFrom m input i s) (one-more n i h)
 
-    pub not-reserved : (r ≡ 0 → ⊥) → Refused ≡ cohortFrom (n - i) input i s
-    unfolding cohortFrom
+    pub not-reserved : (r ≡ 0 → ⊥) → answer Refused ≡ cohortFrom (n - i) input i s
+    unfolding answer cohortFrom
     not-reserved d = no _ (ne-eqb _ _ (λ e. d (er ∙ e))) refl ∙ here
 
     module _ {x : ℕ} (z : r ≡ 0) (ex : x ≡ subjectAt input i) where
@@ -51,23 +51,23 @@ module _ (n i s : ℕ) (input : List ℕ) where
           (no _ (ne-eqb _ _ (λ q. d (ex ∙ q)))
           (yes _ (eq-eqb _ _ (ap (λ (y : ℕ). y + 1) (sym ex) ∙ e)) (ap (cohortFrom (n - (i + 1)) input (i + 1)) t))) ∙ here
 
-      pub stray-subject : (x ≡ s → ⊥) → (x + 1 ≡ s → ⊥) → Refused ≡ cohortFrom (n - i) input i s
-      unfolding cohortFrom
+      pub stray-subject : (x ≡ s → ⊥) → (x + 1 ≡ s → ⊥) → answer Refused ≡ cohortFrom (n - i) input i s
+      unfolding answer cohortFrom
       stray-subject d f =
           yes _ (eq-eqb _ _ (sym er ∙ z))
           (no _ (ne-eqb _ _ (λ q. d (ex ∙ q)))
           (no _ (ne-eqb _ _ (λ q. f (ap (λ (y : ℕ). y + 1) ex ∙ q))) refl)) ∙ here
 
 module _ (input : List ℕ) where
-  pub not-whole : (length input % 48 ≡ 0 → ⊥) → Refused ≡ cohort input
-  unfolding cohort
+  pub not-whole : (length input % 48 ≡ 0 → ⊥) → answer Refused ≡ cohort input
+  unfolding answer cohort
   not-whole d = no _ (ne-eqb _ _ d) refl
 
-  pub too-many : length input % 48 ≡ 0 → 256 < length input / 48 → Refused ≡ cohort input
-  unfolding cohort
+  pub too-many : length input % 48 ≡ 0 → 256 < length input / 48 → answer Refused ≡ cohort input
+  unfolding answer cohort
   too-many e h = yes _ (eq-eqb _ _ e) (yes _ (lt-ltb _ _ h) refl)
 
-  pub whole : {r : Cohort} → length input % 48 ≡ 0 → length input / 48 ≤ 256 → r ≡ cohortFrom (length input / 48) input 0 0 → r ≡ cohort input
+  pub whole : {r : Answer ℕ} → length input % 48 ≡ 0 → length input / 48 ≤ 256 → r ≡ cohortFrom (length input / 48) input 0 0 → r ≡ cohort input
   unfolding cohort
   whole e h q = yes _ (eq-eqb _ _ e) (no _ (le-ltb _ _ h) q)
 

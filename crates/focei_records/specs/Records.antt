@@ -6,10 +6,18 @@ use Prim.Native.Nat.{ℕ, zero, suc, _+_, _*_, _/_, _%_}
 use lib.Dec.{eqb, ltb}
 use lib.Ieee.{Float, binary64, toBits}
 use lib.ListN.{getD, length}
+use Rattle.float64.specs.Answer.{Answer, given, refused}
 use Rattle.float64.specs.Arithmetic.{_+ᶠ_, _*ᶠ_, word}
 use Rattle.float64.specs.Pick.{pick}
 use Rattle.focei_records.specs.declared.Cohort.{Cohort}
 use Rattle.focei_records.specs.declared.Cohort.the-variants.{Subjects, Refused}
+
+-- the bytes of a record, and the most records that the program takes
+abbrev pub recordBytes : ℕ
+recordBytes = 48
+
+abbrev pub mostRecords : ℕ
+mostRecords = 256
 
 -- ---- the fields of record i
 
@@ -20,35 +28,45 @@ abbrev pub wordAt : List ℕ → ℕ → ℕ
 wordAt input at = halfAt input at + 4294967296 * halfAt input (at + 4)
 
 abbrev pub records : List ℕ → ℕ
-records input = length input / 48
+records input = length input / recordBytes
 
 unfoldable pub subjectAt : List ℕ → ℕ → ℕ
-subjectAt input i = halfAt input (48 * i)
+subjectAt input i = halfAt input (recordBytes * i)
 
 unfoldable pub reservedAt : List ℕ → ℕ → ℕ
-reservedAt input i = halfAt input (48 * i + 4)
+reservedAt input i = halfAt input (recordBytes * i + 4)
 
 -- 0 value, 1 additive, 2 proportional, 3 base, 4 slope
 unfoldable pub floatAt : List ℕ → ℕ → ℕ → ℕ
-floatAt input i field = wordAt input (48 * i + 8 + 8 * field)
+floatAt input i field = wordAt input (recordBytes * i + 8 + 8 * field)
 
 -- ---- 20: whole records, at most 256, reserved word 0, subjects from 0 rising by 0 or 1
 
+-- no number of subjects, but 20
+abbrev pub noCohort : Answer ℕ
+noCohort = refused 20
+
+-- what each case of the code's answer says
+unfoldable pub answer : Cohort → Answer ℕ
+answer (Subjects n) = given n
+answer Refused = noCohort
+
 -- the records from i on, with so many subjects before them
-unfoldable pub cohortFrom : ℕ → List ℕ → ℕ → ℕ → Cohort
-cohortFrom zero input i subjects = Subjects subjects
+unfoldable pub cohortFrom : ℕ → List ℕ → ℕ → ℕ → Answer ℕ
+cohortFrom zero input i subjects = given subjects
 cohortFrom (suc left) input i subjects =
     pick (eqb (reservedAt input i) 0)
     (pick (eqb (subjectAt input i) subjects) (cohortFrom left input (i + 1) (subjects + 1))
     (pick (eqb (subjectAt input i + 1) subjects) (cohortFrom left input (i + 1) subjects)
-    Refused))
-    Refused
+    noCohort))
+    noCohort
 
-unfoldable pub cohort : List ℕ → Cohort
+-- how many subjects the records have
+unfoldable pub cohort : List ℕ → Answer ℕ
 cohort input =
-    pick (eqb (length input % 48) 0)
-    (pick (ltb 256 (records input)) Refused (cohortFrom (records input) input 0 0))
-    Refused
+    pick (eqb (length input % recordBytes) 0)
+    (pick (ltb mostRecords (records input)) noCohort (cohortFrom (records input) input 0 0))
+    noCohort
 
 -- ---- the counts and the observations
 

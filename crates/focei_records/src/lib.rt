@@ -7,7 +7,7 @@ ghost use Prim.Native.Nat.{_+_, _*_, _/_, _≤_, _<_};
 ghost use lib.ListN.{length};
 ghost use Rattle.words.specs.Written.{written, write};
 ghost use Rattle.focei_records.specs.Records.{halfAt, wordAt, subjectAt, reservedAt, floatAt, countFrom, counts, observationAt};
-ghost use Rattle.focei_records.specs.Records.{observations, cohortFrom, cohort, rowAt, reply};
+ghost use Rattle.focei_records.specs.Records.{observations, answer, cohortFrom, cohort, rowAt, reply};
 
 // The bytes of a record.
 pub const RECORD_BYTES: usize = 48;
@@ -73,7 +73,7 @@ fn float_at(input: &[u8], i: usize, field: usize) -> u64
 
 // Reserved words are 0, and the subjects count from 0, each the one before it or the next.
 fn subjects(input: &[u8]) -> Cohort
-    ensures { λ r. ⌜ r ≡ cohortFrom (length (now (input .entry)) / 48) (now (input .entry)) 0 0 ⌝ }
+    ensures { λ r. ⌜ answer r ≡ cohortFrom (length (now (input .entry)) / 48) (now (input .entry)) 0 0 ⌝ }
 {
     let records = input.len() / RECORD_BYTES;
     let mut subjects = 0;
@@ -96,7 +96,7 @@ fn subjects(input: &[u8]) -> Cohort
 // Document 01's check 20 of the records: whole records, at most 256, reserved words 0, and subjects that
 // count from 0. Gives the number of subjects.
 pub fn cohort_of(input: &[u8]) -> Cohort
-    ensures { λ r. ⌜ r ≡ cohort (now (input .entry)) ⌝ }
+    ensures { λ r. ⌜ answer r ≡ cohort (now (input .entry)) ⌝ }
 {
     if input.len() % RECORD_BYTES != 0 {
         return Cohort::Refused;

@@ -59,7 +59,7 @@ use Rattle.session_theorems.proofs.Turns.{turns}
 use Rattle.session_theorems.proofs.Plain.{Not19, before-19, one-not-19}
 
 -- ---- the numbers of 1 to 5
-NumberOther : Admission → Type 0
+unfoldable pub NumberOther : Admission → Type 0
 NumberOther A.Accepted = Unit
 NumberOther (A.Refused n) = Not19 n
 NumberOther (A.Unsound place) = Unit
@@ -69,7 +69,7 @@ unfolding NumberOther roomy
 roomy-other setup subjects total largest lent (Sound place) = both NumberOther _ (before-19 (omega arith)) tt
 roomy-other setup subjects total largest lent (Unsound place) = tt
 
-checks-other : (setup : Setup) (subjects : ℕ) (lent : Lent) (check : Check) (c : Counts) → NumberOther (checksOf setup subjects lent check c)
+pub checks-other : (setup : Setup) (subjects : ℕ) (lent : Lent) (check : Check) (c : Counts) → NumberOther (checksOf setup subjects lent check c)
 unfolding NumberOther checksOf admitted
 checks-other setup subjects lent check (Within total largest) = both NumberOther _ (both NumberOther _ (before-19 (omega arith))
     (both NumberOther _ (before-19 (omega arith)) (roomy-other setup subjects total largest lent check))) (before-19 (omega arith))

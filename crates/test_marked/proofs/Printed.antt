@@ -2,6 +2,7 @@
 use mathlib.Core.Path.{_≡_, refl, ap}
 use mathlib.Core.List.{List, []}
 use Prim.Native.Nat.{ℕ, zero, suc}
+use Rattle.float64.specs.Answer.{Answer, given, refused}
 use Rattle.float64.specs.Arithmetic.{word}
 use Rattle.search.specs.declared.Step.{Step}
 use Rattle.machine.specs.Machine.{Ran}
@@ -11,8 +12,6 @@ use Rattle.session.specs.Calls.{Setting}
 use Rattle.session.specs.declared.Opening.{Opening}
 use Rattle.session.specs.declared.Opening.the-variants as Opens
 use Rattle.focei_records.specs.Records.{cohort, counts, observations}
-use Rattle.focei_records.specs.declared.Cohort.{Cohort}
-use Rattle.focei_records.specs.declared.Cohort.the-variants as Cohorts
 use Rattle.focei_fit.specs.Output as O
 use Rattle.test_marked.specs.Examples as X
 use Rattle.test_marked.specs.Marked.{four}
@@ -59,13 +58,13 @@ module _ (input : List ℕ) where
 
     opens : (results : List ℕ) (s : Setting) (o : Opening) → X.whenOpened O.settings input counts observations results s o ≡ O.whenOpened input counts observations results s o
     unfolding X.whenOpened O.whenOpened O.begun
-    opens results s (Opens.Opened state) = ap (O.endOf counts) (plays 10001 _)
+    opens results s (Opens.Opened state) = ap (O.endOf counts) (plays O.mostEvaluations _)
     opens results s (Opens.Refused number place) = refl
 
-  records : (c : Cohort) → X.whenRecords O.settings input c ≡ O.whenRecords input c
+  records : (c : Answer ℕ) → X.whenRecords O.settings input c ≡ O.whenRecords input c
   unfolding X.whenRecords X.fitted O.whenRecords O.lent O.fitted
-  records (Cohorts.Subjects n) = opens (counts input n) (observations input) _ _ _
-  records Cohorts.Refused = refl
+  records (given n) = opens (counts input n) (observations input) _ _ _
+  records (refused number) = refl
 
   pub with-its-own : X.outputWith O.settings input ≡ O.output input
   unfolding X.outputWith O.output

@@ -6,6 +6,7 @@ use Prim.Native.String.{String}
 use Prim.Native.String as Text
 use lib.Ieee.{Float}
 use lib.ListN.{replicate}
+use Rattle.float64.specs.Answer.{Answer, given, refused}
 use Rattle.matrix.specs.declared.Pair.{Pair}
 use Rattle.setup.specs.declared.Setup.{Setup}
 use Rattle.setup.specs.declared.Lent.{Lent}
@@ -20,10 +21,8 @@ use Rattle.session.specs.declared.Opening.{Opening}
 use Rattle.session.specs.declared.Opening.the-variants as Opens
 use Rattle.program_calls.specs.Recorded.{callOf, openOf}
 use Rattle.focei_records.specs.Records.{cohort, counts, observations, reply}
-use Rattle.focei_records.specs.declared.Cohort.{Cohort}
-use Rattle.focei_records.specs.declared.Cohort.the-variants as Cohorts
 use Rattle.focei_text.specs.Report.{refusalLine}
-use Rattle.focei_fit.specs.Output.{settings, firstParameters, whenAsked, endOf}
+use Rattle.focei_fit.specs.Output.{mostEvaluations, settings, firstParameters, whenAsked, endOf}
 
 -- ---- bytes
 
@@ -59,7 +58,7 @@ module _ (setup : Setup) (input : List ℕ) where
     unfoldable pub whenOpened : List ℕ → Setting → Opening → List ℕ
     whenOpened results s (Opens.Opened state) =
         endOf counts
-        (play 10001
+        (play mostEvaluations
         (callOf setup counts observations (objective firstParameters)
         (heldOf state (s .begun .tally) (s .cache) (s .work) (s .warm) results)))
     whenOpened results s (Opens.Refused number place) = refusalLine number place
@@ -69,10 +68,10 @@ module _ (setup : Setup) (input : List ℕ) where
         let s = openOf setup counts observations noTally cache work warm results in
         whenOpened results s (s .begun .opening)
 
-  unfoldable pub whenRecords : Cohort → List ℕ
-  whenRecords (Cohorts.Subjects n) =
+  unfoldable pub whenRecords : Answer ℕ → List ℕ
+  whenRecords (given n) =
       fitted (counts input n) (observations input) (replicate 1536 0) (replicate 3072 0) (replicate 256 0) (replicate 1280 0)
-  whenRecords Cohorts.Refused = refusalLine 20 Nowhere
+  whenRecords (refused number) = refusalLine number Nowhere
 
   unfoldable pub outputWith : List ℕ
   outputWith = whenRecords (cohort input)

@@ -1,5 +1,5 @@
 -- `main` is proved: what it writes is within its buffer. Assumes nothing.
-use Rattle.words.proofs.Front.{within}
+use Rattle.focei_fit.proofs.Room.{printed-within}
 use lib.Seq.{length-take-le}
 use lib.ListN.{replicate}
 use mathlib.Core.Path.{sym}
@@ -13,23 +13,14 @@ slice-aggregate-read-full c = search needs
 read-full-requires : tie.Need-read-full-requires
 read-full-requires c κs = search needs
 
-array-share-prefix-input : tie.Need-array-share-prefix-input
-array-share-prefix-input c = search needs
-
-slice-aggregate-focei : tie.Need-slice-aggregate-focei
-slice-aggregate-focei c = search needs
-
-slice-aggregate-focei-2 : tie.Need-slice-aggregate-focei-2
-slice-aggregate-focei-2 c = search needs
-
 focei-requires : tie.Need-focei-requires
 focei-requires c κs = search needs
 
 array-share-prefix-out : tie.Need-array-share-prefix-out
-array-share-prefix-out c = within _ (replicate 30267 0) (c .before .focei .ensures)
+array-share-prefix-out c = printed-within _ (replicate 30267 0) (c .focei .ensures .1)
 
 slice-aggregate-write-all : tie.Need-slice-aggregate-write-all
-slice-aggregate-write-all c = sym (length-take-le _ _ (within _ (replicate 30267 0) (c .before .before .focei .ensures)))
+slice-aggregate-write-all c = sym (length-take-le _ _ (printed-within _ (replicate 30267 0) (c .before .focei .ensures .1)))
 
 write-all-requires : tie.Need-write-all-requires
 write-all-requires c κs = search needs
@@ -43,9 +34,6 @@ main-spec =
     (tie.spec
     slice-aggregate-read-full
     read-full-requires
-    array-share-prefix-input
-    slice-aggregate-focei
-    slice-aggregate-focei-2
     focei-requires
     array-share-prefix-out
     slice-aggregate-write-all

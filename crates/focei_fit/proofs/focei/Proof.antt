@@ -1,38 +1,25 @@
 -- `focei` meets its contract. Assumes nothing.
 use borrow.Author.Needs.{needs}
-use mathlib.Core.Path.{sym, _∙_}
-use Rattle.focei_records.proofs.Bounds.{few-records}
-use Rattle.focei_fit.proofs.Paths.{is-cohort, no-cohort}
+use native.Mathlib.Omega.{arith}
+use lib.Seq.{length-take-le}
+use mathlib.Core.Path.{sym}
+use Rattle.focei_fit.proofs.Room.{prints}
 use Rattle.focei_fit.proofs.focei.Statement.{statement}
 use Rattle.focei_fit.proofs.focei.Tie as tie
 
-cohort-of-requires : tie.Need-cohort-of-requires
-cohort-of-requires c κs = search needs
+smaller-requires : tie.Need-smaller-requires
+smaller-requires c κs = search needs
 
-enum-known-subjects : tie.Need-enum-known-subjects
-enum-known-subjects c = search needs
+slice-aggregate-print : tie.Need-slice-aggregate-print
+slice-aggregate-print c = let least = c .before .smaller .ensures in sym (length-take-le _ _ (omega (arith, least)))
 
-lend-requires : tie.Need-lend-requires
-lend-requires c κs = few-records _ (sym (c .before .before .before .before .cohort-of .ensures) ∙ c .before .before .subjects .given .1)
-
-enum-told : tie.Need-enum-told
-enum-told c = search needs
-
-refused-requires : tie.Need-refused-requires
-refused-requires c κs = search needs
-
-same-length : tie.Need-same-length
-same-length c = search needs
+print-requires : tie.Need-print-requires
+print-requires c κs = search needs
 
 returns : tie.Need-returns
-returns c = is-cohort _ _ (c .before .before .before .before .before .before .before .cohort-of .ensures) (c .before .before .before .before .before .subjects .given .1)
-    (c .before .before .lend .ensures)
-
-same-length-2 : tie.Need-same-length-2
-same-length-2 c = search needs
-
-returns-2 : tie.Need-returns-2
-returns-2 c = no-cohort _ _ (c .before .before .before .before .before .before .cohort-of .ensures) (c .before .before .before .before .enum-told .given .1) (c .before .before .refused .ensures)
+returns c =
+    let a = c .before .before .before .before .before .args in
+    (search needs, prints (a .input .now) (a .out .now) (a .got) (omega arith) (c .before .before .before .smaller .ensures) (c .print .ensures))
 
 pub focei-spec : {M : Type 1} → statement M
-focei-spec = tie.close (tie.spec cohort-of-requires enum-known-subjects lend-requires enum-told refused-requires same-length returns same-length-2 returns-2)
+focei-spec = tie.close (tie.spec smaller-requires slice-aggregate-print print-requires returns)

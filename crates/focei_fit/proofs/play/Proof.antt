@@ -12,7 +12,7 @@ use Rattle.focei_fit.proofs.play.Tie as tie
 
 abbrev Inv-loop : tie.InvT-loop
 Inv-loop input observations counts reply₀ cache₀ work₀ warm₀ results₀ at₀ left₀ reply cache work warm results at left =
-    (Output.play input counts observations left (called at cache work warm results) ≡ Output.play input counts observations 10001 (called at₀ cache₀ work₀ warm₀ results₀)) ×
+    (Output.play input counts observations left (called at cache work warm results) ≡ Output.play input counts observations Output.mostEvaluations (called at₀ cache₀ work₀ warm₀ results₀)) ×
     (length reply ≡ length reply₀) × (length cache ≡ length cache₀) × (length work ≡ length work₀) × (length warm ≡ length warm₀) × (length results ≡ length results₀)
 
 abbrev μ-loop : tie.MeasureT-loop
