@@ -44,7 +44,7 @@ module _ (counts observations : List ℕ) (c : Call) (h : Held words) where
   says a =
       let most = settings .«max_evaluations» in
       let n = evaluations h in
-      Says OfSearch (Ending most n) settings counts (length (h .whole .work)) n (endings most n) a (gives .state .whole .progress .awaits) (evaluations (gives .state))
+      Says OfSearch (Ending most n) settings counts (length (h .whole .work)) n (settings .k) (endings most n) a (gives .state .whole .progress .awaits) (evaluations (gives .state))
 
   -- a question: a reply is awaited, and it is one more evaluation, for which there was room
   pub asks : (eta individual : Pair) → gives .answer ≡ Asked eta individual
