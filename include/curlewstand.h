@@ -192,6 +192,26 @@ uint32_t curlewstand_failure(struct curlewstand_setup setup,
                              const uint64_t *warm, size_t n_warm,
                              const uint64_t *results, size_t n_results);
 
+/* The most evaluations that one subject's search asks for within one objective, whatever the data and the
+ * replies are: 82 with one effect, 6,343 with two; 0 with any other number, with which no session opens. So
+ * many for each subject are to be booked for an objective. */
+uint32_t curlewstand_ceiling(uint32_t effects);
+
+/* The shrinkage of an objective with one effect, 1 - ((sum of eta^2) / n) / omega over its n subjects: it is
+ * written where the latest call of the session has finished such an objective, and the result is 0. To be lent
+ * are the session's counts, and state and answer as that call left them. In all other cases the result is 19
+ * and nothing is written: after a setup, a question or a refusal, with two effects, with fewer than
+ * CURLEWSTAND_STATE_WORDS words for the state, with words that are no state, or with another number of
+ * subjects. It alters nothing but the shrinkage.
+ *
+ * Whether an objective was finished or refused is in the answer alone, and a refused call writes an answer too:
+ * the shrinkage is to be asked for before the next call. An answer that is lent with the state of another call
+ * may pass, and then what is written is that expression of the state's own sum. */
+uint32_t curlewstand_shrinkage(const uint64_t *counts, size_t n_counts,
+                               const uint64_t *state, size_t n_state,
+                               const uint64_t *answer, size_t n_answer,
+                               double *shrinkage);
+
 #ifdef __cplusplus
 }
 #endif

@@ -1,5 +1,6 @@
-/* A session from C: setup, an objective of two subjects, the same with replies that lend one subject's
- * observations, the same again from kept evaluations, calls that are not due, and a simulator that fails. Exits with 0 where all of it is as document 01 says. */
+/* A session from C: the ceilings, setup, an objective of two subjects and its shrinkage, the same with replies
+ * that lend one subject's observations, the same again from kept evaluations, calls that are not due, and a
+ * simulator that fails. Exits with 0 where all of it is as document 01 says. */
 #include "curlewstand.h"
 
 #include <stdio.h>
@@ -66,9 +67,26 @@ static uint32_t open_session(void) {
                              results, 5 * SUBJECTS);
 }
 
+/* the shrinkage as state and answer tell it, with so many words of the state and so many counts */
+static uint32_t shrinkage(size_t words, size_t subjects, double *told) {
+    return curlewstand_shrinkage(counts, subjects, state, words, answer, CURLEWSTAND_ANSWER_WORDS, told);
+}
+
+/* there is no shrinkage, and what stood in its place stays */
+static bool has_no_shrinkage(size_t words, size_t subjects) {
+    double told = 0.25;
+    return shrinkage(words, subjects, &told) == 19 && told == 0.25;
+}
+
 int main(void) {
+    EXPECT(curlewstand_ceiling(1) == 82 && curlewstand_ceiling(2) == 6343);
+    EXPECT(curlewstand_ceiling(0) == 0 && curlewstand_ceiling(3) == 0);
+
+    EXPECT(has_no_shrinkage(CURLEWSTAND_STATE_WORDS, SUBJECTS));
     EXPECT(open_session() == 0);
     EXPECT(answer[0] == CURLEWSTAND_ENDED && tally.calls == 0 && tally.cached_rows == 0);
+    EXPECT(has_no_shrinkage(CURLEWSTAND_STATE_WORDS, SUBJECTS));
+    EXPECT(has_no_shrinkage(CURLEWSTAND_STATE_WORDS, 1));
 
     /* an objective whose replies lend the awaited subject's observations: what it leaves is set aside */
     static uint64_t results_alone[5 * SUBJECTS], cache_alone[24 * K], state_alone[CURLEWSTAND_STATE_WORDS];
@@ -99,12 +117,21 @@ int main(void) {
     uint32_t refused = objective(1.), questions = 0;
     while (refused == 0 && answer[0] == CURLEWSTAND_ASKED) {
         uint64_t row[4] = {word(0.), 0, answer[3], word(1.)};
+        EXPECT(has_no_shrinkage(CURLEWSTAND_STATE_WORDS, SUBJECTS));
         questions++;
         refused = reply(row, 4);
     }
     EXPECT(refused == 0 && answer[0] == CURLEWSTAND_ENDED);
-    EXPECT(questions <= 82 * SUBJECTS && tally.calls == questions);
+    EXPECT(questions <= curlewstand_ceiling(setup.effects) * SUBJECTS && tally.calls == questions);
     double value = number(answer[1]);
+
+    /* its shrinkage, with omega 1; there is none of another number of subjects, or of too few words */
+    double shrunk = 0., squares = number(results[0]) * number(results[0]) + number(results[3]) * number(results[3]);
+    EXPECT(shrinkage(CURLEWSTAND_STATE_WORDS, SUBJECTS, &shrunk) == 0);
+    EXPECT(shrunk == 1. - squares / SUBJECTS / 1.);
+    EXPECT(has_no_shrinkage(CURLEWSTAND_STATE_WORDS, SUBJECTS - 1));
+    EXPECT(has_no_shrinkage(CURLEWSTAND_STATE_WORDS, 0));
+    EXPECT(has_no_shrinkage(CURLEWSTAND_STATE_WORDS - 1, SUBJECTS));
     EXPECT(answer[1] == objective_alone && tally.calls == tally_alone.calls);
     EXPECT(tally.cached_rows == tally_alone.cached_rows && memcmp(state, state_alone, sizeof state) == 0);
     EXPECT(memcmp(results, results_alone, sizeof results) == 0 && memcmp(cache, cache_alone, sizeof cache) == 0);
@@ -114,6 +141,7 @@ int main(void) {
     /* a reply that nobody asked for alters nothing */
     EXPECT(reply(counts, SUBJECTS) == 19);
     EXPECT(answer[0] == CURLEWSTAND_REFUSED && answer[1] == 19 && answer[2] == CURLEWSTAND_NOWHERE);
+    EXPECT(has_no_shrinkage(CURLEWSTAND_STATE_WORDS, SUBJECTS));
 
     /* the same objective again, from kept evaluations alone: the warm trials are its only questions */
     refused = objective(1.);
@@ -129,6 +157,7 @@ int main(void) {
                                answer, CURLEWSTAND_ANSWER_WORDS, cache, 24 * K, work, 12, warm, SUBJECTS,
                                results, 5 * SUBJECTS) == 8);
     EXPECT(answer[2] == CURLEWSTAND_SUBJECT && answer[3] == 0);
+    EXPECT(has_no_shrinkage(CURLEWSTAND_STATE_WORDS, SUBJECTS));
     if (failures == 0) printf("session.c: %u evaluations, objective %.6f\n", tally.calls, value);
     return failures != 0;
 }

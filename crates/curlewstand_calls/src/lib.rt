@@ -5,10 +5,14 @@
 // the same call.
 //
 // All that decides anything is by value, in `host_calls` and the crates below it; here the tally is copied
-// out, the observations are gone through, and the tally is written back.
+// out, the observations are gone through, and the tally is written back. `figures` has what a host is told
+// besides.
 ghost use mathlib.Core.Path.{_≡_};
 ghost use Rattle.session.specs.Session.{allChecked, objective, reply as replies, failure};
 ghost use Rattle.host_calls.specs.Hosting.{setupOf, parametersOf, out, setupOver, callOver, doneWith};
+
+pub mod figures;
+
 use host_calls::SessionParameters;
 use host_calls::SessionSetup;
 use likelihood::population_focei::Observation;

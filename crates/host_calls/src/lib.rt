@@ -1,6 +1,6 @@
 // What crosses to a host that keeps the state and takes the answer as words: the setup and the parameters as
 // it gives them, and a call's answer, state and tally as it gets them. The calls are in `calls`, a reply's
-// two parts in `replies`. Each function is defined for all values and words.
+// two parts in `replies`, the shrinkage in `figures`. Each function is defined for all values and words.
 //
 // The state is the words of `state_words`. A refusal with 1 to 5 or 19 alters nothing but the answer.
 //
@@ -13,6 +13,7 @@ ghost use Rattle.host_calls.specs.Hosting.{setupOf, parametersOf, setupF
 ghost use Rattle.host_calls.specs.Hosting.{placeWords, answerOf, answered, numberOf, isUnaltered, toldAs, told, noState, opened};
 
 pub mod calls;
+pub mod figures;
 pub mod replies;
 
 use matrix::Pair;

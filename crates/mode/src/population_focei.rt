@@ -6,6 +6,10 @@ ghost use Rattle.float64.specs.Pick.{pick};
 ghost use Rattle.mode.specs.Rules.{etaTolerance, gridPoint, secantPoint, midpoint, settled, isAbove, isUnder, isCloser, firstScore};
 ghost use Rattle.mode.specs.Rules.{fell, firstStage, start, request, screened, entered, tried, chosen, advance};
 
+// The most evaluations that a search asks for: the points of the grid, the warm start, the secant steps and
+// the halvings. That it holds is proved in `mode_theorems` (specs/Claim.antt).
+pub const CEILING: u32 = 17 + 1 + 16 + 48;
+
 // What a search is given: eta_bound, omega, the tolerance of eta (`eta_tolerance`) and the subject's warm
 // start.
 pub struct Settings {

@@ -9,6 +9,10 @@ ghost use Rattle.mode_2d.specs.Turns.{over, beginning, taking, leaving, 
 use matrix::InversePositive;
 use matrix::Pair;
 
+// The most evaluations that a search with two effects asks for: the point zero, and from each of six starts
+// the start and 48 rounds of 22 trials. That it holds is proved in `mode_theorems` (specs/Claim2.antt).
+pub const CEILING: u32 = 1 + 6 * (1 + 48 * 22);
+
 // What a search with two effects is given: eta_bound, the entries of the precision (omega's inverse) by row
 // and column, and the subject's warm start.
 pub struct Settings2 {

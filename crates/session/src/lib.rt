@@ -1,15 +1,17 @@
 // What a session's calls stand on, by value: what is handed from call to call, how a session and an objective
-// begin, and the shrinkage of a finished objective; whether a call is accepted is in `checks`. Of the
-// observations there is what was found of them: how many there are, and their check. Each function is defined
-// for all values and words.
+// begin, the shrinkage of a finished objective, and how many evaluations a search may ask for; whether a call
+// is accepted is in `checks`. Of the observations there is what was found of them: how many there are, and
+// their check. Each function is defined for all values and words.
 ghost use mathlib.Core.Path.{_≡_};
 ghost use lib.ListN.{length};
 ghost use Rattle.session.specs.Calls.{lentBy, refusedAs, startOf, firstState, shrinkage};
+ghost use Rattle.session.specs.Figures.{hasMode, hasFinished, ceilingOf};
 
 pub mod checks;
 
 use cache::CacheOrder;
 use matrix::Pair;
+use mode::population_focei::Stage;
 use search::Fit;
 use search::Place;
 use search::Progress;
@@ -164,4 +166,54 @@ pub fn shrinkage(state: State, subjects: u32) -> f64
     ensures { λ r. ⌜ r ≡ shrinkage state subjects ⌝ }
 {
     1.0 - state.progress.eta_squares / subjects as f64 / state.parameters.omega
+}
+
+// Whether a search with one effect may have its mode in this stage: on the grid and at the warm start there
+// is always a point left to ask for, or a refusal.
+fn has_mode(stage: Stage) -> bool
+    ensures { λ r. ⌜ r ≡ hasMode stage ⌝ }
+{
+    match stage {
+        Stage::Grid => false,
+        Stage::Warm => false,
+        Stage::Secant => true,
+        Stage::Halving => true,
+    }
+}
+
+// Whether an objective stands where one with one effect is finished: no reply is awaited, the subject is the
+// last one, and its search may have its mode. An objective that was refused at its last subject may stand
+// there too. With two effects there is no shrinkage, and the answer is false.
+pub fn has_finished(progress: Progress, subjects: usize) -> bool
+    ensures { λ r. ⌜ r ≡ hasFinished progress subjects ⌝ }
+{
+    if progress.awaits {
+        return false;
+    }
+    if subjects == 0 {
+        return false;
+    }
+    if progress.subject == subjects - 1 {
+        let search = progress.search;
+        let own = search::one_of(search);
+        let stage = own.stage;
+        return has_mode(stage);
+    }
+    false
+}
+
+// ---- what is to be booked
+
+// The most evaluations that a subject's search asks for within an objective, by the number of effects: 0 where
+// there is no session with so many.
+pub fn ceiling(effects: u32) -> u32
+    ensures { λ r. ⌜ r ≡ ceilingOf effects ⌝ }
+{
+    if effects == 1 {
+        return mode::population_focei::CEILING;
+    }
+    if effects == 2 {
+        return mode_2d::population_focei_2d::CEILING;
+    }
+    0
 }

@@ -11,6 +11,7 @@ ghost use Rattle.population.specs.Steps.{wholeFrom};
 ghost use Rattle.session.specs.Session.{held, enterObjective, enterFailure};
 ghost use Rattle.session.specs.Calls.{called, runIn, endedAs, heldOf, entered, begunWith, openedBy, followed, finishReply};
 use matrix::Pair;
+use mode_2d::population_focei_2d::CEILING;
 use population::kept_points::InHand;
 use search::CachedRows;
 use search::Calls;
@@ -27,9 +28,11 @@ use setup::Parameters;
 use setup::Setup;
 use subject::Check;
 use subject::Evaluation;
+use work::MOST_SUBJECTS;
 
-// The requests that a call may make: 4,096 subjects, each with a search of at most 6,343 points and its end.
-pub const FUEL: usize = 25985024;
+// The requests that a call may make: for each of the most subjects, the points of the longest search and its
+// end.
+pub const FUEL: usize = MOST_SUBJECTS * (CEILING as usize + 1);
 
 // Runs an objective from where it stands, with what is in hand, until there is a question or an end.
 pub fn run(

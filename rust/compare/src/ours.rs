@@ -15,6 +15,7 @@ pub struct Seen {
     pub results: Results,
     pub told: Results,
     pub warm_starts: Vec<[u64; 2]>,
+    pub shrinkage: Option<u64>,
 }
 
 pub fn seen(session: &Session) -> Seen {
@@ -24,6 +25,7 @@ pub fn seen(session: &Session) -> Seen {
         results: Results::of(session),
         told: Results::told(session),
         warm_starts: warm_starts.map(|warm| warm.map(word_of)).collect(),
+        shrinkage: session.shrinkage().map(word_of),
     }
 }
 

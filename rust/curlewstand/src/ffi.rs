@@ -1,9 +1,9 @@
 //! The C face of the static library, as it is. Slices go by pointer and length.
 //!
-//! To call these is unsafe for one reason: a pointer must point to as much as
-//! its length says, and what is written must overlap nothing else that is lent.
-//! All else, any float, word, number or order of calls, has its answer. The other
-//! modules of this crate lend what they own, and are safe.
+//! To call those that take pointers is unsafe for one reason: a pointer must point
+//! to as much as its length says, and what is written must overlap nothing else
+//! that is lent. All else, any float, word, number or order of calls, has its
+//! answer. The other modules of this crate lend what they own, and are safe.
 
 /// One observation of a subject, as it is lent.
 ///
@@ -94,7 +94,7 @@ pub struct Tally {
 
 unsafe extern "C" {
     /// Opens a session; 0, or 1 to 5 or 19. See include/curlewstand.h, also for
-    /// the three below.
+    /// the others.
     pub fn curlewstand_setup(
         setup: SessionSetup,
         observations: *const Observation,
@@ -206,5 +206,20 @@ unsafe extern "C" {
         warm_len: usize,
         results: *const u64,
         results_len: usize,
+    ) -> u32;
+    /// The most evaluations that one subject's search asks for within one
+    /// objective, with one effect or two; 0 with any other number.
+    pub safe fn curlewstand_ceiling(effects: u32) -> u32;
+    /// Writes the shrinkage of the objective with one effect that the latest call
+    /// has finished, and gives 0: the counts are the session's, and state and answer
+    /// as that call left them. Else it gives 19, and nothing is written.
+    pub fn curlewstand_shrinkage(
+        counts: *const u64,
+        counts_len: usize,
+        state: *const u64,
+        state_len: usize,
+        answer: *const u64,
+        answer_len: usize,
+        shrinkage: *mut f64,
     ) -> u32;
 }

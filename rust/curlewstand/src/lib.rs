@@ -44,16 +44,3 @@ pub mod session;
 #[cfg(doctest)]
 #[doc = include_str!("../../../README.md")]
 pub struct Readme;
-
-/// The most evaluations that the search for one subject's mode asks for within one
-/// objective, with one effect: 17 on the grid, the warm start, 16 secant steps and
-/// 48 halvings.
-///
-///     assert_eq!(curlewstand::CEILING_ONE_EFFECT, 17 + 1 + 16 + 48);
-pub const CEILING_ONE_EFFECT: u32 = 82;
-
-/// The same with two effects: the point zero, and from each of six starts the start
-/// and 48 rounds of 22 trials.
-///
-///     assert_eq!(curlewstand::CEILING_TWO_EFFECTS, 1 + 6 * (1 + 48 * 22));
-pub const CEILING_TWO_EFFECTS: u32 = 6_343;

@@ -60,7 +60,6 @@ mod rows;
 
 use crate::ffi;
 use crate::refusal::{Place, Reason, Refusal};
-use crate::{CEILING_ONE_EFFECT, CEILING_TWO_EFFECTS};
 use std::error::Error;
 use std::fmt;
 
@@ -74,14 +73,10 @@ const MOST_ROWS: usize = 100_000;
 const WORDS_FOR_A_ROW: usize = 24;
 const STATE_WORDS: usize = 44;
 const ANSWER_WORDS: usize = 5;
-/// The state's word that has the objective's omega.
-const OMEGA: usize = 3;
 /// The state's word that has the subject which is searched.
 const SUBJECT: usize = 8;
 /// The state's word that has the number of that subject's first observation.
 const FIRST: usize = 9;
-/// The state's word that has the sum of the squares of eta.
-const ETA_SQUARES: usize = 13;
 
 /// The variance of one effect, or the matrix of two.
 ///
@@ -111,16 +106,17 @@ impl Omega {
     }
 
     /// The most evaluations that one subject's search can ask for within one
-    /// objective.
+    /// objective. With one effect: 17 on the grid, the warm start, 16 secant steps
+    /// and 48 halvings. With two: the point zero, and from each of six starts the
+    /// start and 48 rounds of 22 trials. The number is the proved library's own.
     ///
     ///     # use curlewstand::session::Omega;
-    ///     assert_eq!(Omega::One(1.).ceiling(), 82);
-    ///     assert_eq!(Omega::Two([[1., 0.], [0., 1.]]).ceiling(), 6343);
+    ///     let two = Omega::Two([[1., 0.], [0., 1.]]);
+    ///     assert_eq!(Omega::One(1.).ceiling(), 17 + 1 + 16 + 48);
+    ///     assert_eq!(two.ceiling(), 1 + 6 * (1 + 48 * 22));
+    ///     assert_eq!((Omega::One(1.).ceiling(), two.ceiling()), (82, 6_343));
     pub fn ceiling(&self) -> u32 {
-        match self {
-            Omega::One(_) => CEILING_ONE_EFFECT,
-            Omega::Two(_) => CEILING_TWO_EFFECTS,
-        }
+        ffi::curlewstand_ceiling(self.effects())
     }
 }
 
@@ -304,15 +300,6 @@ impl fmt::Display for NotSet {
 
 impl Error for NotSet {}
 
-/// Where the objective stands that was begun last.
-#[derive(Clone, Copy, Debug, PartialEq, Eq)]
-enum Course {
-    NotBegun,
-    Awaiting,
-    Finished,
-    Refused,
-}
-
 /// A session, which owns all that it lends. See [the module](self) for an example,
 /// and for what can be read when.
 ///
@@ -338,9 +325,13 @@ pub struct Session {
     work: Vec<u64>,
     warm: Vec<u64>,
     results: Vec<u64>,
-    course: Course,
+    /// Whether a question stands.
+    awaiting: bool,
     /// How many subjects have their mode in the objective that was begun last.
     passed: usize,
+    /// The shrinkage of that objective, taken when it is finished: the answer, which
+    /// says that it is, is overwritten by a refused call.
+    shrinkage: Option<f64>,
     /// The tally's calls when it was begun.
     calls_before: u32,
 }
@@ -393,8 +384,9 @@ impl Session {
             warm: vec![0; setup.omega.effects() as usize * cohort.len()],
             results: vec![0; 2 * observations.len() + 3 * cohort.len()],
             observations,
-            course: Course::NotBegun,
+            awaiting: false,
             passed: 0,
+            shrinkage: None,
             calls_before: 0,
         };
         session.open()?;
@@ -653,7 +645,7 @@ impl Session {
     ///     session.begin(Parameters::one_effect(1., 1.)).unwrap();
     ///     assert!(session.awaits_reply());
     pub fn awaits_reply(&self) -> bool {
-        self.course == Course::Awaiting
+        self.awaiting
     }
 
     /// How many subjects there are.
@@ -688,10 +680,7 @@ impl Session {
     ///     let session = Session::new(Setup::new(Omega::One(1.), 100), &vec![vec![one]; 5]);
     ///     assert_eq!(session.unwrap().booked_ceiling(), 5 * 82);
     pub fn booked_ceiling(&self) -> u64 {
-        let ceiling = match self.setup.effects {
-            1 => CEILING_ONE_EFFECT,
-            _ => CEILING_TWO_EFFECTS,
-        };
+        let ceiling = ffi::curlewstand_ceiling(self.setup.effects);
         u64::from(ceiling) * self.counts.len() as u64
     }
 
@@ -805,12 +794,7 @@ impl Session {
     ///     let eta = session.estimates().next().unwrap().eta[0];
     ///     assert_eq!(session.shrinkage(), Some(1. - eta * eta / 0.5));
     pub fn shrinkage(&self) -> Option<f64> {
-        if self.setup.effects != 1 || self.course != Course::Finished {
-            return None;
-        }
-        let squares = f64::from_bits(self.state[ETA_SQUARES]);
-        let omega = f64::from_bits(self.state[OMEGA]);
-        Some(1. - squares / self.counts.len() as f64 / omega)
+        self.shrinkage
     }
 
     /// Where a subject's next search starts: its latest mode that passed 16, in
@@ -858,7 +842,8 @@ impl Session {
         if number != 0 {
             let refusal = self.refusal();
             if alters(number) {
-                self.course = Course::Refused;
+                self.awaiting = false;
+                self.shrinkage = None;
                 // 18 is of no subject: all of them have passed
                 self.passed = refusal.place.subject().unwrap_or(self.counts.len());
             }
@@ -867,7 +852,8 @@ impl Session {
         let [kind, words @ ..] = self.answer;
         let [a, b, c, d] = words.map(f64::from_bits);
         if kind == 0 {
-            self.course = Course::Awaiting;
+            self.awaiting = true;
+            self.shrinkage = None;
             self.passed = self.state[SUBJECT] as usize;
             return Ok(Step::Asked(Question {
                 subject: self.passed,
@@ -875,9 +861,27 @@ impl Session {
                 individual: [c, d],
             }));
         }
-        self.course = Course::Finished;
+        self.awaiting = false;
+        self.shrinkage = self.shrinkage_now();
         self.passed = self.counts.len();
         Ok(Step::Finished(a))
+    }
+
+    /// The shrinkage as the latest call left it.
+    fn shrinkage_now(&self) -> Option<f64> {
+        let mut shrinkage = 0.;
+        let number = unsafe {
+            ffi::curlewstand_shrinkage(
+                self.counts.as_ptr(),
+                self.counts.len(),
+                self.state.as_ptr(),
+                STATE_WORDS,
+                self.answer.as_ptr(),
+                ANSWER_WORDS,
+                &mut shrinkage,
+            )
+        };
+        (number == 0).then_some(shrinkage)
     }
 
     fn refusal(&self) -> Refusal {

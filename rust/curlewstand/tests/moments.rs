@@ -3,7 +3,6 @@
 
 use curlewstand::refusal::Place;
 use curlewstand::session::*;
-use curlewstand::{CEILING_ONE_EFFECT, CEILING_TWO_EFFECTS};
 
 mod common;
 use common::*;
@@ -243,10 +242,8 @@ fn noisy(omega: Omega, draws: &mut Draws) -> (u32, bool) {
 fn ceilings() {
     let mut draws = Draws(1);
     let two = Omega::Two([[1., 0.2], [0.2, 1.]]);
-    for (omega, ceiling, runs) in [
-        (Omega::One(1.), CEILING_ONE_EFFECT, 3000),
-        (two, CEILING_TWO_EFFECTS, 300),
-    ] {
+    for (omega, ceiling, runs) in [(Omega::One(1.), 82, 3000), (two, 6_343, 300)] {
+        assert_eq!(omega.ceiling(), ceiling);
         let ends: Vec<(u32, bool)> = (0..runs).map(|_| noisy(omega, &mut draws)).collect();
         let most = ends.iter().map(|end| end.0).max().unwrap();
         let modes = ends.iter().filter(|end| end.1).count();
