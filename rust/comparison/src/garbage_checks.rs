@@ -119,7 +119,7 @@ fn tallied(call: Call, number: u32, before: &Memory, after: &Memory) -> Held {
 /// are rows of no entry, which cannot be dropped: then one evaluation's come on top.
 fn kept(number: u32, in_session: bool, before: &Memory, after: &Memory) -> Held {
     let (k, (_, kept)) = (before.setup.k as u64, after.tally());
-    let most = if in_session { k } else { 2 * k };
+    let most = if in_session { k } else { k.saturating_mul(2) };
     let is_accepted = !matches!(number, 1..=5 | 19);
     hold(!is_accepted || kept <= most, || {
         format!("{kept} rows are kept, K is {k}")

@@ -352,7 +352,16 @@ fn alter_setup(random: &mut Random, setup: &mut SessionSetup) {
         5 => setup.eta_bound = any_float(random),
         6 => setup.gradient_tolerance = any_float(random),
         7 => setup.width = number,
-        8 => setup.k = random.pick(&[0, 1, 2, setup.k + 1, setup.k - 1, any as usize]),
+        8 => {
+            setup.k = random.pick(&[
+                0,
+                1,
+                2,
+                setup.k.wrapping_add(1),
+                setup.k.wrapping_sub(1),
+                any as usize,
+            ])
+        }
         9 => (setup.has_additive, setup.additive) = (random.coin(), any_float(random)),
         10 => setup.output_budget = any as u32,
         _ => setup.max_evaluations = random.pick(&[0, 1, any as u32]),
