@@ -16,6 +16,21 @@ impl Guarded {
         &mut self.0[GUARD.len()..end]
     }
 
+    /// The same, to be read.
+    pub fn words(&self) -> &[u64] {
+        &self.0[GUARD.len()..self.0.len() - GUARD.len()]
+    }
+
+    /// Whether no guard was written.
+    pub fn stands(&self) -> bool {
+        self.0.starts_with(&GUARD) && self.0.ends_with(&GUARD)
+    }
+
+    /// Becomes the other, in the memory that it has.
+    pub fn copy_from(&mut self, other: &Self) {
+        self.0.clone_from(&other.0);
+    }
+
     /// The first word that is not the same as among those that a definition
     /// gives, guards included.
     pub fn first_unlike(&self, defined: &Self) -> Option<String> {

@@ -19,6 +19,10 @@ pub mod floats;
 pub mod focei;
 #[cfg(source_at_hand)]
 pub mod focei_draws;
+pub mod garbage;
+pub mod garbage_checks;
+pub mod garbage_draws;
+pub mod garbage_memory;
 pub mod guarded;
 pub mod kept;
 pub mod leaves;
