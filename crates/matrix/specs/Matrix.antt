@@ -8,6 +8,7 @@ use lib.Ieee.{Float, nan, neg, le}
 use Rattle.float64.specs.Arithmetic.{_+ᶠ_, _-ᶠ_, _*ᶠ_, _/ᶠ_, word}
 use Rattle.float64.specs.Float64.{nonfinite}
 use Rattle.float64.specs.Pick.{pick}
+use Rattle.matrix.specs.declared.Matrix.{Matrix}
 use Rattle.matrix.specs.declared.InversePositive.{InversePositive}
 use Rattle.matrix.specs.declared.InversePositive.the-variants.{Exists, None}
 
@@ -20,6 +21,18 @@ at v i = getD v i nan
 
 abbrev pub entry : List (List Float) → ℕ → ℕ → Float
 entry m i j = at (getD m i []) j
+
+-- a matrix that a struct holds, as an array, and back
+abbrev pub arrayOf : Matrix → List (List Float)
+arrayOf m = pair (pair (m .m00) (m .m01)) (pair (m .m10) (m .m11))
+
+abbrev pub matrixOf : List (List Float) → Matrix
+matrixOf a = record { m00 = entry a 0 0; m01 = entry a 0 1; m10 = entry a 1 0; m11 = entry a 1 1 }
+
+unfoldable pub sum : List (List Float) → List (List Float) → List (List Float)
+sum l r =
+    pair (pair (entry l 0 0 +ᶠ entry r 0 0) (entry l 0 1 +ᶠ entry r 0 1))
+    (pair (entry l 1 0 +ᶠ entry r 1 0) (entry l 1 1 +ᶠ entry r 1 1))
 
 unfoldable pub determinant : List (List Float) → Float
 determinant m = entry m 0 0 *ᶠ entry m 1 1 -ᶠ entry m 0 1 *ᶠ entry m 1 0

@@ -1,7 +1,8 @@
 // Pairs and two by two matrices of floats, by value, with the operations of population_focei_2d.rs in that
 // file's order. Each function is defined for all floats.
 ghost use mathlib.Core.Path.{_≡_};
-ghost use Rattle.matrix.specs.Matrix.{answer, determinant, hasNonfiniteEntry, inverse, inversePositive, product, dot};
+ghost use Rattle.matrix.specs.Matrix.{answer, determinant, arrayOf, matrixOf, sum, hasNonfiniteEntry, inverse, inversePositive};
+ghost use Rattle.matrix.specs.Matrix.{product, dot};
 
 // The source's Vector: a value for each effect. It is used where a struct or an enum holds one; elsewhere a
 // vector is an array.
@@ -10,11 +11,49 @@ pub struct Pair {
     pub second: f64,
 }
 
+// The source's Matrix: its entries by row and column. It is used where a struct holds one, since no enum above
+// it could hold an array; wherever a matrix is summed, inverted or multiplied it is an array.
+pub struct Matrix {
+    pub m00: f64,
+    pub m01: f64,
+    pub m10: f64,
+    pub m11: f64,
+}
+
 // The answer of inverse_positive: the determinant of a matrix that has an inverse, or none. The source
 // answers with the inverse too; an enum holds no array, so here it is `inverse(matrix, det)`.
 pub enum InversePositive {
     Exists(f64),
     None,
+}
+
+// A held matrix as an array.
+pub fn array_of(matrix: Matrix) -> [[f64; 2]; 2]
+    ensures { λ r. ⌜ r ≡ arrayOf matrix ⌝ }
+{
+    [[matrix.m00, matrix.m01], [matrix.m10, matrix.m11]]
+}
+
+// An array as a matrix to be held.
+pub fn matrix_of(array: [[f64; 2]; 2]) -> Matrix
+    ensures { λ r. ⌜ r ≡ matrixOf array ⌝ }
+{
+    Matrix {
+        m00: array[0][0],
+        m01: array[0][1],
+        m10: array[1][0],
+        m11: array[1][1],
+    }
+}
+
+// The sum of two matrices, entry by entry.
+pub fn sum(left: [[f64; 2]; 2], right: [[f64; 2]; 2]) -> [[f64; 2]; 2]
+    ensures { λ r. ⌜ r ≡ sum left right ⌝ }
+{
+    [
+        [left[0][0] + right[0][0], left[0][1] + right[0][1]],
+        [left[1][0] + right[1][0], left[1][1] + right[1][1]],
+    ]
 }
 
 // The determinant of a matrix, the source's `determinant`.

@@ -56,18 +56,18 @@ module _ (eta-bound : Float) (step : NewtonStep) (reduction : ℕ) where
 
 -- ---- a round; m is the curvature, r what `inverse_positive` answered, z what is done next
 module _ (s : Settings2) (round from : ℕ) (c : Conditional2) where
-  by-inverse : {m : List (List Float)} {r variant : InversePositive} {z : Onward} → m ≡ curvature s c → answer m r ≡ inversePositive m → r ≡ variant → z ≡ descendedBy (answer m variant) s round from c
+  by-inverse : {m : List (List Float)} {r variant : InversePositive} {z : Onward} → m ≡ curvature (s .precision) (c .information) → answer m r ≡ inversePositive m → r ≡ variant → z ≡ descendedBy (answer m variant) s round from c
       → z ≡ descended s round from c
   unfolding descended
   by-inverse {m} k e v q =
       q ∙ ap (λ (i : Inverse). descendedBy i s round from c) (sym (ap (answer m) v) ∙ e ∙ ap inversePositive k)
 
-  pub goes-down : {m i : List (List Float)} {r : InversePositive} {det : Float} {step : NewtonStep} {z : Onward} → m ≡ curvature s c → answer m r ≡ inversePositive m → r ≡ Exists det → i ≡ inverse m
+  pub goes-down : {m i : List (List Float)} {r : InversePositive} {det : Float} {step : NewtonStep} {z : Onward} → m ≡ curvature (s .precision) (c .information) → answer m r ≡ inversePositive m → r ≡ Exists det → i ≡ inverse m
       det → step ≡ stepBy s c i → z ≡ tried (s .«eta_bound») round from step → z ≡ descended s round from c
   unfolding descendedBy answer
   goes-down k e v f g q = by-inverse k e v (q ∙ ap (tried (s .«eta_bound») round from) (g ∙ ap (stepBy s c) f))
 
-  pub no-inverse : {m : List (List Float)} {r : InversePositive} → m ≡ curvature s c → answer m r ≡ inversePositive m → r ≡ None → NoInverse ≡ descended s round from c
+  pub no-inverse : {m : List (List Float)} {r : InversePositive} → m ≡ curvature (s .precision) (c .information) → answer m r ≡ inversePositive m → r ≡ None → NoInverse ≡ descended s round from c
   unfolding descendedBy answer
   no-inverse k e v = by-inverse k e v refl
 

@@ -38,7 +38,7 @@ module _ (s : Settings2) (seed : ℕ) (c best : Conditional2) where
   in-round : (round from : ℕ) → from < 22 → goneOn s seed round from c best ≡ descend s seed round from c best
   unfolding proceeded descended descend
   in-round round from h =
-      ap by (pick-yes (ltb from 22) _ Over (lt-ltb from 22 h)) ∙ descends (inversePositive (curvature s c)) round from
+      ap by (pick-yes (ltb from 22) _ Over (lt-ltb from 22 h)) ∙ descends (inversePositive (curvature (s .precision) (c .information))) round from
 
   at-end : (round : ℕ) → goneOn s seed round 22 c best ≡ finish s seed c best
   unfolding proceeded goneOnBy

@@ -8,7 +8,8 @@ use lib.Ieee.{Float, lt, le, eq, neg}
 use Rattle.float64.specs.Arithmetic.{_+ᶠ_, _-ᶠ_, _*ᶠ_, word, half}
 use Rattle.float64.specs.Float64.{abs, max, clamp}
 use Rattle.float64.specs.Pick.{pick}
-use Rattle.matrix.specs.Matrix.{pair, at, product, dot, Inverse, some, none, inversePositive}
+use Rattle.matrix.specs.Matrix.{pair, at, arrayOf, sum, product, dot, Inverse, some, none, inversePositive}
+use Rattle.matrix.specs.declared.Matrix.{Matrix}
 use Rattle.matrix.specs.declared.Pair.{Pair}
 use Rattle.mode_2d.specs.declared.population_focei_2d.Settings2.{Settings2}
 use Rattle.mode_2d.specs.declared.population_focei_2d.Conditional2.{Conditional2}
@@ -40,11 +41,8 @@ unfoldable pub isSame : Pair → Pair → Bool
 isSame a b = pick (eq (a .first) (b .first)) (eq (a .second) (b .second)) false
 
 -- ---- a point with the prior
-abbrev pub precision : Settings2 → List (List Float)
-precision s = pair (pair (s .p00) (s .p01)) (pair (s .p10) (s .p11))
-
 unfoldable pub priorScore : Settings2 → Pair → List Float
-priorScore s eta = product (precision s) (vector eta)
+priorScore s eta = product (arrayOf (s .precision)) (vector eta)
 
 -- document 01's joint: the penalised negative log likelihood
 unfoldable pub joint : Settings2 → Conditional2 → Float
@@ -57,8 +55,8 @@ penalisedScore s c = of (c .score .first +ᶠ at (priorScore s (c .eta)) 0) (c .
 unfoldable pub norm : Settings2 → Conditional2 → Float
 norm s c = maxAbs (penalisedScore s c)
 
-unfoldable pub curvature : Settings2 → Conditional2 → List (List Float)
-curvature s c = pair (pair (s .p00 +ᶠ c .i00) (s .p01 +ᶠ c .i01)) (pair (s .p10 +ᶠ c .i10) (s .p11 +ᶠ c .i11))
+unfoldable pub curvature : Matrix → Matrix → List (List Float)
+curvature precision information = sum (arrayOf precision) (arrayOf information)
 
 -- ---- a round: the Newton step from c, and its trials
 unfoldable pub stepBy : Settings2 → Conditional2 → List (List Float) → NewtonStep
@@ -176,7 +174,7 @@ descendBy none s seed round from c best = between (Halted 16) seed c best
 descendBy (some inverse det) s seed round from c best = tryFrom s seed round from c best (stepBy s c inverse)
 
 unfoldable pub descend : Settings2 → ℕ → ℕ → ℕ → Conditional2 → Conditional2 → Search2
-descend s seed round from c best = descendBy (inversePositive (curvature s c)) s seed round from c best
+descend s seed round from c best = descendBy (inversePositive (curvature (s .precision) (c .information))) s seed round from c best
 
 -- the head of a round: the rounds stop at norm ≤ 1e-5
 unfoldable pub beginRound : Settings2 → ℕ → ℕ → Conditional2 → Conditional2 → Search2
@@ -217,7 +215,12 @@ advance s x c = advanceAt (x .stage) s x c
 
 -- ---- a search that has asked nothing
 abbrev pub nowhere : Conditional2
-nowhere = record { eta = of nought nought; nll = nought; score = of nought nought; i00 = nought; i01 = nought; i10 = nought; i11 = nought }
+nowhere = record {
+  eta = of nought nought;
+  nll = nought;
+  score = of nought nought;
+  information = record { m00 = nought; m01 = nought; m10 = nought; m11 = nought };
+}
 
 unfoldable pub start : Search2
 start = between Zero 0 nowhere nowhere

@@ -55,7 +55,7 @@ descendedBy none s round from c = NoInverse
 descendedBy (some inverse det) s round from c = tried (s .«eta_bound») round from (stepBy s c inverse)
 
 unfoldable pub descended : Settings2 → ℕ → ℕ → Conditional2 → Onward
-descended s round from c = descendedBy (inversePositive (curvature s c)) s round from c
+descended s round from c = descendedBy (inversePositive (curvature (s .precision) (c .information))) s round from c
 
 unfoldable pub proceeded : Settings2 → ℕ → ℕ → Conditional2 → Onward
 proceeded s round from c = pick (ltb from 22) (descended s round from c) Over

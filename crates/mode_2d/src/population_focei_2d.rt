@@ -2,38 +2,33 @@
 // 48 Newton rounds of up to 22 reductions (`mode_from_seed`). Each public function is defined for all values.
 ghost use mathlib.Core.Path.{_≡_};
 ghost use Prim.Native.Nat.{_<_, _≤_, _-_};
-ghost use Rattle.mode_2d.specs.Rules.{vector, pairOf, precision, priorScore, joint, penalisedScore, maxAbs, norm, curvature, stepBy};
+ghost use Rattle.mode_2d.specs.Rules.{vector, pairOf, priorScore, joint, penalisedScore, maxAbs, norm, curvature, stepBy};
 ghost use Rattle.mode_2d.specs.Rules.{scale, reduced, trialPoint, decrease, isSame, isPassedOver, nextReduction, isTaken, startPoint};
 ghost use Rattle.mode_2d.specs.Rules.{isUnresolved, isFar, better, between, finish, start, request, advance};
 ghost use Rattle.mode_2d.specs.Turns.{over, beginning, taking, leaving, turnAfter, tried, descended, proceeded, goneOn};
 use matrix::InversePositive;
+use matrix::Matrix;
 use matrix::Pair;
 
 // The most evaluations that a search with two effects asks for: the point zero, and from each of six starts
 // the start and 48 rounds of 22 trials. That it holds is proved in `mode_theorems` (specs/Claim2.antt).
 pub const CEILING: u32 = 1 + 6 * (1 + 48 * 22);
 
-// What a search with two effects is given: eta_bound, the entries of the precision (omega's inverse) by row
-// and column, and the subject's warm start.
+// What a search with two effects is given: eta_bound, the precision (omega's inverse), and the subject's warm
+// start.
 pub struct Settings2 {
     pub eta_bound: f64,
-    pub p00: f64,
-    pub p01: f64,
-    pub p10: f64,
-    pub p11: f64,
+    pub precision: Matrix,
     pub warm: Pair,
 }
 
-// One evaluated point with two effects, the source's Conditional2 without its rows, with the entries of its
-// information by row and column. Neither the score nor the information includes the prior.
+// One evaluated point with two effects, the source's Conditional2 without its rows. Neither the score nor the
+// information includes the prior.
 pub struct Conditional2 {
     pub eta: Pair,
     pub nll: f64,
     pub score: Pair,
-    pub i00: f64,
-    pub i01: f64,
-    pub i10: f64,
-    pub i11: f64,
+    pub information: Matrix,
 }
 
 // The Newton step of a round: from `eta`, where the penalised score is `score`, against `direction`.
@@ -107,17 +102,11 @@ fn pair_of(v: [f64; 2]) -> Pair
     }
 }
 
-fn precision(s: Settings2) -> [[f64; 2]; 2]
-    ensures { λ r. ⌜ r ≡ precision s ⌝ }
-{
-    [[s.p00, s.p01], [s.p10, s.p11]]
-}
-
 // The prior's part of the score.
 fn prior_score(s: Settings2, eta: Pair) -> [f64; 2]
     ensures { λ r. ⌜ r ≡ priorScore s eta ⌝ }
 {
-    matrix::product(precision(s), vector(eta))
+    matrix::product(matrix::array_of(s.precision), vector(eta))
 }
 
 // Document 01's joint, the penalised negative log likelihood of an evaluated point: the source's `joint`.
@@ -150,14 +139,11 @@ fn norm(s: Settings2, c: Conditional2) -> f64
     max_abs(penalised_score(s, c))
 }
 
-// Precision plus information.
-fn curvature(s: Settings2, c: Conditional2) -> [[f64; 2]; 2]
-    ensures { λ r. ⌜ r ≡ curvature s c ⌝ }
+// The curvature of `joint` at a point: precision plus information.
+pub fn curvature(precision: Matrix, information: Matrix) -> [[f64; 2]; 2]
+    ensures { λ r. ⌜ r ≡ curvature precision information ⌝ }
 {
-    [
-        [s.p00 + c.i00, s.p01 + c.i01],
-        [s.p10 + c.i10, s.p11 + c.i11],
-    ]
+    matrix::sum(matrix::array_of(precision), matrix::array_of(information))
 }
 
 fn step_by(s: Settings2, c: Conditional2, inverse: [[f64; 2]; 2]) -> NewtonStep
@@ -387,7 +373,7 @@ fn descend(s: Settings2, round: u32, from: u32, c: Conditional2) -> Onward
     requires { ⌜ from ≤ 22 ⌝ }
     ensures { λ r. ⌜ r ≡ descended s round from c ⌝ }
 {
-    let curvature = curvature(s, c);
+    let curvature = curvature(s.precision, c.information);
     match matrix::inverse_positive(curvature) {
         InversePositive::Exists(det) => {
             let step = step_by(s, c, matrix::inverse(curvature, det));
@@ -506,10 +492,12 @@ impl Search2 {
             eta: zero,
             nll: 0.0,
             score: zero,
-            i00: 0.0,
-            i01: 0.0,
-            i10: 0.0,
-            i11: 0.0,
+            information: Matrix {
+                m00: 0.0,
+                m01: 0.0,
+                m10: 0.0,
+                m11: 0.0,
+            },
         };
         between(Stage2::Zero, 0, nowhere, nowhere)
     }

@@ -104,7 +104,7 @@ module _ (s : Settings2) (k r j : ℕ) (c b : Conditional2) (n : ℕ) (K : k < 6
 
   descend-room : RoomOf n (descend s k r j c b)
   unfolding descend descendBy between
-  descend-room = go (inversePositive (curvature s c))
+  descend-room = go (inversePositive (curvature (s .precision) (c .information)))
     where
       go : (i : Inverse) → RoomOf n (descendBy i s k r j c b)
       go none = tt

@@ -113,7 +113,7 @@ pub record OnTrial (s : Settings2) (x : Search2) : Type 0 where
 -- why a search was refused
 abbrev pub Why : Settings2 → Search2 → ℕ → Type 0
 Why s x n =
-    ((n ≡ 13) × (isUnresolved s (x .current) ≡ true)) ⊎ (((n ≡ 14) × (isFar (x .seed) (x .current) (x .best) ≡ true)) ⊎ ((n ≡ 16) × (inversePositive (curvature s (x .current)) ≡ none)))
+    ((n ≡ 13) × (isUnresolved s (x .current) ≡ true)) ⊎ (((n ≡ 14) × (isFar (x .seed) (x .current) (x .best) ≡ true)) ⊎ ((n ≡ 16) × (inversePositive (curvature (s .precision) (x .current .information)) ≡ none)))
 
 abbrev pub Way : Stage2 → Settings2 → Search2 → Type 0
 Way Zero s x = x .seed ≡ 0
@@ -150,9 +150,9 @@ module _ (s : Settings2) (k : ℕ) (c b : Conditional2) (K : k < 6) (p : T (num?
 
   descend-way : (r j : ℕ) → OnWay s (descend s k r j c b)
   unfolding descend descendBy between
-  descend-way r j = go (inversePositive (curvature s c)) refl
+  descend-way r j = go (inversePositive (curvature (s .precision) (c .information))) refl
     where
-      go : (i : Inverse) → inversePositive (curvature s c) ≡ i → OnWay s (descendBy i s k r j c b)
+      go : (i : Inverse) → inversePositive (curvature (s .precision) (c .information)) ≡ i → OnWay s (descendBy i s k r j c b)
       go none e = inr (inr (refl, e))
       go (some inverse det) e = try-way r j (stepBy s c inverse)
 
@@ -360,7 +360,7 @@ module _ (s : Settings2) (k : ℕ) (c b m : Conditional2) (l q hs : List Conditi
 
   pub descend-back : (r j : ℕ) → Back (descend s k r j c b)
   unfolding descend descendBy
-  descend-back r j = go (inversePositive (curvature s c))
+  descend-back r j = go (inversePositive (curvature (s .precision) (c .information)))
     where
       go : (i : Inverse) → Back (descendBy i s k r j c b)
       go none = halts 16
@@ -427,7 +427,7 @@ module _ (s : Settings2) (k : ℕ) (c b : Conditional2) where
 
   descend-of : (r j : ℕ) → Of c b (descend s k r j c b)
   unfolding descend descendBy tryFrom trying
-  descend-of r j = go (inversePositive (curvature s c))
+  descend-of r j = go (inversePositive (curvature (s .precision) (c .information)))
     where
       go : (i : Inverse) → Of c b (descendBy i s k r j c b)
       go none = kept (Halted 16)

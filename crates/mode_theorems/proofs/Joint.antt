@@ -41,8 +41,8 @@ unfolding joint prior0 prior1
 joint-num s d q c a =
     let v = in-16 (c .eta .first) (a .within0) in
     let w = in-16 (c .eta .second) (a .within1) in
-    let x = row (s .p00) (s .p01) (c .eta .first) (c .eta .second) (in-2¹⁰¹ (s .p00) (d .within00)) (in-2¹⁰¹ (s .p01) (d .within01)) v w in
-    let y = row (s .p10) (s .p11) (c .eta .first) (c .eta .second) (in-2¹⁰¹ (s .p10) (d .within10)) (in-2¹⁰¹ (s .p11) (d .within11)) v w in
+    let x = row (s .precision .m00) (s .precision .m01) (c .eta .first) (c .eta .second) (in-2¹⁰¹ (s .precision .m00) (d .within00)) (in-2¹⁰¹ (s .precision .m01) (d .within01)) v w in
+    let y = row (s .precision .m10) (s .precision .m11) (c .eta .first) (c .eta .second) (in-2¹⁰¹ (s .precision .m10) (d .within10)) (in-2¹⁰¹ (s .precision .m11) (d .within11)) v w in
     finite-add-num (c .nll) _ (a .nllFinite) (within-finite 111 _ (penalty (c .eta .first) (c .eta .second) _ _ v w x y))
 
 pub joint-fits : (s : Settings2) (c : Conditional2) → T (fits binary64 (joint s c))

@@ -12,9 +12,8 @@ use Rattle.float64.specs.Float64.{nonfinite}
 use Rattle.float64.specs.Pick.{pick}
 use Rattle.float64.proofs.Order.{num?, zero⁺, finite-num, le-trans, lt→le, le-or-gt, le-num-r}
 use Rattle.float64.proofs.Powers.{power, InPower, Least, within-finite, mul-within, mul-low, big-mul, deep-mul, nonpos, sub-finite-r, div-within, eq-le, eq-ge, neg-within}
-use Rattle.matrix.specs.Matrix.{entry, determinant, hasNonfiniteEntry, inverse, Inverse, some, none, inversePositive, tiny}
+use Rattle.matrix.specs.Matrix.{entry, arrayOf, determinant, hasNonfiniteEntry, inverse, Inverse, some, none, inversePositive, tiny}
 use Rattle.mode_2d.specs.declared.population_focei_2d.Settings2.{Settings2}
-use Rattle.mode_2d.specs.Rules.{precision}
 use Rattle.mode_theorems.specs.History2.{Within, Accepted}
 use Rattle.mode_theorems.specs.Claim2.{Bounded, PrecisionBound}
 
@@ -106,8 +105,8 @@ module _ (m : List (List Float)) (s : Settings2) (o : Accepted m s) where
   det : Float
   det = determinant m
 
-  tests : Passed m (precision s)
-  tests = passed m (precision s) (o .det) (o .inverse)
+  tests : Passed m (arrayOf (s .precision))
+  tests = passed m (arrayOf (s .precision)) (o .det) (o .inverse)
 
   in0 : InPower 20 (entry m 0 0)
   in0 = in-20 (entry m 0 0) (o .low0) (o .high0)

@@ -12,7 +12,7 @@ use Rattle.float64.specs.Arithmetic.{_-ᶠ_, _*ᶠ_, word}
 use Rattle.float64.specs.Float64.{abs}
 use Rattle.float64.specs.Pick.{pick, pick-no}
 use Rattle.float64.proofs.Order.{of-true}
-use Rattle.matrix.specs.Matrix.{none, product, dot, inversePositive}
+use Rattle.matrix.specs.Matrix.{sum, none, product, dot, inversePositive}
 use Rattle.matrix.specs.declared.Pair.{Pair}
 use Rattle.mode_2d.specs.declared.population_focei_2d.Settings2.{Settings2}
 use Rattle.mode_2d.specs.declared.population_focei_2d.Conditional2.{Conditional2}
@@ -105,6 +105,6 @@ pub better-is : (s : Settings2) (k : ℕ) (c b : Conditional2) → 0 < k → R.b
 better-is s k c b h = better-by s k c b ∙ pick-no (eqb k 0) _ _ (later k h)
 
 -- ---- a round
-pub flat-is : (s : Settings2) (c : Conditional2) → inversePositive (R.curvature s c) ≡ none → IsFlat s c
-unfolding R.curvature
+pub flat-is : (s : Settings2) (c : Conditional2) → inversePositive (R.curvature (s .precision) (c .information)) ≡ none → IsFlat s c
+unfolding R.curvature sum
 flat-is s c e = e

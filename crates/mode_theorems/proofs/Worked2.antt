@@ -7,7 +7,7 @@ use lib.Ieee.Scale.{finite}
 use Rattle.float64.specs.Arithmetic.{word, one, two}
 use Rattle.float64.specs.Float64.{abs, max, clamp}
 use Rattle.float64.specs.Pick.{pick}
-use Rattle.matrix.specs.Matrix.{pair, determinant, product, dot, inverse, hasNonfiniteEntry, inversePositive}
+use Rattle.matrix.specs.Matrix.{pair, sum as matrixSum, determinant, product, dot, inverse, hasNonfiniteEntry, inversePositive}
 use Rattle.matrix.specs.declared.Pair.{Pair}
 use Rattle.mode_2d.specs.declared.population_focei_2d.Settings2.{Settings2}
 use Rattle.mode_2d.specs.declared.population_focei_2d.Conditional2.{Conditional2}
@@ -26,7 +26,7 @@ eight = word 0x4020_0000_0000_0000
 
 -- eta_bound 4, omega and so the precision the identity
 abbrev pub settings : Pair → Settings2
-settings warm = record { «eta_bound» = four; p00 = one; p01 = neg nought; p10 = neg nought; p11 = one; warm = warm }
+settings warm = record { «eta_bound» = four; precision = record { m00 = one; m01 = neg nought; m10 = neg nought; m11 = one }; warm = warm }
 
 abbrev omega : List (List Float)
 omega = pair (pair one nought) (pair nought one)
@@ -37,7 +37,7 @@ accepted warm = record { low0 = tt; high0 = tt; low1 = tt; high1 = tt; symmetric
 
 -- the score and the first entry of the information at a point; all else is 0
 abbrev point : Pair → Pair → Float → Conditional2
-point eta score i00 = record { eta = eta; nll = nought; score = score; i00 = i00; i01 = nought; i10 = nought; i11 = nought }
+point eta score m00 = record { eta = eta; nll = nought; score = score; information = record { m00 = m00; m01 = nought; m10 = nought; m11 = nought } }
 
 abbrev origin : Pair
 origin = of nought nought
@@ -66,7 +66,7 @@ to-mode =
     ∷ flat (of nought two) ∷ flat origin ∷ flat (of nought (neg two)) ∷ flat origin ∷ []
 
 pub comes-to-mode : Comes origin to-mode Mode
-unfolding ofBits round sum isNan lt le eq neg add sub mul div abs max clamp pick determinant product dot inverse hasNonfiniteEntry inversePositive maxAbs isSame priorScore joint penalisedScore norm
+unfolding ofBits round sum isNan lt le eq neg add sub mul div abs max clamp pick matrixSum determinant product dot inverse hasNonfiniteEntry inversePositive maxAbs isSame priorScore joint penalisedScore norm
     curvature stepBy scale reduced trialPoint decrease isPassedOver nextReduction isTaken startPoint isUnresolved isFar better between trying finish tryFrom descendBy descend beginRound take leave
     requestAt advanceAt start ledFrom Answered finite
 comes-to-mode = record {
@@ -91,7 +91,7 @@ abbrev to-bound : List Conditional2
 to-bound = flat origin ∷ point (of four nought) (of (neg eight) nought) nought ∷ []
 
 pub comes-to-13 : Comes (of four nought) to-bound (Refused 13)
-unfolding ofBits round sum isNan lt le eq neg add sub mul div abs max clamp pick determinant product dot inverse hasNonfiniteEntry inversePositive maxAbs isSame priorScore joint penalisedScore norm
+unfolding ofBits round sum isNan lt le eq neg add sub mul div abs max clamp pick matrixSum determinant product dot inverse hasNonfiniteEntry inversePositive maxAbs isSame priorScore joint penalisedScore norm
     curvature stepBy scale reduced trialPoint decrease isPassedOver nextReduction isTaken startPoint isUnresolved isFar better between trying finish tryFrom descendBy descend beginRound take leave
     requestAt advanceAt start ledFrom Answered finite
 comes-to-13 = record { follows = (ok tt tt tt tt tt, (ok tt tt tt tt tt, tt)); asks = refl }
@@ -101,7 +101,7 @@ abbrev to-two : List Conditional2
 to-two = flat origin ∷ point (of two nought) (of (neg two) nought) nought ∷ flat origin ∷ []
 
 pub comes-to-14 : Comes (of two nought) to-two (Refused 14)
-unfolding ofBits round sum isNan lt le eq neg add sub mul div abs max clamp pick determinant product dot inverse hasNonfiniteEntry inversePositive maxAbs isSame priorScore joint penalisedScore norm
+unfolding ofBits round sum isNan lt le eq neg add sub mul div abs max clamp pick matrixSum determinant product dot inverse hasNonfiniteEntry inversePositive maxAbs isSame priorScore joint penalisedScore norm
     curvature stepBy scale reduced trialPoint decrease isPassedOver nextReduction isTaken startPoint isUnresolved isFar better between trying finish tryFrom descendBy descend beginRound take leave
     requestAt advanceAt start ledFrom Answered finite
 comes-to-14 = record { follows = (ok tt tt tt tt tt, (ok tt tt tt tt tt, (ok tt tt tt tt tt, tt))); asks = refl }
@@ -111,7 +111,7 @@ abbrev to-flat : List Conditional2
 to-flat = flat origin ∷ point origin (of one nought) (neg one) ∷ []
 
 pub comes-to-16 : Comes origin to-flat (Refused 16)
-unfolding ofBits round sum isNan lt le eq neg add sub mul div abs max clamp pick determinant product dot inverse hasNonfiniteEntry inversePositive maxAbs isSame priorScore joint penalisedScore norm
+unfolding ofBits round sum isNan lt le eq neg add sub mul div abs max clamp pick matrixSum determinant product dot inverse hasNonfiniteEntry inversePositive maxAbs isSame priorScore joint penalisedScore norm
     curvature stepBy scale reduced trialPoint decrease isPassedOver nextReduction isTaken startPoint isUnresolved isFar better between trying finish tryFrom descendBy descend beginRound take leave
     requestAt advanceAt start ledFrom Answered finite
 comes-to-16 = record { follows = (ok tt tt tt tt tt, (ok tt tt tt tt tt, tt)); asks = refl }

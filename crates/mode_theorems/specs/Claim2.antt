@@ -99,10 +99,10 @@ TwoSearch = (omega : List (List Float)) (s : Settings2) → Accepted omega s →
 
 -- the bound on the precision: entries from -2^101 to 2^101
 pub record Bounded (s : Settings2) : Type 0 where
-  pub within00 : Within (word 0x4640_0000_0000_0000) (s .p00)
-  pub within01 : Within (word 0x4640_0000_0000_0000) (s .p01)
-  pub within10 : Within (word 0x4640_0000_0000_0000) (s .p10)
-  pub within11 : Within (word 0x4640_0000_0000_0000) (s .p11)
+  pub within00 : Within (word 0x4640_0000_0000_0000) (s .precision .m00)
+  pub within01 : Within (word 0x4640_0000_0000_0000) (s .precision .m01)
+  pub within10 : Within (word 0x4640_0000_0000_0000) (s .precision .m10)
+  pub within11 : Within (word 0x4640_0000_0000_0000) (s .precision .m11)
 
 abbrev pub PrecisionBound : Type 0
 PrecisionBound = (omega : List (List Float)) (s : Settings2) → Accepted omega s → Bounded s

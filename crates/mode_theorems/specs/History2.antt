@@ -9,7 +9,7 @@ use lib.Ieee.{Float, neg, le, eq}
 use lib.Ieee.Scale.{finite}
 use Rattle.float64.specs.Arithmetic.{word, edge}
 use Rattle.float64.specs.Pick.{pick}
-use Rattle.matrix.specs.Matrix.{pair, entry, some, inversePositive}
+use Rattle.matrix.specs.Matrix.{entry, arrayOf, some, inversePositive}
 use Rattle.mode_2d.specs.declared.population_focei_2d.Settings2.{Settings2}
 use Rattle.mode_2d.specs.declared.population_focei_2d.Conditional2.{Conditional2}
 use Rattle.mode_2d.specs.declared.population_focei_2d.Stage2.{Stage2}
@@ -34,7 +34,7 @@ pub record Accepted (omega : List (List Float)) (s : Settings2) : Type 0 where
   pub high1 : T (le (entry omega 1 1) (word 0x4130_0000_0000_0000))
   pub symmetric : T (eq (entry omega 0 1) (entry omega 1 0))
   pub det : Float
-  pub inverse : inversePositive omega ≡ some (pair (pair (s .p00) (s .p01)) (pair (s .p10) (s .p11))) det
+  pub inverse : inversePositive omega ≡ some (arrayOf (s .precision)) det
 
 -- ---- a history of the rules
 -- c is an evaluation of the point that was asked for. Beyond -16..16 a point gets 7 and is never evaluated, and no nll of a session is

@@ -38,10 +38,10 @@ startPoints s =
 -- ---- a point with the prior
 -- the prior's part of the score: the precision times eta, by rows
 unfoldable pub prior0 : Settings2 → Conditional2 → Float
-prior0 s c = s .p00 *ᶠ c .eta .first +ᶠ s .p01 *ᶠ c .eta .second
+prior0 s c = s .precision .m00 *ᶠ c .eta .first +ᶠ s .precision .m01 *ᶠ c .eta .second
 
 unfoldable pub prior1 : Settings2 → Conditional2 → Float
-prior1 s c = s .p10 *ᶠ c .eta .first +ᶠ s .p11 *ᶠ c .eta .second
+prior1 s c = s .precision .m10 *ᶠ c .eta .first +ᶠ s .precision .m11 *ᶠ c .eta .second
 
 -- document 01's joint, the penalised negative log likelihood: nll + 0.5 · (eta · (precision · eta))
 unfoldable pub joint : Settings2 → Conditional2 → Float
@@ -91,4 +91,6 @@ better s c best = pick (lt (joint s c) (joint s best)) c best
 -- 16: precision + information has no inverse
 abbrev pub IsFlat : Settings2 → Conditional2 → Type 0
 IsFlat s c =
-    inversePositive (((s .p00 +ᶠ c .i00) ∷ (s .p01 +ᶠ c .i01) ∷ []) ∷ ((s .p10 +ᶠ c .i10) ∷ (s .p11 +ᶠ c .i11) ∷ []) ∷ []) ≡ none
+    let p = s .precision in
+    let i = c .information in
+    inversePositive (((p .m00 +ᶠ i .m00) ∷ (p .m01 +ᶠ i .m01) ∷ []) ∷ ((p .m10 +ᶠ i .m10) ∷ (p .m11 +ᶠ i .m11) ∷ []) ∷ []) ≡ none

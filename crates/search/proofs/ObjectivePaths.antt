@@ -55,7 +55,7 @@ module _ (fit : Fit) (best : Conditional) (rows : ℕ) {b : Bool} (e : b ≡ non
     unfolding closed1
     closes-one u q = noOf _ e t (no _ u (ap (modeOne fit best rows) q))
 
--- ---- a mode with two effects; r is what `inverse_positive` answered, v the precision times eta, d eta times that, l the logarithm
+-- ---- a mode with two effects; m is the curvature, r what `inverse_positive` answered, p the precision, v that times eta, d eta times that, l the logarithm
 abbrev modeTwo : Conditional2 → ℕ → Float → Float → Closed
 modeTwo best rows d l =
     Positive (record {
@@ -64,21 +64,22 @@ modeTwo best rows d l =
       term = two *ᶠ best .nll -ᶠ ofInt binary64 (pos rows) *ᶠ log2pi +ᶠ d +ᶠ l;
     })
 
-module _ (fit : Fit) (best : Conditional2) (rows : ℕ) {r : InversePositive} (e : answer (curvatureOf fit best) r ≡ inversePositive (curvatureOf fit best)) where
-  closed-as : {variant : InversePositive} {z : Closed} → r ≡ variant → z ≡ closedWith fit best rows (answer (curvatureOf fit best) variant) → z ≡ closed2 fit best rows
+module _ (fit : Fit) (best : Conditional2) (rows : ℕ) {m : List (List Float)} {r : InversePositive} (k : m ≡ curvatureOf fit best) (e : answer m r ≡ inversePositive m) where
+  closed-as : {variant : InversePositive} {z : Closed} → r ≡ variant → z ≡ closedWith fit best rows (answer m variant) → z ≡ closed2 fit best rows
   unfolding closed2
-  closed-as t q = q ∙ ap (closedWith fit best rows) (inverse-is _ e t)
+  closed-as t q = q ∙ ap (closedWith fit best rows) (inverse-is _ e t ∙ ap inversePositive k)
 
   pub not-positive : r ≡ None → NotPositive ≡ closed2 fit best rows
   unfolding closedWith answer
   not-positive t = closed-as t refl
 
-  pub closes-two : {det d l : Float} {v : List Float} → let eta = pair (best .eta .first) (best .eta .second) in r ≡ Exists det → v ≡ product (precisionOf fit) eta → d ≡ dot eta v → l ≡ log
-      (fit .«det_omega» *ᶠ det) → modeTwo best rows d l ≡ closed2 fit best rows
+  pub closes-two : {det d l : Float} {p : List (List Float)} {v : List Float} → let eta = pair (best .eta .first) (best .eta .second) in r ≡ Exists det → p ≡ precisionOf fit → v ≡ product p eta → d ≡
+      dot eta v → l ≡ log (fit .«det_omega» *ᶠ det) → modeTwo best rows d l ≡ closed2 fit best rows
   unfolding closedWith answer
-  closes-two t ev ed el =
+  closes-two t ep ev ed el =
       let eta = pair (best .eta .first) (best .eta .second) in
-      closed-as t (λ i. modeTwo best rows ((ed ∙ ap (dot eta) ev) i) (el i))
+      let quadratic = ed ∙ ap (dot eta) (ev ∙ ap (λ (p : List (List Float)). product p eta) ep) in
+      closed-as t (λ i. modeTwo best rows (quadratic i) (el i))
 
 -- z is what is closed, x the search
 module _ (fit : Fit) (progress : Progress) (rows : ℕ) {z : Closed} where

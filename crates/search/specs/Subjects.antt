@@ -10,7 +10,7 @@ use Rattle.float64.specs.Arithmetic.{_+ᶠ_, _-ᶠ_, _*ᶠ_, _/ᶠ_, word, one,
 use Rattle.float64.specs.Float64.{nonfinite}
 use Rattle.float64.specs.Pick.{pick}
 use Rattle.libm.specs.Log.{log}
-use Rattle.matrix.specs.Matrix.{pair, entry, Inverse, some, none, inversePositive, product, dot}
+use Rattle.matrix.specs.Matrix.{pair, arrayOf, matrixOf, Inverse, some, none, inversePositive, product, dot}
 use Rattle.matrix.specs.declared.Pair.{Pair}
 use Rattle.likelihood.specs.Terms.{log2pi}
 use Rattle.mode.specs.Rules.{etaTolerance, request, advance, start, isAbove, isUnder, isCloser}
@@ -66,10 +66,7 @@ fitWith setup theta precision det = record {
   «eta_bound» = setup .«eta_bound»;
   tolerance = etaTolerance (setup .«gradient_tolerance»);
   omega = setup .omega00;
-  p00 = entry precision 0 0;
-  p01 = entry precision 0 1;
-  p10 = entry precision 1 0;
-  p11 = entry precision 1 1;
+  precision = matrixOf precision;
   «det_omega» = det;
   theta = theta;
   «additive_sd» = setup .«additive_sd»;
@@ -107,10 +104,7 @@ settings fit progress = record {
 unfoldable pub settings2 : Fit → Progress → Settings2
 settings2 fit progress = record {
   «eta_bound» = fit .«eta_bound»;
-  p00 = fit .p00;
-  p01 = fit .p01;
-  p10 = fit .p10;
-  p11 = fit .p11;
+  precision = fit .precision;
   warm = progress .warm;
 }
 
@@ -187,10 +181,7 @@ unfoldable pub sumsOf : CachedTerms → Sums
 sumsOf terms = record {
   nll = word (terms .nll);
   score = record { first = word (terms .score0); second = word (terms .score1) };
-  i00 = word (terms .i00);
-  i01 = word (terms .i01);
-  i10 = word (terms .i10);
-  i11 = word (terms .i11);
+  information = record { m00 = word (terms .i00); m01 = word (terms .i01); m10 = word (terms .i10); m11 = word (terms .i11) };
   observation = 0;
 }
 
@@ -199,10 +190,10 @@ termsOf sums = record {
   nll = toBits binary64 (sums .nll);
   score0 = toBits binary64 (sums .score .first);
   score1 = toBits binary64 (sums .score .second);
-  i00 = toBits binary64 (sums .i00);
-  i01 = toBits binary64 (sums .i01);
-  i10 = toBits binary64 (sums .i10);
-  i11 = toBits binary64 (sums .i11);
+  i00 = toBits binary64 (sums .information .m00);
+  i01 = toBits binary64 (sums .information .m01);
+  i10 = toBits binary64 (sums .information .m10);
+  i11 = toBits binary64 (sums .information .m11);
 }
 
 -- ---- an evaluated point: with one effect the prior's eta / omega is added to the score, and never kept
@@ -212,7 +203,7 @@ conditional1 fit eta sums = record {
   eta = eta .first;
   nll = sums .nll;
   score = sums .score .first +ᶠ eta .first /ᶠ fit .omega;
-  information = sums .i00;
+  information = sums .information .m00;
 }
 
 unfoldable pub conditional2 : Pair → Sums → Conditional2
@@ -220,10 +211,7 @@ conditional2 eta sums = record {
   eta = eta;
   nll = sums .nll;
   score = sums .score;
-  i00 = sums .i00;
-  i01 = sums .i01;
-  i10 = sums .i10;
-  i11 = sums .i11;
+  information = sums .information;
 }
 
 -- ---- where the rows of the work words' blocks come from: 0 the rows at eta zero, 1 the best point's, 2 the latest's, 3 the trial's
@@ -375,10 +363,10 @@ closed1 fit best rows =
     })))
 
 abbrev pub precisionOf : Fit → List (List Float)
-precisionOf fit = pair (pair (fit .p00) (fit .p01)) (pair (fit .p10) (fit .p11))
+precisionOf fit = arrayOf (fit .precision)
 
 abbrev pub curvatureOf : Fit → Conditional2 → List (List Float)
-curvatureOf fit best = pair (pair (fit .p00 +ᶠ best .i00) (fit .p01 +ᶠ best .i01)) (pair (fit .p10 +ᶠ best .i10) (fit .p11 +ᶠ best .i11))
+curvatureOf fit best = R2.curvature (fit .precision) (best .information)
 
 -- 2 nll - n log 2π + eta · precision eta + log (det omega · det curvature)
 unfoldable pub closedWith : Fit → Conditional2 → ℕ → Inverse → Closed

@@ -10,6 +10,7 @@ pub mod points;
 pub mod questions;
 
 use matrix::InversePositive;
+use matrix::Matrix;
 use matrix::Pair;
 use mode::population_focei::Search;
 use mode_2d::population_focei_2d::Search2;
@@ -35,16 +36,13 @@ pub struct Tally {
 }
 
 // What the searches of an objective have in common, made of the setup and the objective's own parameters:
-// omega with one effect; with two its inverse (the precision, by row and column) and its determinant.
+// omega with one effect; with two its inverse (the precision) and its determinant.
 pub struct Fit {
     pub effects: u32,
     pub eta_bound: f64,
     pub tolerance: f64,
     pub omega: f64,
-    pub p00: f64,
-    pub p01: f64,
-    pub p10: f64,
-    pub p11: f64,
+    pub precision: Matrix,
     pub det_omega: f64,
     pub theta: Pair,
     pub additive_sd: AdditiveSd,
@@ -147,10 +145,7 @@ fn fit_with(setup: Setup, theta: Pair, precision: [[f64; 2]; 2], det_omega: f64)
         eta_bound: setup.eta_bound,
         tolerance: mode::population_focei::eta_tolerance(setup.gradient_tolerance),
         omega: setup.omega00,
-        p00: precision[0][0],
-        p01: precision[0][1],
-        p10: precision[1][0],
-        p11: precision[1][1],
+        precision: matrix::matrix_of(precision),
         det_omega,
         theta,
         additive_sd,

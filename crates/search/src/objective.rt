@@ -47,14 +47,11 @@ fn closed_2d(fit: Fit, best: Conditional2, rows: u32) -> Closed
     ensures { λ r. ⌜ r ≡ closed2 fit best rows ⌝ }
 {
     let mode = best.eta;
-    let curvature = [
-        [fit.p00 + best.i00, fit.p01 + best.i01],
-        [fit.p10 + best.i10, fit.p11 + best.i11],
-    ];
+    let curvature = mode_2d::population_focei_2d::curvature(fit.precision, best.information);
     match matrix::inverse_positive(curvature) {
         InversePositive::Exists(det_curvature) => {
             let eta = [best.eta.first, best.eta.second];
-            let precision = [[fit.p00, fit.p01], [fit.p10, fit.p11]];
+            let precision = matrix::array_of(fit.precision);
             let term = 2.0 * best.nll - rows as f64 * likelihood::population_focei::LOG_2PI
                 + matrix::dot(eta, matrix::product(precision, eta))
                 + libm::log(fit.det_omega * det_curvature);

@@ -41,13 +41,11 @@ pub fn settings(fit: Fit, progress: Progress) -> Settings
 pub fn settings_2d(fit: Fit, progress: Progress) -> Settings2
     ensures { λ r. ⌜ r ≡ settings2 fit progress ⌝ }
 {
+    let precision = fit.precision;
     let warm = progress.warm;
     Settings2 {
         eta_bound: fit.eta_bound,
-        p00: fit.p00,
-        p01: fit.p01,
-        p10: fit.p10,
-        p11: fit.p11,
+        precision,
         warm,
     }
 }
@@ -100,7 +98,7 @@ pub fn conditional(fit: Fit, eta: Pair, sums: Sums) -> Conditional
         eta: eta.first,
         nll: sums.nll,
         score: sums.score.first + eta.first / fit.omega,
-        information: sums.i00,
+        information: sums.information.m00,
     }
 }
 
@@ -109,14 +107,12 @@ pub fn conditional_2d(eta: Pair, sums: Sums) -> Conditional2
     ensures { λ r. ⌜ r ≡ conditional2 eta sums ⌝ }
 {
     let score = sums.score;
+    let information = sums.information;
     Conditional2 {
         eta,
         nll: sums.nll,
         score,
-        i00: sums.i00,
-        i01: sums.i01,
-        i10: sums.i10,
-        i11: sums.i11,
+        information,
     }
 }
 

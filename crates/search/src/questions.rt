@@ -13,6 +13,7 @@ use super::Step;
 use super::Tally;
 use cache::CacheKey;
 use cache::CachedTerms;
+use matrix::Matrix;
 use matrix::Pair;
 use subject::AdditiveSd;
 use subject::IndividualValues;
@@ -83,10 +84,12 @@ pub fn sums_of(terms: CachedTerms) -> Sums
             first: float64::from_word(terms.score0),
             second: float64::from_word(terms.score1),
         },
-        i00: float64::from_word(terms.i00),
-        i01: float64::from_word(terms.i01),
-        i10: float64::from_word(terms.i10),
-        i11: float64::from_word(terms.i11),
+        information: Matrix {
+            m00: float64::from_word(terms.i00),
+            m01: float64::from_word(terms.i01),
+            m10: float64::from_word(terms.i10),
+            m11: float64::from_word(terms.i11),
+        },
         observation: 0,
     }
 }
@@ -99,10 +102,10 @@ pub fn terms_of(sums: Sums) -> CachedTerms
         nll: float64::to_word(sums.nll),
         score0: float64::to_word(sums.score.first),
         score1: float64::to_word(sums.score.second),
-        i00: float64::to_word(sums.i00),
-        i01: float64::to_word(sums.i01),
-        i10: float64::to_word(sums.i10),
-        i11: float64::to_word(sums.i11),
+        i00: float64::to_word(sums.information.m00),
+        i01: float64::to_word(sums.information.m01),
+        i10: float64::to_word(sums.information.m10),
+        i11: float64::to_word(sums.information.m11),
     }
 }
 

@@ -28,6 +28,7 @@ use Rattle.subject.specs.declared.RowAt.the-variants.{Word, Missing}
 use Rattle.subject.specs.declared.PredictionRow.{PredictionRow}
 use Rattle.cache.specs.Cache.{rowWords}
 use Rattle.search.specs.Subjects.{sumsOf, termsOf}
+use Rattle.state_words.proofs.Back.{FitsMatrix}
 use Rattle.session_theorems.proofs.Fitting.{Fits}
 use Rattle.session_theorems.proofs.Lengths.{AsLong}
 
@@ -35,10 +36,7 @@ pub record FitsSums (s : Sums) : Type 0 where
   pub nll : Fits (s .nll)
   pub first : Fits (s .score .first)
   pub second : Fits (s .score .second)
-  pub i00 : Fits (s .i00)
-  pub i01 : Fits (s .i01)
-  pub i10 : Fits (s .i10)
-  pub i11 : Fits (s .i11)
+  pub information : FitsMatrix (s .information)
 
 unfoldable FitsRunning : Evaluation → Type 0
 FitsRunning (Running s) = FitsSums s
@@ -53,7 +51,14 @@ row-fits n f h (refused k) = tt
 
 terms-fit : (s : Sums) → FitsSums s → (t : RowTerms) → FitsSums (withTerms s t)
 unfolding withTerms
-terms-fit s f t = record { nll = add-fits binary64 _ _; first = add-fits binary64 _ _; second = f .second; i00 = add-fits binary64 _ _; i01 = f .i01; i10 = f .i10; i11 = f .i11 }
+terms-fit s f t =
+    let i = f .information in
+    record {
+      nll = add-fits binary64 _ _;
+      first = add-fits binary64 _ _;
+      second = f .second;
+      information = record { m00 = add-fits binary64 _ _; m01 = i .m01; m10 = i .m10; m11 = i .m11 };
+    }
 
 row2-fits : (s : Sums) (r : Row2) (f-eta : List Float) → FitsSums (withRow s r f-eta)
 unfolding withRow addNll addScore addInformation
@@ -61,10 +66,7 @@ row2-fits s r f-eta = record {
   nll = add-fits binary64 _ _;
   first = add-fits binary64 _ _;
   second = add-fits binary64 _ _;
-  i00 = add-fits binary64 _ _;
-  i01 = add-fits binary64 _ _;
-  i10 = add-fits binary64 _ _;
-  i11 = add-fits binary64 _ _;
+  information = record { m00 = add-fits binary64 _ _; m01 = add-fits binary64 _ _; m10 = add-fits binary64 _ _; m11 = add-fits binary64 _ _ };
 }
 
 added-fits : (s : Sums) → FitsSums s → (o : Observation) (trial : Trial) (reply : List ℕ) (p : ℕ) → FitsRunning (addRowAt s o trial reply p)
@@ -107,7 +109,7 @@ begun-fits : (reply : List ℕ) (width effects budget : ℕ) → FitsRunning (be
 unfolding begin FitsRunning
 begun-fits reply width effects budget =
     let z = ofBits-fits binary64 0 in
-    both FitsRunning _ (both FitsRunning _ tt (record { nll = z; first = z; second = z; i00 = z; i01 = z; i10 = z; i11 = z })) tt
+    both FitsRunning _ (both FitsRunning _ tt (record { nll = z; first = z; second = z; information = record { m00 = z; m01 = z; m10 = z; m11 = z } })) tt
 
 module _ (trial : Trial) (reply : List ℕ) (width effects budget : ℕ) (os : List Observation) (work : List ℕ) where
   abbrev end : Evaluating
@@ -137,11 +139,10 @@ terms-finite s f h = simp (
   ofBits-toBits binary64 (s .nll) (f .nll),
   ofBits-toBits binary64 (s .score .first) (f .first),
   ofBits-toBits binary64 (s .score .second) (f .second),
-  ofBits-toBits binary64
-      (s .i00) (f .i00),
-  ofBits-toBits binary64 (s .i01) (f .i01),
-  ofBits-toBits binary64 (s .i10) (f .i10),
-  ofBits-toBits binary64 (s .i11) (f .i11),
+  ofBits-toBits binary64 (s .information .m00) (f .information .m00),
+  ofBits-toBits binary64 (s .information .m01) (f .information .m01),
+  ofBits-toBits binary64 (s .information .m10) (f .information .m10),
+  ofBits-toBits binary64 (s .information .m11) (f .information .m11),
 ) h
 
 -- three words for each observation

@@ -38,20 +38,16 @@ kept-sums t = record {
   nll = ofBits-fits binary64 _;
   first = ofBits-fits binary64 _;
   second = ofBits-fits binary64 _;
-  i00 = ofBits-fits binary64 _;
-  i01 = ofBits-fits binary64 _;
-  i10 = ofBits-fits
-      binary64 _;
-  i11 = ofBits-fits binary64 _;
+  information = record { m00 = ofBits-fits binary64 _; m01 = ofBits-fits binary64 _; m10 = ofBits-fits binary64 _; m11 = ofBits-fits binary64 _ };
 }
 
 pub point1 : (fit : Fit) (eta : Pair) (sums : Sums) → FitsPair eta → FitsSums sums → FitsPoint (B.conditional1 fit eta sums)
 unfolding B.conditional1
-point1 fit eta sums e f = record { eta = e .first; nll = f .nll; score = add-fits binary64 _ _; information = f .i00 }
+point1 fit eta sums e f = record { eta = e .first; nll = f .nll; score = add-fits binary64 _ _; information = f .information .m00 }
 
 pub point2 : (eta : Pair) (sums : Sums) → FitsPair eta → FitsSums sums → FitsPoint2 (B.conditional2 eta sums)
 unfolding B.conditional2
-point2 eta sums e f = record { eta = e; nll = f .nll; score = record { first = f .first; second = f .second }; i00 = f .i00; i01 = f .i01; i10 = f .i10; i11 = f .i11 }
+point2 eta sums e f = record { eta = e; nll = f .nll; score = record { first = f .first; second = f .second }; information = f .information }
 
 -- ---- one effect
 pub record Fit1 (x : Search) : Type 0 where
@@ -114,7 +110,9 @@ between2 st seed c b f g = record { current = f; decrease = zero; best = g }
 
 pub start2 : Fit2 R2.start
 unfolding R2.start
-start2 = let n : FitsPoint2 R2.nowhere = record { eta = pair-zero; nll = zero; score = pair-zero; i00 = zero; i01 = zero; i10 = zero; i11 = zero } in between2 S2.Zero 0 _ _ n n
+start2 =
+    let n : FitsPoint2 R2.nowhere = record { eta = pair-zero; nll = zero; score = pair-zero; information = record { m00 = zero; m01 = zero; m10 = zero; m11 = zero } } in
+    between2 S2.Zero 0 _ _ n n
 
 module _ (s : Settings2) (seed : ℕ) (c b : Conditional2) (f : FitsPoint2 c) (g : FitsPoint2 b) where
   better2 : FitsPoint2 (R2.better s seed c b)

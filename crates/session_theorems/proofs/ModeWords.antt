@@ -16,7 +16,7 @@ use Rattle.float64.specs.Arithmetic.{_+ᶠ_, _-ᶠ_, _*ᶠ_, _/ᶠ_, word, one,
 use Rattle.float64.specs.Float64.{nonfinite}
 use Rattle.float64.specs.Pick.{pick, cases, pick-yes, pick-no}
 use Rattle.libm.specs.Log.{log}
-use Rattle.matrix.specs.Matrix.{pair, entry, determinant, product, dot, Inverse, some as inverted, none as singular, inversePositive}
+use Rattle.matrix.specs.Matrix.{pair, matrixOf, sum, determinant, product, dot, Inverse, some as inverted, none as singular, inversePositive}
 use Rattle.matrix.specs.declared.Pair.{Pair}
 use Rattle.likelihood.specs.Terms.{log2pi}
 use Rattle.mode.specs.Rules.{etaTolerance, request, advance}
@@ -198,10 +198,7 @@ with-mode fit best rows m singular e = absurd (not-positive e)
 
 settings-by : (own : Setup) (theta : Pair) (q : Progress) (i : Inverse) → B.settings2 (B.fitBy own theta i) q ≡ record {
   «eta_bound» = own .«eta_bound»;
-  p00 = entry (precision i) 0 0;
-  p01 = entry (precision i) 0 1;
-  p10 = entry (precision i) 1 0;
-  p11 = entry (precision i) 1 1;
+  precision = matrixOf (precision i);
   warm = q .warm;
 }
 unfolding B.fitBy B.fitWith B.settings2
@@ -292,7 +289,7 @@ steps-two fit p eta sums e w ts rows after t is own m h =
 adds-two : (setup : Setup) (parameters : Parameters) (p : Progress) (rows : ℕ) (m : Mode) → setup .effects ≡ 2 → isNoOmega (withParameters setup parameters) ≡ false → B.closedBy
     (B.fitOf setup parameters) p rows ≡ Positive m
     → m .term ≡ reads2 .term setup (B.settings2 (B.fitOf setup parameters) p) rows (B.twoOf (p .search) .best)
-unfolding B.closedBy B.closed2 B.settings2 dot product determinant
+unfolding B.closedBy B.closed2 B.settings2 R2.curvature sum dot product determinant
 adds-two setup parameters p rows m e o q =
     let fit = B.fitOf setup parameters in
     let best = B.twoOf (p .search) .best in
@@ -307,7 +304,7 @@ unfolding B.advance2
 moves-two s p c = movable2 s (B.twoOf (p .search)) (R2.advance s (B.twoOf (p .search)) c) c
 
 pub tells2 : Tells inner2 reads2 2
-unfolding warmStored pick B.closedBy B.closed2 B.conditional2 B.settings2
+unfolding warmStored pick B.closedBy B.closed2 B.conditional2 B.settings2 R2.curvature sum
 tells2 = record {
   starts = starts2;
   modes = λ fit p rows m e q. with-mode fit (B.twoOf (p .search) .best) rows m (inversePositive (B.curvatureOf fit (B.twoOf (p .search) .best))) (sym (pick-yes _ _ _ (eq-eqb _ _ e)) ∙ q);

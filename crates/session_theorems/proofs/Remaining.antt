@@ -148,7 +148,7 @@ module _ (N : ℕ → Type 0) (known : (n : ℕ) → 13 ≤ n → n ≤ 16 → N
 
     descend-left : Left2 n (R2.descend s k r j c b)
     unfolding R2.descend R2.descendBy R2.between
-    descend-left = go (inversePositive (R2.curvature s c))
+    descend-left = go (inversePositive (R2.curvature (s .precision) (c .information)))
       where
         go : (i : Inverse) → Left2 n (R2.descendBy i s k r j c b)
         go none = (tt, known 16 (omega arith) (omega arith))

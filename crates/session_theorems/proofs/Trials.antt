@@ -443,7 +443,7 @@ module _ (s : Settings2) (x : Search2) (ts : List Trial2) (z r old : List ℕ) (
 
   descends : (round from : ℕ) → Next (R2.descend s (x .seed) round from c (x .best))
   unfolding R2.descend
-  descends round from = descends-by (inversePositive (R2.curvature s c)) round from
+  descends round from = descends-by (inversePositive (R2.curvature (s .precision) (c .information))) round from
 
   rounds : (round : ℕ) → Next (R2.beginRound s (x .seed) round c (x .best))
   unfolding R2.beginRound

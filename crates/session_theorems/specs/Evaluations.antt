@@ -72,10 +72,10 @@ module _ (setup : Setup) (counts : List ℕ) (observations : List Observation) w
           nll = toBits binary64 (sums .nll);
           score0 = toBits binary64 (sums .score .first);
           score1 = toBits binary64 (sums .score .second);
-          i00 = toBits binary64 (sums .i00);
-          i01 = toBits binary64 (sums .i01);
-          i10 = toBits binary64 (sums .i10);
-          i11 = toBits binary64 (sums .i11);
+          i00 = toBits binary64 (sums .information .m00);
+          i01 = toBits binary64 (sums .information .m01);
+          i10 = toBits binary64 (sums .information .m10);
+          i11 = toBits binary64 (sums .information .m11);
         };
         n = getD counts (p .subject) 0;
         rows = replyRows (setup .width) (setup .effects) said (take (getD counts (p .subject) 0) (drop (p .first) observations));

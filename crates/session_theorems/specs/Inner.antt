@@ -142,7 +142,7 @@ inner1 = record {
     eta = eta .first;
     nll = sums .nll;
     score = sums .score .first +ᶠ eta .first /ᶠ fit .omega;
-    information = sums .i00;
+    information = sums .information .m00;
   };
 }
 
@@ -158,10 +158,7 @@ inner2 = record {
     eta = eta;
     nll = sums .nll;
     score = sums .score;
-    i00 = sums .i00;
-    i01 = sums .i01;
-    i10 = sums .i10;
-    i11 = sums .i11;
+    information = sums .information;
   };
 }
 

@@ -14,7 +14,7 @@ use Rattle.float64.specs.Arithmetic.{_+ᶠ_, _-ᶠ_, _*ᶠ_, _/ᶠ_, word, one,
 use Rattle.float64.specs.Float64.{clamp, nonfinite}
 use Rattle.float64.specs.Pick.{pick}
 use Rattle.libm.specs.Log.{log as ln}
-use Rattle.matrix.specs.Matrix.{pair, entry, determinant, Inverse, some, none, inversePositive}
+use Rattle.matrix.specs.Matrix.{pair, matrixOf, determinant, Inverse, some, none, inversePositive}
 use Rattle.likelihood.specs.Terms.{log2pi}
 use Rattle.likelihood.specs.declared.population_focei.Observation.{Observation}
 use Rattle.cache.specs.Cache.{rowWords}
@@ -190,10 +190,7 @@ abbrev pub reads2 : Reads inner2
 reads2 = record {
   settings = λ setup parameters warm i. record {
     «eta_bound» = setup .«eta_bound»;
-    p00 = entry (precisionOf setup) 0 0;
-    p01 = entry (precisionOf setup) 0 1;
-    p10 = entry (precisionOf setup) 1 0;
-    p11 = entry (precisionOf setup) 1 1;
+    precision = matrixOf (precisionOf setup);
     warm = record { first = word (getD warm (2 * i) 0); second = word (getD warm (2 * i + 1) 0) };
   };
   first = λ m. toBits binary64 (m .eta .first);
@@ -210,8 +207,10 @@ reads2 = record {
   term = λ setup s n m.
       let x = m .eta .first in
       let y = m .eta .second in
-      let quadratic = x *ᶠ (s .p00 *ᶠ x +ᶠ s .p01 *ᶠ y) +ᶠ y *ᶠ (s .p10 *ᶠ x +ᶠ s .p11 *ᶠ y) in
-      let det = (s .p00 +ᶠ m .i00) *ᶠ (s .p11 +ᶠ m .i11) -ᶠ (s .p01 +ᶠ m .i01) *ᶠ (s .p10 +ᶠ m .i10) in
+      let p = s .precision in
+      let i = m .information in
+      let quadratic = x *ᶠ (p .m00 *ᶠ x +ᶠ p .m01 *ᶠ y) +ᶠ y *ᶠ (p .m10 *ᶠ x +ᶠ p .m11 *ᶠ y) in
+      let det = (p .m00 +ᶠ i .m00) *ᶠ (p .m11 +ᶠ i .m11) -ᶠ (p .m01 +ᶠ i .m01) *ᶠ (p .m10 +ᶠ i .m10) in
       two *ᶠ m .nll -ᶠ ofInt binary64 (pos n) *ᶠ log2pi +ᶠ quadratic +ᶠ ln (determinant (omegaOf setup) *ᶠ det);
 }
 

@@ -44,7 +44,9 @@ abbrev small : Settings2 → Conditional2 → Bool
 small s c = le (max (abs (M.at (scoreOf s c) 0)) (abs (M.at (scoreOf s c) 1))) (word 0x3ee4_f8b5_88e3_68f1)
 
 abbrev information : Settings2 → Conditional2 → List (List Float)
-information s c = pair (pair (s .p00 +ᶠ c .i00) (s .p01 +ᶠ c .i01)) (pair (s .p10 +ᶠ c .i10) (s .p11 +ᶠ c .i11))
+information s c =
+    pair (pair (s .precision .m00 +ᶠ c .information .m00) (s .precision .m01 +ᶠ c .information .m01))
+    (pair (s .precision .m10 +ᶠ c .information .m10) (s .precision .m11 +ᶠ c .information .m11))
 
 abbrev trialEta : Settings2 → Conditional2 → List Float → ℕ → Pair
 trialEta s c direction reduction =
@@ -95,8 +97,8 @@ small-is : (s : Settings2) (c : Conditional2) → le (R.norm s c) (word 0x3ee4_f
 unfolding R.norm R.maxAbs R.penalisedScore R.priorScore
 small-is s c = refl
 
-curvature-is : (s : Settings2) (c : Conditional2) → R.curvature s c ≡ information s c
-unfolding R.curvature
+curvature-is : (s : Settings2) (c : Conditional2) → R.curvature (s .precision) (c .information) ≡ information s c
+unfolding R.curvature M.sum
 curvature-is s c = refl
 
 pub unresolved-is : (s : Settings2) (c : Conditional2) → R.isUnresolved s c ≡ unresolved s c
@@ -158,7 +160,7 @@ module _ (s : Settings2) where
     out r = r >>= resolve s >>= judge >>= turn others >>= fin
 
     -- the reductions of a round
-    module _ (round : ℕ) (c : Conditional2) (inverse : List (List Float)) (det : Float) (inverts : inversePositive (R.curvature s c) ≡ Inverse.some inverse det)
+    module _ (round : ℕ) (c : Conditional2) (inverse : List (List Float)) (det : Float) (inverts : inversePositive (R.curvature (s .precision) (c .information)) ≡ Inverse.some inverse det)
         (more : Conditional2 → Run Pair Conditional2 Conditional2)
         (goes : (d : Conditional2) (g : List Conditional2) → At g (pick (ltb round 47) (R.beginRound s seed (round + 1) d best) (R.finish s seed d best)) p → Ok (out (more d)) g) where
       abbrev step : NewtonStep
@@ -257,7 +259,7 @@ module _ (s : Settings2) where
           ]
 
     -- a round
-    halts : (c : Conditional2) (round : ℕ) → inversePositive (R.curvature s c) ≡ Inverse.none → R.descend s seed round 0 c best ≡ R.between (Halted 16) seed c best
+    halts : (c : Conditional2) (round : ℕ) → inversePositive (R.curvature (s .precision) (c .information)) ≡ Inverse.none → R.descend s seed round 0 c best ≡ R.between (Halted 16) seed c best
     unfolding R.descend R.descendBy
     halts c round e = ap (λ v. R.descendBy v s seed round 0 c best) e
 
@@ -265,7 +267,7 @@ module _ (s : Settings2) where
     unfolding R.requestAt R.between
     refusal n c = refl
 
-    along : (round : ℕ) (c : Conditional2) (inverse : List (List Float)) (det : Float) → inversePositive (R.curvature s c) ≡ Inverse.some inverse det
+    along : (round : ℕ) (c : Conditional2) (inverse : List (List Float)) (det : Float) → inversePositive (R.curvature (s .precision) (c .information)) ≡ Inverse.some inverse det
         → let i = R.nextReduction (s .«eta_bound») (R.stepBy s c inverse) 22 0 in
         R.descend s seed round 0 c best ≡ pick (ltb i 22) (R.trying seed round i c best (R.stepBy s c inverse) (R.trialPoint (s .«eta_bound») (R.stepBy s c inverse) i)) (R.finish s seed c best)
     unfolding R.descend R.descendBy R.tryFrom
@@ -273,7 +275,7 @@ module _ (s : Settings2) where
 
     module _ (round : ℕ) (more : Conditional2 → Run Pair Conditional2 Conditional2)
         (goes : (d : Conditional2) (g : List Conditional2) → At g (pick (ltb round 47) (R.beginRound s seed (round + 1) d best) (R.finish s seed d best)) p → Ok (out (more d)) g) where
-      descends : (c : Conditional2) (g : List Conditional2) (v : Inverse) → inversePositive (R.curvature s c) ≡ v → At g (R.descend s seed round 0 c best) p
+      descends : (c : Conditional2) (g : List Conditional2) (v : Inverse) → inversePositive (R.curvature (s .precision) (c .information)) ≡ v → At g (R.descend s seed round 0 c best) p
           → Ok (out (ok-or v 16 >>= (λ inverse. for 22 none (reduceBody s c inverse) >>= onwards c) >>= turn more)) g
       unfolding _>>=_ Tells toldBy
       descends c g Inverse.none e a = at-says (at-to a (halts c round e)) (refusal 16 c)

@@ -7,7 +7,7 @@ use Prim.Native.Nat.{ℕ, _-_, _*_, _^_}
 use lib.Ieee.{Float, lt, le, eq, neg}
 use Rattle.float64.specs.Arithmetic.{_+ᶠ_, _-ᶠ_, _*ᶠ_, word, half as one-half}
 use Rattle.float64.specs.Float64.{abs, max, clamp}
-use Rattle.matrix.specs.Matrix.{pair, at, product, dot, Inverse, inversePositive}
+use Rattle.matrix.specs.Matrix.{pair, at, arrayOf, product, dot, Inverse, inversePositive}
 use Rattle.matrix.specs.declared.Pair.{Pair}
 use Rattle.mode_2d.specs.declared.population_focei_2d.Settings2.{Settings2}
 use Rattle.mode_2d.specs.declared.population_focei_2d.Conditional2.{Conditional2}
@@ -21,7 +21,7 @@ abbrev pub vector : Pair → List Float
 vector p = pair (p .first) (p .second)
 
 abbrev pub precision : Settings2 → List (List Float)
-precision s = pair (pair (s .p00) (s .p01)) (pair (s .p10) (s .p11))
+precision s = arrayOf (s .precision)
 
 -- ---- Option: ok_or, is_none_or, unwrap
 abbrev pub ok-or : {P C : Type 0} → Inverse → ℕ → Run P C (List (List Float))
@@ -37,10 +37,7 @@ nowhere = record {
   eta = of (word 0) (word 0);
   nll = word 0;
   score = of (word 0) (word 0);
-  i00 = word 0;
-  i01 = word 0;
-  i10 = word 0;
-  i11 = word 0;
+  information = record { m00 = word 0; m01 = word 0; m10 = word 0; m11 = word 0 };
 }
 
 -- of a best candidate, which there is after six starts
@@ -81,8 +78,9 @@ mode-from-seed s initial = do
     let prior-score = product (precision s) (vector (current .eta))
     let score = pair (current .score .first +ᶠ at prior-score 0) (current .score .second +ᶠ at prior-score 1)
     if le (max (abs (at score 0)) (abs (at score 1))) «1e-5» then done (break current) else (do
-      let information = pair (pair (s .p00 +ᶠ current .i00) (s .p01 +ᶠ current .i01))
-          (pair (s .p10 +ᶠ current .i10) (s .p11 +ᶠ current .i11))
+      let information = pair
+          (pair (s .precision .m00 +ᶠ current .information .m00) (s .precision .m01 +ᶠ current .information .m01))
+          (pair (s .precision .m10 +ᶠ current .information .m10) (s .precision .m11 +ᶠ current .information .m11))
       inverse ← ok-or (inversePositive information) 16
       let direction = product inverse score
       let joint-current = joint s current

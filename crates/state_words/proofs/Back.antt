@@ -14,6 +14,7 @@ use lib.Ieee.Bits.{ofBits-toBits}
 use Rattle.float64.specs.Answer.{Answer, given, refused, through}
 use Rattle.float64.specs.Arithmetic.{word}
 use Rattle.float64.specs.Pick.{pick, no}
+use Rattle.matrix.specs.declared.Matrix.{Matrix}
 use Rattle.matrix.specs.declared.Pair.{Pair}
 use Rattle.mode.specs.declared.population_focei.Conditional.{Conditional}
 use Rattle.mode.specs.declared.population_focei.Stage.{Stage}
@@ -144,14 +145,17 @@ pub record FitsPair (p : Pair) : Type 0 where
   pub first : Fits (p .first)
   pub second : Fits (p .second)
 
+pub record FitsMatrix (m : Matrix) : Type 0 where
+  pub m00 : Fits (m .m00)
+  pub m01 : Fits (m .m01)
+  pub m10 : Fits (m .m10)
+  pub m11 : Fits (m .m11)
+
 pub record FitsPoint2 (c : Conditional2) : Type 0 where
   pub eta : FitsPair (c .eta)
   pub nll : Fits (c .nll)
   pub score : FitsPair (c .score)
-  pub i00 : Fits (c .i00)
-  pub i01 : Fits (c .i01)
-  pub i10 : Fits (c .i10)
-  pub i11 : Fits (c .i11)
+  pub information : FitsMatrix (c .information)
 
 pub record FitsSearch2 (x : Search2) : Type 0 where
   pub stage : two.isNoStage (two.stageWord (x .stage)) ≡ false
@@ -172,26 +176,32 @@ pair-back p f =
     let b = float-back _ (f .second) in
     λ d. record { first = a d; second = b d }
 
+abbrev matrixOf : ℕ → ℕ → ℕ → ℕ → Matrix
+matrixOf a b c d = record { m00 = word a; m01 = word b; m10 = word c; m11 = word d }
+
+matrix-back : (m : Matrix) → FitsMatrix m → matrixOf (bits (m .m00)) (bits (m .m01)) (bits (m .m10)) (bits (m .m11)) ≡ m
+matrix-back m f =
+    let p = float-back _ (f .m00) in
+    let q = float-back _ (f .m01) in
+    let r = float-back _ (f .m10) in
+    let t = float-back _ (f .m11) in
+    λ d. record { m00 = p d; m01 = q d; m10 = r d; m11 = t d }
+
 point2-back :
     (c : Conditional2) → FitsPoint2 c →
     record {
       eta = pairOf (bits (c .eta .first)) (bits (c .eta .second));
       nll = word (bits (c .nll));
       score = pairOf (bits (c .score .first)) (bits (c .score .second));
-      i00 = word (bits (c .i00));
-      i01 = word (bits (c .i01));
-      i10 = word (bits (c .i10));
-      i11 = word (bits (c .i11));
+      information =
+          matrixOf (bits (c .information .m00)) (bits (c .information .m01)) (bits (c .information .m10)) (bits (c .information .m11));
     } ≡ c
 point2-back c f =
     let e = pair-back _ (f .eta) in
     let n = float-back _ (f .nll) in
     let s = pair-back _ (f .score) in
-    let p = float-back _ (f .i00) in
-    let q = float-back _ (f .i01) in
-    let r = float-back _ (f .i10) in
-    let t = float-back _ (f .i11) in
-    λ d. record { eta = e d; nll = n d; score = s d; i00 = p d; i01 = q d; i10 = r d; i11 = t d }
+    let i = matrix-back _ (f .information) in
+    λ d. record { eta = e d; nll = n d; score = s d; information = i d }
 
 halted-back : (n m : ℕ) → m ≡ 4 + n → two.stageOf m ≡ Halted n
 unfolding two.stageOf

@@ -23,7 +23,7 @@ bits x = toBits binary64 x
 unfoldable pub wordsOf : Conditional2 → List ℕ
 wordsOf c =
     bits (c .eta .first) ∷ bits (c .eta .second) ∷ bits (c .nll) ∷ bits (c .score .first) ∷ bits (c .score .second)
-    ∷ bits (c .i00) ∷ bits (c .i01) ∷ bits (c .i10) ∷ bits (c .i11) ∷ []
+    ∷ bits (c .information .m00) ∷ bits (c .information .m01) ∷ bits (c .information .m10) ∷ bits (c .information .m11) ∷ []
 
 unfoldable pub stageWord : Stage2 → ℕ
 stageWord Zero = 0
@@ -62,10 +62,12 @@ conditionalAt words i =
       eta = pairAt words i;
       nll = word (at words (i + 2));
       score = pairAt words (i + 3);
-      i00 = word (at words (i + 5));
-      i01 = word (at words (i + 6));
-      i10 = word (at words (i + 7));
-      i11 = word (at words (i + 8));
+      information = record {
+        m00 = word (at words (i + 5));
+        m01 = word (at words (i + 6));
+        m10 = word (at words (i + 7));
+        m11 = word (at words (i + 8));
+      };
     }
 
 unfoldable pub searchOf : List ℕ → Search2

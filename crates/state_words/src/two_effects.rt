@@ -7,6 +7,7 @@ ghost use Prim.Native.Nat.{_+_, _≤_, _<_};
 ghost use lib.ListN.{length};
 ghost use Rattle.state_words.specs.SearchWords2.{searchSize, conditionalAt, wordsOf, isNoStage, stageOf, stageWord, saved};
 ghost use Rattle.state_words.specs.SearchWords2.{loadedLent, loaded, answer};
+use matrix::Matrix;
 use mode_2d::population_focei_2d::Conditional2;
 use mode_2d::population_focei_2d::Search2;
 use mode_2d::population_focei_2d::Stage2;
@@ -81,10 +82,12 @@ fn conditional_at(words: &[u64], i: usize) -> Conditional2
         eta,
         nll: float64::from_word(words[i + 2]),
         score,
-        i00: float64::from_word(words[i + 5]),
-        i01: float64::from_word(words[i + 6]),
-        i10: float64::from_word(words[i + 7]),
-        i11: float64::from_word(words[i + 8]),
+        information: Matrix {
+            m00: float64::from_word(words[i + 5]),
+            m01: float64::from_word(words[i + 6]),
+            m10: float64::from_word(words[i + 7]),
+            m11: float64::from_word(words[i + 8]),
+        },
     }
 }
 
@@ -97,10 +100,10 @@ fn words_of(c: Conditional2) -> [u64; 9]
         float64::to_word(c.nll),
         float64::to_word(c.score.first),
         float64::to_word(c.score.second),
-        float64::to_word(c.i00),
-        float64::to_word(c.i01),
-        float64::to_word(c.i10),
-        float64::to_word(c.i11),
+        float64::to_word(c.information.m00),
+        float64::to_word(c.information.m01),
+        float64::to_word(c.information.m10),
+        float64::to_word(c.information.m11),
     ]
 }
 

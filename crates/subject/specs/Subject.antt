@@ -10,7 +10,7 @@ use Rattle.float64.specs.Arithmetic.{_+ᶠ_, _*ᶠ_, word}
 use Rattle.float64.specs.Float64.{nonfinite}
 use Rattle.float64.specs.Pick.{pick}
 use Rattle.libm.specs.Exp.{exp}
-use Rattle.matrix.specs.Matrix.{pair, at, entry, hasNonfiniteEntry}
+use Rattle.matrix.specs.Matrix.{pair, at, arrayOf, matrixOf, hasNonfiniteEntry}
 use Rattle.matrix.specs.declared.Pair.{Pair}
 use Rattle.likelihood.specs.RowTerms.{rowTerms}
 use Rattle.likelihood.specs.Row2.{rowVariance, scaledRow, addNll, addScore, addInformation}
@@ -57,10 +57,7 @@ abbrev pub noSums : Sums
 noSums = record {
   nll = word 0;
   score = record { first = word 0; second = word 0 };
-  i00 = word 0;
-  i01 = word 0;
-  i10 = word 0;
-  i11 = word 0;
+  information = record { m00 = word 0; m01 = word 0; m10 = word 0; m11 = word 0 };
   observation = 0;
 }
 
@@ -93,10 +90,12 @@ unfoldable pub withTerms : Sums → RowTerms → Sums
 withTerms sums terms = record {
   nll = sums .nll +ᶠ terms .nll;
   score = record { first = sums .score .first +ᶠ terms .score; second = sums .score .second };
-  i00 = sums .i00 +ᶠ terms .information;
-  i01 = sums .i01;
-  i10 = sums .i10;
-  i11 = sums .i11;
+  information = record {
+    m00 = sums .information .m00 +ᶠ terms .information;
+    m01 = sums .information .m01;
+    m10 = sums .information .m10;
+    m11 = sums .information .m11;
+  };
   observation = next (sums .observation);
 }
 
@@ -108,14 +107,11 @@ addRow sums observation prediction f-eta additive =
 unfoldable pub withRow : Sums → Row2 → List Float → Sums
 withRow sums row f-eta =
     let score = addScore (pair (sums .score .first) (sums .score .second)) row f-eta in
-    let information = addInformation (pair (pair (sums .i00) (sums .i01)) (pair (sums .i10) (sums .i11))) row f-eta in
+    let information = addInformation (arrayOf (sums .information)) row f-eta in
     record {
       nll = addNll (sums .nll) row;
       score = record { first = at score 0; second = at score 1 };
-      i00 = entry information 0 0;
-      i01 = entry information 0 1;
-      i10 = entry information 1 0;
-      i11 = entry information 1 1;
+      information = matrixOf information;
       observation = next (sums .observation);
     }
 
@@ -179,7 +175,7 @@ hasNonfiniteSum sums =
     pick (nonfinite (sums .nll)) true
     (pick (nonfinite (sums .score .first)) true
     (pick (nonfinite (sums .score .second)) true
-    (hasNonfiniteEntry (pair (pair (sums .i00) (sums .i01)) (pair (sums .i10) (sums .i11))))))
+    (hasNonfiniteEntry (arrayOf (sums .information)))))
 
 unfoldable pub finish : Evaluation → Evaluation
 finish (Running sums) = pick (hasNonfiniteSum sums) (Refused 12) (Running sums)

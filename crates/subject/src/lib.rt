@@ -14,6 +14,7 @@ ghost use Rattle.subject.specs.Subject.{hasNonfiniteSum, finish};
 pub mod checks;
 pub mod rows;
 
+use matrix::Matrix;
 use matrix::Pair;
 
 // The answer of individual_values: the value for each effect (with one effect, the first), or that one of
@@ -40,16 +41,13 @@ pub struct Trial {
     pub block: usize,
 }
 
-// The sums over the observations so far: negative log likelihood, score, and information by row and column.
-// With one effect all but nll, score.first and i00 stay as they are. None of them includes the prior.
+// The sums over the observations so far: negative log likelihood, score and information. With one effect all
+// but nll, score.first and information.m00 stay as they are. None of them includes the prior.
 // `observation` is the number of the next observation within its subject.
 pub struct Sums {
     pub nll: f64,
     pub score: Pair,
-    pub i00: f64,
-    pub i01: f64,
-    pub i10: f64,
-    pub i11: f64,
+    pub information: Matrix,
     pub observation: usize,
 }
 
@@ -172,10 +170,12 @@ pub fn begin(reply: &[u64], width: u32, effects: u32, output_budget: u32) -> Eva
             first: 0.0,
             second: 0.0,
         },
-        i00: 0.0,
-        i01: 0.0,
-        i10: 0.0,
-        i11: 0.0,
+        information: Matrix {
+            m00: 0.0,
+            m01: 0.0,
+            m10: 0.0,
+            m11: 0.0,
+        },
         observation: 0,
     })
 }
@@ -192,7 +192,7 @@ fn has_nonfinite_sum(sums: Sums) -> bool
     if float64::is_nonfinite(sums.score.second) {
         return true;
     }
-    matrix::has_nonfinite_entry([[sums.i00, sums.i01], [sums.i10, sums.i11]])
+    matrix::has_nonfinite_entry(matrix::array_of(sums.information))
 }
 
 // The end of an evaluation, after its last observation: 12 where a sum is not finite. The sums are tested

@@ -18,6 +18,7 @@ use likelihood::population_focei::Row;
 use likelihood::population_focei::RowTerms;
 use likelihood::population_focei_2d::Row2;
 use likelihood::population_focei_2d::RowVariance;
+use matrix::Matrix;
 use matrix::Pair;
 
 // ---- a reply's rows
@@ -121,10 +122,12 @@ fn with_terms(sums: Sums, terms: RowTerms) -> Sums
             first: sums.score.first + terms.score,
             second: sums.score.second,
         },
-        i00: sums.i00 + terms.information,
-        i01: sums.i01,
-        i10: sums.i10,
-        i11: sums.i11,
+        information: Matrix {
+            m00: sums.information.m00 + terms.information,
+            m01: sums.information.m01,
+            m10: sums.information.m10,
+            m11: sums.information.m11,
+        },
         observation: std::num::wrapping_add_usize(sums.observation, 1),
     }
 }
@@ -156,7 +159,7 @@ fn with_row(sums: Sums, row: Row2, f_eta: [f64; 2]) -> Sums
         f_eta,
     );
     let information = likelihood::population_focei_2d::add_information(
-        [[sums.i00, sums.i01], [sums.i10, sums.i11]],
+        matrix::array_of(sums.information),
         row,
         f_eta,
     );
@@ -166,10 +169,7 @@ fn with_row(sums: Sums, row: Row2, f_eta: [f64; 2]) -> Sums
             first: score[0],
             second: score[1],
         },
-        i00: information[0][0],
-        i01: information[0][1],
-        i10: information[1][0],
-        i11: information[1][1],
+        information: matrix::matrix_of(information),
         observation: std::num::wrapping_add_usize(sums.observation, 1),
     }
 }

@@ -17,10 +17,35 @@ use prog.Wp.{Heap, Calls, Loops, WpFn, Tables}
 use ghost.Atoms.{Atoms}
 use contract.Monad.{Fun, fact}
 use contract.Running.{givenOf, tables, tablesOf}
-use types.Kit.{Given, Item, ‵, raw, some, later, _⊛_, _$_, _∵_, !, qed, move, keep, drop, group, use0, use1, use2, use3, split, join, pick, rewrite, fsplit, fsplit3, fjoin, fjoin3, feqL, feqI}
-use types.Kit.{suffices, frame, await, done}
-use types.Run.{look, look-raw, init, store, store-raw, forget, stop, hop, fld, from, load, lit, addr, unit-lit, true-lit, false-lit, float-lit, of-opd, bin, and-then, no-more, assigns, land, returns}
-use types.Run.{enter, alloc1, alloc0, params1, pass1, pass0, free1, free0}
+use types.Kit.{Given, Item, ⋆, ‵, raw, some, later, _⊛_, _$_, _∵_, !, qed, move, keep, drop, group, use0, use1, use2, use3, split, join, pick, rewrite, fsplit, fsplit3, fjoin, fjoin3, feqL, feqI}
+use types.Kit.{suffices, frame, await, by, done}
+use types.Run.{
+  look,
+  look-raw,
+  init,
+  store,
+  store-raw,
+  forget,
+  stop,
+  hop,
+  fld,
+  from,
+  load,
+  lit,
+  addr,
+  unit-lit,
+  true-lit,
+  false-lit,
+  float-lit,
+  of-opd,
+  bin,
+  and-then,
+  no-more,
+  assigns,
+  land,
+  returns,
+}
+use types.Run.{enter, alloc1, alloc0, params1, pass1, pass0}
 use types.Part.{agg, whole, sub, look-in}
 use types.SemTy.{Body}
 use types.Tokens.{lft-new, lft-end}
@@ -78,6 +103,7 @@ use Rattle.observations.proofs.Replied.{replied-over}
 use Rattle.subject.specs.Subject.{evaluating}
 use Rattle.session.specs.Calls.{lentBy}
 use Rattle.state_words.specs.SessionWords.{loadedState}
+use Rattle.observations.proofs.Frees.{free-all}
 use Rattle.observations.proofs.Again.{LentAgain as LentSlice, lends-again-at, comes-back-at}
 use Rattle.host_calls.proofs.replies.admit as m
 use Rattle.host_calls.proofs.replies.admit.Symbol as m-def
@@ -210,6 +236,331 @@ module _ {M : Type 1} (𝓤 : URA M) (H : Heap 𝓤) (A : Atoms 𝓤) (W : Given
       tt,
     )
 
+    -- what each function is called with, what is had then, and that it may be called: `admit`
+    abbrev m-args : GName → (SessionSetup × (Tally × (Check × (Bool × (ℕ × (ℕ × (ℕ × (ℕ × (ℕ × (RefT (List ℕ) × (RefT (List ℕ) × (RefT (List ℕ) × Unit {0}))))))))))))
+    m-args δ-state2 = (
+      x-setup,
+      (
+        x-tally,
+        (
+          x-check,
+          (
+            x-alone,
+            (
+              (length (x-observations .now)),
+              (
+                (length (x-cache .now)),
+                (
+                  (length (x-work .now)),
+                  (
+                    (length (x-warm .now)),
+                    (
+                      (length (x-results .now)),
+                      (x-counts, (x-reply, (record { ptr = x-state .ptr; name = δ-state2; now = x-state .now }, tt))),
+                    ),
+                  ),
+                ),
+              ),
+            ),
+          ),
+        ),
+      ),
+    )
+
+    abbrev m-bound : ℕ → GName → m-con 𝓤 H A at-mem run .Ghost
+    m-bound ν-state2 δ-state2 = (
+      (
+        (κ-counts, (κ-reply, ((ν-state2 ∷ []), tt))),
+        (q-counts, (q-reply, (fullShare, tt))),
+        tt,
+        m-args δ-state2,
+        (
+          v-setup ∷ [],
+          (
+            v-tally ∷ [],
+            (
+              v-check ∷ [],
+              (
+                vbool (x-alone) ∷ [],
+                (
+                  vint w64 (length (x-observations .now)) ∷ [],
+                  (
+                    vint w64 (length (x-cache .now)) ∷ [],
+                    (
+                      vint w64 (length (x-work .now)) ∷ [],
+                      (
+                        vint w64 (length (x-warm .now)) ∷ [],
+                        (
+                          vint w64 (length (x-results .now)) ∷ [],
+                          (
+                            sliceVal (x-counts .ptr) (length (x-counts .now)) ∷ [],
+                            (
+                              sliceVal (x-reply .ptr) (length (x-reply .now)) ∷ [],
+                              (
+                                sliceVal (x-state .ptr) (length (x-state .now)) ∷ [],
+                                tt,
+                              ),
+                            ),
+                          ),
+                        ),
+                      ),
+                    ),
+                  ),
+                ),
+              ),
+            ),
+          ),
+        ),
+      ),
+      tt,
+    )
+
+    abbrev m-had : ℕ → GName → List (Item 𝓤)
+    m-had ν-state2 δ-state2 = (‵ (flft κ-counts q-counts) ∷ ‵ (flft κ-reply q-reply) ∷ ‵ (flft (ν-state2 ∷ []) fullShare) ∷ ‵ (ShrSlice (named 1) κ-counts u64 .own (x-counts) (sliceVal
+        (x-counts .ptr) (length (x-counts .now)) ∷ [])) ∷ ‵ (ShrSlice (named 2) κ-reply u64 .own (x-reply) (sliceVal (x-reply .ptr) (length (x-reply .now)) ∷ [])) ∷ ‵ (MutSlice (named 0)
+        (ν-state2 ∷ []) u64 .own (record { ptr = x-state .ptr; name = δ-state2; now = x-state .now }) (sliceVal (x-state .ptr) (length (x-state .now)) ∷ [])) ∷ [])
+
+    m-asks : (ν-state2 : ℕ) (δ-state2 : GName) → ent 𝓤 (⋆ 𝓤 H A (m-had ν-state2 δ-state2)) (m-con 𝓤 H A at-mem run .pre (m-bound ν-state2 δ-state2))
+    m-asks ν-state2 δ-state2 = qed W (m-had ν-state2 δ-state2) ∵ nothing ! $ move ! (3 ∷ 0 ∷ []) $ join ! $ move ! (2 ∷ 0 ∷ []) $ join ! $ move ! (1 ∷ 0 ∷ []) $ join ! $ nothing ! $ move !
+        (4 ∷ 0 ∷ []) $ fjoin ! $ move ! (3 ∷ 0 ∷ []) $ fjoin ! $ move ! (2 ∷ 0 ∷ []) $ fjoin ! $ owned ! usize (Is usize) (uint-makes 𝓤 H A W w64) (length (x-results .now)) (vint w64
+        (length (x-results .now)) ∷ []) (refl, room-results .0) $ fjoin ! $ owned ! usize (Is usize) (uint-makes 𝓤 H A W w64) (length (x-warm .now)) (vint w64 (length (x-warm .now)) ∷ [])
+        (refl, room-warm .0) $ fjoin ! $ owned ! usize (Is usize) (uint-makes 𝓤 H A W w64) (length (x-work .now)) (vint w64 (length (x-work .now)) ∷ []) (refl, room-work .0) $ fjoin ! $
+        owned ! usize (Is usize) (uint-makes 𝓤 H A W w64) (length (x-cache .now)) (vint w64 (length (x-cache .now)) ∷ []) (refl, room-cache .0) $ fjoin ! $ owned ! usize (Is usize)
+        (uint-makes 𝓤 H A W w64) (length (x-observations .now)) (vint w64 (length (x-observations .now)) ∷ []) (refl, room-observations .0) $ fjoin ! $ owned ! bool (Is bool) (bool-makes 𝓤
+        H A W) x-alone (vbool (x-alone) ∷ []) is-alone $ fjoin ! $ owned ! K.the-row (Is K.the-row) (EL.makes K.the-type K′.the-plain 𝓤 H A) x-check (v-check ∷ []) is-check $ fjoin ! $
+        owned ! T.the-row (Is T.the-row) (LL.makes T.the-type T′.the-plain 𝓤 H A) x-tally (v-tally ∷ []) is-tally $ fjoin ! $ owned ! S.the-row (Is S.the-row) (LL.makes S.the-type
+        S′.the-plain 𝓤 H A) x-setup (v-setup ∷ []) is-setup $ fjoin ! $ move ! (1 ∷ 0 ∷ []) $ join ! $ nothing ! $ move ! (1 ∷ 0 ∷ []) $ done !
+
+    -- `evaluate`
+    abbrev p-args : Admitted → GName → (RefT (List Observation) × (Admitted × (RefT (List ℕ) × (RefT (List ℕ) × Unit {0}))))
+    p-args r2 δ-work3 = (x-observations, (r2, (x-reply, (record { ptr = x-work .ptr; name = δ-work3; now = x-work .now }, tt))))
+
+    abbrev p-bound : Admitted → Val → ℕ → GName → p-con 𝓤 H A at-mem run .Ghost
+    p-bound r2 v2 ν-work3 δ-work3 = (
+      (
+        (κ-observations, (κ-reply, ((ν-work3 ∷ []), tt))),
+        (q-observations, (q-reply, (fullShare, tt))),
+        tt,
+        p-args r2 δ-work3,
+        (
+          sliceVal (x-observations .ptr)
+              (length (x-observations .now)) ∷ [],
+          (v2 ∷ [], (sliceVal (x-reply .ptr) (length (x-reply .now)) ∷ [], (sliceVal (x-work .ptr) (length (x-work .now)) ∷ [], tt))),
+        ),
+      ),
+      tt,
+    )
+
+    abbrev p-had : Admitted → Val → ℕ → GName → List (Item 𝓤)
+    p-had r2 v2 ν-work3 δ-work3 = (‵ (flft κ-observations q-observations) ∷ ‵ (flft κ-reply q-reply) ∷ ‵ (flft (ν-work3 ∷ []) fullShare) ∷ ‵ (ShrSlice (named 0) κ-observations O.the-row
+        .own (x-observations) (sliceVal (x-observations .ptr) (length (x-observations .now)) ∷ [])) ∷ ‵ (ShrSlice (named 2) κ-reply u64 .own (x-reply) (sliceVal (x-reply .ptr) (length
+        (x-reply .now)) ∷ [])) ∷ ‵ (MutSlice (named 0) (ν-work3 ∷ []) u64 .own (record { ptr = x-work .ptr; name = δ-work3; now = x-work .now }) (sliceVal (x-work .ptr) (length (x-work
+        .now)) ∷ [])) ∷ [])
+
+    p-asks : (r2 : Admitted) (v2 : Val) (ν-work3 : ℕ) (δ-work3 : GName) → Is AD.the-row r2 (v2 ∷ []) → ent 𝓤 (⋆ 𝓤 H A (p-had r2 v2 ν-work3 δ-work3)) (p-con 𝓤 H A at-mem run .pre (p-bound r2
+        v2 ν-work3 δ-work3))
+    p-asks r2 v2 ν-work3 δ-work3 is2 = qed W (p-had r2 v2 ν-work3 δ-work3) ∵ nothing ! $ move ! (3 ∷ 0 ∷ []) $ join ! $ move ! (2 ∷ 0 ∷ []) $ join ! $ move ! (1 ∷ 0 ∷ []) $ join ! $ nothing
+        ! $ move ! (4 ∷ 0 ∷ []) $ fjoin ! $ move ! (3 ∷ 0 ∷ []) $ fjoin ! $ owned ! AD.the-row (Is AD.the-row) (LL.makes AD.the-type AD′.the-plain 𝓤 H A) r2 (v2 ∷ []) is2 $ fjoin ! $ move !
+        (2 ∷ 0 ∷ []) $ fjoin ! $ move ! (1 ∷ 0 ∷ []) $ join ! $ nothing ! $ move ! (1 ∷ 0 ∷ []) $ done !
+
+    -- `finish_reply`
+    abbrev s-args : Admitted → Evaluation → List ℕ → List ℕ → (Tally × (Admitted × (Evaluation × (RefT (List ℕ) × (RefT (List ℕ) × (RefT (List ℕ) × (RefT (List ℕ) × (RefT (List ℕ) × (RefT
+        (List ℕ) × (RefT (List ℕ) × Unit {0}))))))))))
+    s-args r2 r3 state2 work3 = (
+      x-tally,
+      (
+        r2,
+        (
+          r3,
+          (
+            x-counts,
+            (
+              record { ptr = x-state .ptr; name = x-state .name; now = state2 },
+              (
+                x-answer,
+                (
+                  x-cache,
+                  (
+                    record {
+                      ptr = x-work .ptr;
+                      name =
+                          x-work .name;
+                      now = work3;
+                    },
+                    (x-warm, (x-results, tt)),
+                  ),
+                ),
+              ),
+            ),
+          ),
+        ),
+      ),
+    )
+
+    abbrev s-bound : Admitted → Val → Evaluation → Val → List ℕ → List ℕ → s-con 𝓤 H A at-mem run .Ghost
+    s-bound r2 v2 r3 v3 state2 work3 = (
+      (
+        (κ-counts, (κ-state, (κ-answer, (κ-cache, (κ-work, (κ-warm, (κ-results, tt))))))),
+        (
+          q-counts,
+          (
+            q-state,
+            (
+              q-answer,
+              (
+                q-cache,
+                (
+                  q-work,
+                  (
+                    q-warm,
+                    (q-results, tt),
+                  ),
+                ),
+              ),
+            ),
+          ),
+        ),
+        tt,
+        s-args r2 r3 state2 work3,
+        (
+          v-tally ∷ [],
+          (
+            v2 ∷ [],
+            (
+              v3 ∷ [],
+              (
+                sliceVal (x-counts .ptr) (length (x-counts .now)) ∷ [],
+                (
+                  sliceVal (x-state .ptr) (length (x-state .now)) ∷ [],
+                  (
+                    sliceVal (x-answer .ptr) (length (x-answer .now)) ∷ [],
+                    (
+                      sliceVal (x-cache .ptr) (length (x-cache .now)) ∷ [],
+                      (
+                        sliceVal (x-work .ptr) (length (x-work .now)) ∷ [],
+                        (sliceVal (x-warm .ptr) (length (x-warm .now)) ∷ [], (sliceVal (x-results .ptr) (length (x-results .now)) ∷ [], tt)),
+                      ),
+                    ),
+                  ),
+                ),
+              ),
+            ),
+          ),
+        ),
+      ),
+      tt,
+    )
+
+    abbrev s-had : Admitted → Val → Evaluation → Val → List ℕ → List ℕ → List (Item 𝓤)
+    s-had r2 v2 r3 v3 state2 work3 = (‵ (flft κ-counts q-counts) ∷ ‵ (flft κ-state q-state) ∷ ‵ (flft κ-answer q-answer) ∷ ‵ (flft κ-cache q-cache) ∷ ‵ (flft κ-work q-work) ∷ ‵ (flft κ-warm
+        q-warm) ∷ ‵ (flft κ-results q-results) ∷ ‵ (ShrSlice (named 1) κ-counts u64 .own (x-counts) (sliceVal (x-counts .ptr) (length (x-counts .now)) ∷ [])) ∷ ‵ (MutSlice (named 3) κ-state
+        u64 .own (record { ptr = x-state .ptr; name = x-state .name; now = state2 }) (sliceVal (x-state .ptr) (length (x-state .now)) ∷ [])) ∷ ‵ (MutSlice (named 4) κ-answer u64 .own
+        (x-answer) (sliceVal (x-answer .ptr) (length (x-answer .now)) ∷ [])) ∷ ‵ (MutSlice (named 5) κ-cache u64 .own (x-cache) (sliceVal (x-cache .ptr) (length (x-cache .now)) ∷ [])) ∷ ‵
+        (MutSlice (named 6) κ-work u64 .own (record { ptr = x-work .ptr; name = x-work .name; now = work3 }) (sliceVal (x-work .ptr) (length (x-work .now)) ∷ [])) ∷ ‵ (MutSlice (named 7)
+        κ-warm u64 .own (x-warm) (sliceVal (x-warm .ptr) (length (x-warm .now)) ∷ [])) ∷ ‵ (MutSlice (named 8) κ-results u64 .own (x-results) (sliceVal (x-results .ptr) (length (x-results
+        .now)) ∷ [])) ∷ [])
+
+    s-asks : (r2 : Admitted) (v2 : Val) (r3 : Evaluation) (v3 : Val) (state2 : List ℕ) (work3 : List ℕ) → Is AD.the-row r2 (v2 ∷ []) → Is E.the-row r3 (v3 ∷ []) → ent 𝓤 (⋆ 𝓤 H A (s-had r2
+        v2 r3 v3 state2 work3)) (s-con 𝓤 H A at-mem run .pre (s-bound r2 v2 r3 v3 state2 work3))
+    s-asks r2 v2 r3 v3 state2 work3 is2 is3 = qed W (s-had r2 v2 r3 v3 state2 work3) ∵ nothing ! $ move ! (7 ∷ 0 ∷ []) $ join ! $ move ! (6 ∷ 0 ∷ []) $ join ! $ move ! (5 ∷ 0 ∷ []) $ join !
+        $ move ! (4 ∷ 0 ∷ []) $ join ! $ move ! (3 ∷ 0 ∷ []) $ join ! $ move ! (2 ∷ 0 ∷ []) $ join ! $ move ! (1 ∷ 0 ∷ []) $ join ! $ nothing ! $ move ! (8 ∷ 0 ∷ []) $ fjoin ! $ move ! (7 ∷
+        0 ∷ []) $ fjoin ! $ move ! (6 ∷ 0 ∷ []) $ fjoin ! $ move ! (5 ∷ 0 ∷ []) $ fjoin ! $ move ! (4 ∷ 0 ∷ []) $ fjoin ! $ move ! (3 ∷ 0 ∷ []) $ fjoin ! $ move ! (2 ∷ 0 ∷ []) $ fjoin ! $
+        owned ! E.the-row (Is E.the-row) (EL.makes E.the-type E′.the-plain 𝓤 H A) r3 (v3 ∷ []) is3 $ fjoin ! $ owned ! AD.the-row (Is AD.the-row) (LL.makes AD.the-type AD′.the-plain 𝓤 H A)
+        r2 (v2 ∷ []) is2 $ fjoin ! $ owned ! T.the-row (Is T.the-row) (LL.makes T.the-type T′.the-plain 𝓤 H A) x-tally (v-tally ∷ []) is-tally $ fjoin ! $ move ! (1 ∷ 0 ∷ []) $ join ! $
+        nothing ! $ move ! (1 ∷ 0 ∷ []) $ done !
+
+    -- at the return: what is left, and that the contract is met by it
+    abbrev left-over : List ℕ → List ℕ → List ℕ → List ℕ → List ℕ → List ℕ → List (Item 𝓤)
+    left-over state4 answer4 cache4 work4 warm4 results4 = ‵ (flft κ-observations q-observations) ∷ ‵ (flft κ-counts q-counts) ∷ ‵ (flft κ-reply q-reply) ∷ ‵ (flft κ-state q-state) ∷ ‵
+        (flft κ-answer q-answer) ∷ ‵ (flft κ-cache q-cache) ∷ ‵ (flft κ-work q-work) ∷ ‵ (flft κ-warm q-warm) ∷ ‵ (flft κ-results q-results) ∷ ‵ (ShrSlice (named 0) κ-observations O.the-row
+        .own x-observations (sliceVal (x-observations .ptr) (length (x-observations .now)) ∷ [])) ∷ ‵ (ShrSlice (named 1) κ-counts u64 .own x-counts (sliceVal (x-counts .ptr) (length
+        (x-counts .now)) ∷ [])) ∷ ‵ (ShrSlice (named 2) κ-reply u64 .own x-reply (sliceVal (x-reply .ptr) (length (x-reply .now)) ∷ [])) ∷ ‵ (finally u64 (x-state .name) state4) ∷ ‵
+        (finally u64 (x-answer .name) answer4) ∷ ‵ (finally u64 (x-cache .name) cache4) ∷ ‵ (finally u64 (x-work .name) work4) ∷ ‵ (finally u64 (x-warm .name) warm4) ∷ ‵ (finally u64
+        (x-results .name) results4) ∷ []
+
+    exits : (r4 : Done) (v4 : Val) (state4 answer4 cache4 work4 warm4 results4 : List ℕ) → Is DO.the-row r4 (v4 ∷ []) → length state4 ≡ length (x-state .now) → length answer4 ≡ length
+        (x-answer .now) → length cache4 ≡ length (x-cache .now) → length work4 ≡ length (x-work .now) → length warm4 ≡ length (x-warm .now) → length results4 ≡ length (x-results .now)
+        → out r4 state4 answer4 cache4 work4 warm4 results4 ≡ repliedOver x-alone (setupOf x-setup) (x-counts .now) (x-observations .now) x-check x-tally (x-state .now) (x-answer .now)
+        (x-cache .now) (x-work .now) (x-warm .now) (x-results .now) (x-reply .now)
+        → ent 𝓤 (⋆ 𝓤 H A (left-over state4 answer4 cache4 work4 warm4 results4)) (walkOf 𝓤 H A f.ended stayed (f.clauses 𝓤 H A at-mem run) .post bound v4)
+    exits r4 v4 state4 answer4 cache4 work4 warm4 results4 is4 long-state4 long-answer4 long-cache4 long-work4 long-warm4 long-results4 told = qed W (left-over state4 answer4 cache4 work4
+        warm4 results4) ∵ suffices ! _ (ends-at 𝓤 H A f.ended stayed (f.clauses 𝓤 H A at-mem run) W bound (v4) r4 (
+          tt,
+          (
+            tt,
+            (
+              tt,
+              (
+                tt,
+                (
+                  tt,
+                  (
+                    tt,
+                    (
+                      tt,
+                      (
+                        state4,
+                        (
+                          answer4,
+                          (
+                            cache4,
+                            (
+                              work4,
+                              (warm4, (results4, tt)),
+                            ),
+                          ),
+                        ),
+                      ),
+                    ),
+                  ),
+                ),
+              ),
+            ),
+          ),
+        ) (
+          tt,
+          (
+            tt,
+            (
+              tt,
+              (
+                tt,
+                (
+                  tt,
+                  (
+                    tt,
+                    (
+                      tt,
+                      (
+                        long-state4,
+                        (
+                          long-answer4,
+                          (
+                            long-cache4,
+                            (
+                              long-work4,
+                              (
+                                long-warm4,
+                                (long-results4, tt),
+                              ),
+                            ),
+                          ),
+                        ),
+                      ),
+                    ),
+                  ),
+                ),
+              ),
+            ),
+          ),
+        )) $ says ! told $ nothing ! $ move ! (9 ∷ 0 ∷ []) $ join ! $ move ! (8 ∷ 0 ∷ []) $ join ! $ move ! (7 ∷ 0 ∷ []) $ join ! $ move ! (6 ∷ 0 ∷ []) $
+        join ! $ move ! (5 ∷ 0 ∷ []) $ join ! $ move ! (4 ∷ 0 ∷ []) $ join ! $ move ! (3 ∷ 0 ∷ []) $ join ! $ move ! (2 ∷ 0 ∷ []) $ join ! $ move ! (1 ∷ 0 ∷ []) $ join ! $ frame ! $ nothing
+        ! $ move ! (9 ∷ 0 ∷ []) $ fjoin ! $ move ! (8 ∷ 0 ∷ []) $ fjoin ! $ move ! (7 ∷ 0 ∷ []) $ fjoin ! $ move ! (6 ∷ 0 ∷ []) $ fjoin ! $ move ! (5 ∷ 0 ∷ []) $ fjoin ! $ move ! (4 ∷ 0 ∷
+        []) $ fjoin ! $ move ! (3 ∷ 0 ∷ []) $ fjoin ! $ move ! (2 ∷ 0 ∷ []) $ fjoin ! $ move ! (1 ∷ 0 ∷ []) $ fjoin ! $ owned ! bool (Is bool) (bool-makes 𝓤 H A W) x-alone (vbool (x-alone)
+        ∷ []) is-alone $ fjoin ! $ owned ! K.the-row (Is K.the-row) (EL.makes K.the-type K′.the-plain 𝓤 H A) x-check (v-check ∷ []) is-check $ fjoin ! $ owned ! T.the-row (Is T.the-row)
+        (LL.makes T.the-type T′.the-plain 𝓤 H A) x-tally (v-tally ∷ []) is-tally $ fjoin ! $ owned ! S.the-row (Is S.the-row) (LL.makes S.the-type S′.the-plain 𝓤 H A) x-setup (v-setup ∷ [])
+        is-setup $ fjoin ! $ owned ! DO.the-row (Is DO.the-row) (LL.makes DO.the-type DO′.the-plain 𝓤 H A) r4 (v4 ∷ []) is4 $ move ! (1 ∷ 0 ∷ []) $ done !
+
     module _ (C : Calls 𝓤 H) (Λ : Loops 𝓤 H) (fm : FmC 𝓤 H (W .laws) C) (known-m : Triple 𝓤 (C #m) (m-con 𝓤 H A at-mem run)) (known-p : Triple 𝓤 (C #p) (p-con 𝓤 H A at-mem run))
         (known-s : Triple 𝓤 (C #s) (s-con 𝓤 H A at-mem run)) where
       walk : ent 𝓤 (onEntry 𝓤 H A f.signature (κ-observations, (κ-counts, (κ-reply, (κ-state, (κ-answer, (κ-cache, (κ-work, (κ-warm, (κ-results, tt)))))))))
@@ -220,12 +571,16 @@ module _ {M : Type 1} (𝓤 : URA M) (H : Heap 𝓤) (A : Atoms 𝓤) (W : Given
           (length (x-cache .now)) ∷ sliceVal (x-work .ptr) (length (x-work .now)) ∷ sliceVal (x-warm .ptr) (length (x-warm .now)) ∷ sliceVal (x-results .ptr) (length (x-results .now)) ∷ [])
           (walkOf 𝓤 H A f.ended stayed (f.clauses 𝓤 H A at-mem run) .post bound))
       walk =
-          qed W ((‵ (flft κ-observations q-observations) ⊛ ‵ (flft κ-counts q-counts) ⊛ ‵ (flft κ-reply q-reply) ⊛ ‵ (flft κ-state q-state) ⊛ ‵ (flft κ-answer q-answer) ⊛ ‵ (flft κ-cache q-cache) ⊛ ‵
-          (flft κ-work q-work) ⊛ ‵ (flft κ-warm q-warm) ⊛ ‵ (flft κ-results q-results) ⊛ ‵ ftrue) ∷ ‵ (owns (S.the-row ∷ T.the-row ∷ K.the-row ∷ bool ∷ ShrSlice (named 0) κ-observations O.the-row ∷
+          qed W ((‵ (flft κ-observations q-observations) ⊛ ‵ (flft κ-counts q-counts) ⊛ ‵ (flft κ-reply q-reply) ⊛ ‵ (flft κ-state q-state) ⊛ ‵ (flft κ-answer q-answer) ⊛ ‵ (flft κ-cache
+          q-cache) ⊛ ‵
+          (flft κ-work q-work) ⊛ ‵ (flft κ-warm q-warm) ⊛ ‵ (flft κ-results q-results) ⊛ ‵ ftrue) ∷ ‵ (owns (S.the-row ∷ T.the-row ∷ K.the-row ∷ bool ∷ ShrSlice (named 0) κ-observations
+          O.the-row ∷
           ShrSlice (named 1) κ-counts u64 ∷ ShrSlice (named 2) κ-reply u64 ∷ MutSlice (named 3) κ-state u64 ∷ MutSlice (named 4) κ-answer u64 ∷ MutSlice (named 5) κ-cache u64 ∷ MutSlice (named 6)
           κ-work u64 ∷ MutSlice (named 7) κ-warm u64 ∷ MutSlice (named 8) κ-results u64 ∷ []) x at) ∷ []) ∵ enter ! C Λ code.function
-          (v-setup ∷ v-tally ∷ v-check ∷ vbool (x-alone) ∷ sliceVal (x-observations .ptr) (length (x-observations .now)) ∷ sliceVal (x-counts .ptr) (length (x-counts .now)) ∷ sliceVal (x-reply .ptr)
-          (length (x-reply .now)) ∷ sliceVal (x-state .ptr) (length (x-state .now)) ∷ sliceVal (x-answer .ptr) (length (x-answer .now)) ∷ sliceVal (x-cache .ptr) (length (x-cache .now)) ∷ sliceVal
+          (v-setup ∷ v-tally ∷ v-check ∷ vbool (x-alone) ∷ sliceVal (x-observations .ptr) (length (x-observations .now)) ∷ sliceVal (x-counts .ptr) (length (x-counts .now)) ∷ sliceVal
+          (x-reply .ptr)
+          (length (x-reply .now)) ∷ sliceVal (x-state .ptr) (length (x-state .now)) ∷ sliceVal (x-answer .ptr) (length (x-answer .now)) ∷ sliceVal (x-cache .ptr) (length (x-cache .now)) ∷
+          sliceVal
           (x-work .ptr) (length (x-work .now)) ∷ sliceVal (x-warm .ptr) (length (x-warm .now)) ∷ sliceVal (x-results .ptr) (length (x-results .now)) ∷ []) _ $
           alloc1 ! (λ l₀. alloc1 ! (λ l₁. alloc1 ! (λ l₂. alloc1 ! (λ l₃. alloc1 ! (λ l₄. alloc1 ! (λ l₅. alloc1 !
           (λ l₆. alloc1 ! (λ l₇. alloc1 ! (λ l₈. alloc1 ! (λ l₉. alloc1 ! (λ l₁₀. alloc1 ! (λ l₁₁. alloc1 ! (λ l₁₂. alloc1 !
@@ -245,7 +600,8 @@ module _ {M : Type 1} (𝓤 : URA M) (H : Heap 𝓤) (A : Atoms 𝓤) (W : Given
           (1 ∷ []) $ split
           ! $ move ! (1 ∷ []) $ split ! $ move ! (1 ∷ []) $ split ! $ move ! (84 ∷ []) $ fsplit ! $ move ! (1 ∷ []) $ fsplit ! $ move ! (1 ∷ []) $ fsplit ! $ move ! (1 ∷ []) $ fsplit ! $ move !
           (1 ∷ []) $ fsplit ! $ move ! (1 ∷ []) $ fsplit ! $ move ! (1 ∷ []) $ fsplit ! $ move ! (1 ∷ []) $ fsplit ! $ move ! (1 ∷ []) $ fsplit ! $ move ! (1 ∷ []) $ fsplit ! $ move ! (1 ∷ []) $
-          fsplit ! $ move ! (1 ∷ []) $ fsplit ! $ move ! (1 ∷ []) $ fsplit ! $ move ! (15 ∷ []) $ drop ! $ move ! (1 ∷ []) $ drop ! $ move ! (12 ∷ []) $ drop ! $ move ! (11 ∷ []) $ drop ! $ move !
+          fsplit ! $ move ! (1 ∷ []) $ fsplit ! $ move ! (1 ∷ []) $ fsplit ! $ move ! (15 ∷ []) $ drop ! $ move ! (1 ∷ []) $ drop ! $ move ! (12 ∷ []) $ drop ! $ move ! (11 ∷ []) $ drop ! $
+          move !
           (10 ∷ []) $ drop ! $ move ! (9 ∷ []) $ drop ! $
           -- [o-results; o-warm; o-work; o-cache; o-answer; o-state; o-reply; o-counts; o-observations; tk-results; tk-warm; tk-work;
           -- tk-cache; tk-answer; tk-state; tk-reply; tk-counts; tk-observations; _36 (18); _35 (20); _34 (22); _33 (24); _32 (26); _31 (28);
@@ -270,150 +626,13 @@ module _ {M : Type 1} (𝓤 : URA M) (H : Heap 𝓤) (A : Atoms 𝓤) (W : Given
           lft-new ! tt (λ ν-state2. move ! (10 ∷ 17 ∷ []) $ use2 W (later (some (λ (δ-state2 : GName). ‵ (MutSlice (named 0) (ν-state2 ∷ []) u64 .own
           (record { ptr = x-state .ptr; name = δ-state2; now = x-state .now }) (sliceVal (x-state .ptr) (length (x-state .now)) ∷ [])) ⊛ ‵
           (LentSlice u64 κ-state (ν-state2 ∷ []) q-state (x-state .name) (x-state .ptr .0) (x-state .ptr .1) δ-state2 (x-state .now)))))
-          (lends-again-at u64 κ-state (ν-state2 ∷ []) q-state (x-state .name) (x-state .ptr .0) (x-state .ptr .1) 𝓤 H A W (named 3) (named 0) (x-state .now) (length (x-state .now)) refl) $ await !
+          (lends-again-at u64 κ-state (ν-state2 ∷ []) q-state (x-state .name) (x-state .ptr .0) (x-state .ptr .1) 𝓤 H A W (named 3) (named 0) (x-state .now) (length (x-state .now)) refl) $
+          await !
           tt $ pick ! (λ δ-state2. split ! $
           -- `admit`
           move ! (19 ∷ 18 ∷ 2 ∷ 6 ∷ 4 ∷ 0 ∷ []) $ group ! 6 $
-          use1 W (raw (m-con 𝓤 H A at-mem run .pre (
-            (
-              (κ-counts, (κ-reply, ((ν-state2 ∷ []), tt))),
-              (q-counts, (q-reply, (fullShare, tt))),
-              tt,
-              (
-                x-setup,
-                (
-                  x-tally,
-                  (
-                    x-check,
-                    (
-                      x-alone,
-                      (
-                        (length (x-observations .now)),
-                        (
-                          (length (x-cache .now)),
-                          (
-                            (length (x-work .now)),
-                            ((length (x-warm .now)), ((length (x-results .now)), (x-counts, (x-reply, (record { ptr = x-state .ptr; name = δ-state2; now = x-state .now }, tt))))),
-                          ),
-                        ),
-                      ),
-                    ),
-                  ),
-                ),
-              ),
-              (
-                v-setup ∷ [],
-                (
-                  v-tally ∷ [],
-                  (
-                    v-check ∷ [],
-                    (
-                      vbool (x-alone) ∷ [],
-                      (
-                        vint w64 (length (x-observations .now)) ∷ [],
-                        (
-                          vint w64 (length (x-cache .now)) ∷ [],
-                          (
-                            vint w64 (length (x-work .now)) ∷ [],
-                            (
-                              vint w64 (length (x-warm .now)) ∷ [],
-                              (
-                                vint w64 (length (x-results .now)) ∷ [],
-                                (
-                                  sliceVal (x-counts .ptr) (length (x-counts .now)) ∷ [],
-                                  (
-                                    sliceVal (x-reply .ptr) (length (x-reply .now)) ∷ [],
-                                    (sliceVal (x-state .ptr) (length (x-state .now)) ∷ [], tt),
-                                  ),
-                                ),
-                              ),
-                            ),
-                          ),
-                        ),
-                      ),
-                    ),
-                  ),
-                ),
-              ),
-            ),
-            tt,
-          ))) (qed W (‵ (flft κ-counts q-counts) ∷ ‵ (flft κ-reply q-reply) ∷ ‵ (flft (ν-state2 ∷ []) fullShare) ∷ ‵
-          (ShrSlice (named 1) κ-counts u64 .own (x-counts) (sliceVal (x-counts .ptr) (length (x-counts .now)) ∷ [])) ∷ ‵
-          (ShrSlice (named 2) κ-reply u64 .own (x-reply) (sliceVal (x-reply .ptr) (length (x-reply .now)) ∷ [])) ∷ ‵
-          (MutSlice (named 0) (ν-state2 ∷ []) u64 .own (record { ptr = x-state .ptr; name = δ-state2; now = x-state .now }) (sliceVal (x-state .ptr) (length (x-state .now)) ∷ [])) ∷ []) ∵ nothing !
-          $ move ! (3 ∷ 0 ∷ []) $ join ! $ move ! (2 ∷ 0 ∷ []) $ join ! $ move ! (1 ∷ 0 ∷ []) $ join ! $ nothing ! $ move ! (4 ∷ 0 ∷ []) $ fjoin ! $ move ! (3 ∷ 0 ∷ []) $ fjoin ! $ move !
-          (2 ∷ 0 ∷ []) $ fjoin ! $ owned ! usize (Is usize) (uint-makes 𝓤 H A W w64) (length (x-results .now)) (vint w64 (length (x-results .now)) ∷ []) (refl, room-results .0) $ fjoin ! $ owned !
-          usize (Is usize) (uint-makes 𝓤 H A W w64) (length (x-warm .now)) (vint w64 (length (x-warm .now)) ∷ []) (refl, room-warm .0) $ fjoin ! $ owned ! usize (Is usize) (uint-makes 𝓤 H A W w64)
-          (length (x-work .now)) (vint w64 (length (x-work .now)) ∷ []) (refl, room-work .0) $ fjoin ! $ owned ! usize (Is usize) (uint-makes 𝓤 H A W w64) (length (x-cache .now))
-          (vint w64 (length (x-cache .now)) ∷ []) (refl, room-cache .0) $ fjoin ! $ owned ! usize (Is usize) (uint-makes 𝓤 H A W w64) (length (x-observations .now))
-          (vint w64 (length (x-observations .now)) ∷ []) (refl, room-observations .0) $ fjoin ! $ owned ! bool (Is bool) (bool-makes 𝓤 H A W) x-alone (vbool (x-alone) ∷ []) is-alone $ fjoin ! $
-          owned ! K.the-row (Is K.the-row) (EL.makes K.the-type K′.the-plain 𝓤 H A) x-check (v-check ∷ []) is-check $ fjoin ! $ owned ! T.the-row (Is T.the-row)
-          (LL.makes T.the-type T′.the-plain 𝓤 H A) x-tally (v-tally ∷ []) is-tally $ fjoin ! $ owned ! S.the-row (Is S.the-row) (LL.makes S.the-type S′.the-plain 𝓤 H A) x-setup (v-setup ∷ [])
-          is-setup $ fjoin ! $ move ! (1 ∷ 0 ∷ []) $ join ! $ nothing ! $ move ! (1 ∷ 0 ∷ []) $ done !) $
-          calls-at ! fm (m-con 𝓤 H A at-mem run) known-m (
-            (
-              (κ-counts, (κ-reply, ((ν-state2 ∷ []), tt))),
-              (q-counts, (q-reply, (fullShare, tt))),
-              tt,
-              (
-                x-setup,
-                (
-                  x-tally,
-                  (
-                    x-check,
-                    (
-                      x-alone,
-                      (
-                        (length (x-observations .now)),
-                        (
-                          (length (x-cache .now)),
-                          (
-                            (length (x-work .now)),
-                            ((length (x-warm .now)), ((length (x-results .now)), (x-counts, (x-reply, (record { ptr = x-state .ptr; name = δ-state2; now = x-state .now }, tt))))),
-                          ),
-                        ),
-                      ),
-                    ),
-                  ),
-                ),
-              ),
-              (
-                v-setup ∷ [],
-                (
-                  v-tally ∷ [],
-                  (
-                    v-check ∷ [],
-                    (
-                      vbool (x-alone) ∷ [],
-                      (
-                        vint w64 (length (x-observations .now)) ∷ [],
-                        (
-                          vint w64 (length (x-cache .now)) ∷ [],
-                          (
-                            vint w64 (length (x-work .now)) ∷ [],
-                            (
-                              vint w64 (length (x-warm .now)) ∷ [],
-                              (
-                                vint w64 (length (x-results .now)) ∷ [],
-                                (
-                                  sliceVal (x-counts .ptr) (length (x-counts .now)) ∷ [],
-                                  (
-                                    sliceVal (x-reply .ptr) (length (x-reply .now)) ∷ [],
-                                    (sliceVal (x-state .ptr) (length (x-state .now)) ∷ [], tt),
-                                  ),
-                                ),
-                              ),
-                            ),
-                          ),
-                        ),
-                      ),
-                    ),
-                  ),
-                ),
-              ),
-            ),
-            tt,
-          ) (and-then ! (load ! (from ! (stop !)) (look ! 86 refl))
+          use1 W (raw (m-con 𝓤 H A at-mem run .pre (m-bound ν-state2 δ-state2))) (m-asks ν-state2 δ-state2) $
+          calls-at ! fm (m-con 𝓤 H A at-mem run) known-m (m-bound ν-state2 δ-state2) (and-then ! (load ! (from ! (stop !)) (look ! 86 refl))
           (and-then ! (load ! (from ! (stop !)) (look ! 84 refl)) (and-then ! (load ! (from ! (stop !)) (look ! 82 refl))
           (and-then ! (load ! (from ! (stop !)) (look ! 80 refl)) (and-then ! (load ! (from ! (stop !)) (look ! 60 refl))
           (and-then ! (load ! (from ! (stop !)) (look ! 54 refl)) (and-then ! (load ! (from ! (stop !)) (look ! 52 refl))
@@ -421,58 +640,17 @@ module _ {M : Type 1} (𝓤 : URA M) (H : Heap 𝓤) (A : Atoms 𝓤) (W : Given
           (and-then ! (load ! (from ! (stop !)) (look ! 76 refl)) (and-then ! (load ! (from ! (stop !)) (look ! 74 refl))
           (and-then ! (load ! (from ! (stop !)) (look ! 44 refl)) (no-more !))))))))))))) (λ v2.
           use1 W (later (some (λ (r2 : Admitted). ((‵ (flft κ-counts q-counts) ⊛ ‵ (flft κ-reply q-reply) ⊛ ‵ (flft (ν-state2 ∷ []) fullShare) ⊛ ‵ ftrue) ⊛ ‵ (AD.the-row .own r2 (v2 ∷ []))) ⊛ raw
-          (ensured 𝓤 H A m.ended (m.clauses 𝓤 H A at-mem run) (κ-counts, (κ-reply, ((ν-state2 ∷ []), tt))) (
-            x-setup,
-            (
-              x-tally,
-              (
-                x-check,
-                (
-                  x-alone,
-                  (
-                    (length (x-observations .now)),
-                    (
-                      (length (x-cache .now)),
-                      (
-                        (length (x-work .now)),
-                        ((length (x-warm .now)), ((length (x-results .now)), (x-counts, (x-reply, (record { ptr = x-state .ptr; name = δ-state2; now = x-state .now }, tt))))),
-                      ),
-                    ),
-                  ),
-                ),
-              ),
-            ),
-          ) tt r2)))) (id⊢ 𝓤 _) $ await !
+          (ensured 𝓤 H A m.ended (m.clauses 𝓤 H A at-mem run) (κ-counts, (κ-reply, ((ν-state2 ∷ []), tt))) (m-args δ-state2) tt r2)))) (id⊢ 𝓤 _) $ await !
           tt $ pick ! (λ r2.
           split ! $ split ! $
           move ! (2 ∷ []) $ use1 W (some (λ (z2 : (Unit {0} × (Unit {0} × (Unit {0} × (Unit {0} × (Unit {0} × (Unit {0} ×
-          (Unit {0} × (Unit {0} × (Unit {0} × (Unit {0} × (Unit {0} × (List ℕ × Unit {0}))))))))))))). ‵ (lasts m.ended (κ-counts, (κ-reply, ((ν-state2 ∷ []), tt))) (
-            x-setup,
-            (
-              x-tally,
-              (
-                x-check,
-                (
-                  x-alone,
-                  (
-                    (length (x-observations .now)),
-                    (
-                      (length (x-cache .now)),
-                      (
-                        (length (x-work .now)),
-                        ((length (x-warm .now)), ((length (x-results .now)), (x-counts, (x-reply, (record { ptr = x-state .ptr; name = δ-state2; now = x-state .now }, tt))))),
-                      ),
-                    ),
-                  ),
-                ),
-              ),
-            ),
-          ) z2) ⊛ raw
+          (Unit {0} × (Unit {0} × (Unit {0} × (Unit {0} × (Unit {0} × (List ℕ × Unit {0}))))))))))))). ‵ (lasts m.ended (κ-counts, (κ-reply, ((ν-state2 ∷ []), tt))) (m-args δ-state2) z2) ⊛ raw
           (fact 𝓤 ((r2 ≡ admitFor x-alone (setupOf x-setup) (x-counts .now) (lentBy (length (x-observations .now)) (length (x-cache .now)) (length (x-work .now)) (length (x-warm .now))
           (length (x-results .now))) x-check x-tally (x-reply .now) (loadedState (x-state .now))) × (z2 .1 .1 .1 .1 .1 .1 .1 .1 .1 .1 .1 .0 ≡ x-state .now))))) (id⊢ 𝓤 _) $ pick ! (λ z2.
           split ! $ move ! (1 ∷ []) $ heard ! ((r2 ≡ admitFor x-alone (setupOf x-setup) (x-counts .now) (lentBy (length (x-observations .now)) (length (x-cache .now)) (length (x-work .now))
           (length (x-warm .now)) (length (x-results .now))) x-check x-tally (x-reply .now) (loadedState (x-state .now))) × (z2 .1 .1 .1 .1 .1 .1 .1 .1 .1 .1 .1 .0 ≡ x-state .now)) (λ e2.
-          fsplit ! $ drop ! $ fsplit ! $ drop ! $ fsplit ! $ drop ! $ fsplit ! $ drop ! $ fsplit ! $ drop ! $ fsplit ! $ drop ! $ fsplit ! $ drop ! $ fsplit ! $ drop ! $ fsplit ! $ drop ! $ fsplit ! $
+          fsplit ! $ drop ! $ fsplit ! $ drop ! $ fsplit ! $ drop ! $ fsplit ! $ drop ! $ fsplit ! $ drop ! $ fsplit ! $ drop ! $ fsplit ! $ drop ! $ fsplit ! $ drop ! $ fsplit ! $ drop ! $
+          fsplit ! $
           drop ! $ fsplit ! $ drop ! $ fsplit ! $ fsplit ! $ move ! (1 ∷ []) $ feqL ! (λ len-state2. move ! (1 ∷ []) $ drop ! $
           move ! (2 ∷ []) $ facts ! AD.the-row (Is AD.the-row) (shows 𝓤 H A AD.the-row) r2 (v2 ∷ []) (λ is2.
           land ! (from ! (stop !)) (init ! 59 refl (LL.lawful AD.the-type AD′.the-laws 𝓤 H A W .typed r2 _ is2 .0)) $
@@ -483,7 +661,8 @@ module _ {M : Type 1} (𝓤 : URA M) (H : Heap 𝓤) (A : Atoms 𝓤) (W : Given
             name = x-state .name;
             now = z2 .1 .1 .1 .1 .1 .1 .1 .1 .1 .1 .1 .0;
           }) (sliceVal (x-state .ptr) (length (x-state .now)) ∷ [])) ⊛ ‵ (flft κ-state q-state))) (comes-back-at u64 κ-state (ν-state2 ∷ []) q-state (x-state .name) (x-state .ptr .0)
-          (x-state .ptr .1) 𝓤 H A W (named 3) (named 0) (x-state .now) (length (x-state .now)) refl δ-state2 (z2 .1 .1 .1 .1 .1 .1 .1 .1 .1 .1 .1 .0) room-state len-state2) $ await ! tt $ split ! $
+          (x-state .ptr .1) 𝓤 H A W (named 3) (named 0) (x-state .now) (length (x-state .now)) refl δ-state2 (z2 .1 .1 .1 .1 .1 .1 .1 .1 .1 .1 .1 .0) room-state len-state2) $ await ! tt $
+          split ! $
           assigns ! (addr ! (from ! (fld ! refl (hop ! (look-in ! 68 (sub ! 0 refl (whole !))) (stop !))))) (from ! (stop !)) (init ! 44 refl (tt, tt)) $
           assigns ! (agg ! (and-then ! (load ! (from ! (stop !)) (look ! 44 refl)) (and-then ! (load ! (from ! (fld ! refl (stop !))) (look-in ! 68 (sub ! 1 refl (whole !)))) (no-more !))))
           (from ! (stop !)) (init ! 42 refl (tt, (tt, (record { fits = room-work .0 }, tt)))) $
@@ -497,63 +676,22 @@ module _ {M : Type 1} (𝓤 : URA M) (H : Heap 𝓤) (A : Atoms 𝓤) (W : Given
           lft-new ! tt (λ ν-work3. move ! (12 ∷ 17 ∷ []) $ use2 W (later (some (λ (δ-work3 : GName). ‵ (MutSlice (named 0) (ν-work3 ∷ []) u64 .own
           (record { ptr = x-work .ptr; name = δ-work3; now = x-work .now }) (sliceVal (x-work .ptr) (length (x-work .now)) ∷ [])) ⊛ ‵
           (LentSlice u64 κ-work (ν-work3 ∷ []) q-work (x-work .name) (x-work .ptr .0) (x-work .ptr .1) δ-work3 (x-work .now)))))
-          (lends-again-at u64 κ-work (ν-work3 ∷ []) q-work (x-work .name) (x-work .ptr .0) (x-work .ptr .1) 𝓤 H A W (named 6) (named 0) (x-work .now) (length (x-work .now)) refl) $ await ! tt $ pick
+          (lends-again-at u64 κ-work (ν-work3 ∷ []) q-work (x-work .name) (x-work .ptr .0) (x-work .ptr .1) 𝓤 H A W (named 6) (named 0) (x-work .now) (length (x-work .now)) refl) $ await !
+          tt $ pick
           ! (λ δ-work3. split ! $
           -- `evaluate`
           move ! (20 ∷ 9 ∷ 2 ∷ 6 ∷ 4 ∷ 0 ∷ []) $ group ! 6 $
-          use1 W (raw (p-con 𝓤 H A at-mem run .pre (
-            (
-              (κ-observations, (κ-reply, ((ν-work3 ∷ []), tt))),
-              (q-observations, (q-reply, (fullShare, tt))),
-              tt,
-              (x-observations, (r2, (x-reply, (record { ptr = x-work .ptr; name = δ-work3; now = x-work .now }, tt)))),
-              (
-                sliceVal (x-observations .ptr) (length (x-observations .now)) ∷ [],
-                (
-                  v2 ∷ [],
-                  (
-                    sliceVal (x-reply .ptr) (length (x-reply .now)) ∷ [],
-                    (sliceVal (x-work .ptr) (length (x-work .now)) ∷ [], tt),
-                  ),
-                ),
-              ),
-            ),
-            tt,
-          ))) (qed W (‵ (flft κ-observations q-observations) ∷ ‵ (flft κ-reply q-reply) ∷ ‵ (flft (ν-work3 ∷ []) fullShare) ∷ ‵
-          (ShrSlice (named 0) κ-observations O.the-row .own (x-observations) (sliceVal (x-observations .ptr) (length (x-observations .now)) ∷ [])) ∷ ‵
-          (ShrSlice (named 2) κ-reply u64 .own (x-reply) (sliceVal (x-reply .ptr) (length (x-reply .now)) ∷ [])) ∷ ‵
-          (MutSlice (named 0) (ν-work3 ∷ []) u64 .own (record { ptr = x-work .ptr; name = δ-work3; now = x-work .now }) (sliceVal (x-work .ptr) (length (x-work .now)) ∷ [])) ∷ []) ∵ nothing ! $ move
-          ! (3 ∷ 0 ∷ []) $ join ! $ move ! (2 ∷ 0 ∷ []) $ join ! $ move ! (1 ∷ 0 ∷ []) $ join ! $ nothing ! $ move ! (4 ∷ 0 ∷ []) $ fjoin ! $ move ! (3 ∷ 0 ∷ []) $ fjoin ! $ owned ! AD.the-row
-          (Is AD.the-row) (LL.makes AD.the-type AD′.the-plain 𝓤 H A) r2 (v2 ∷ []) is2 $ fjoin ! $ move ! (2 ∷ 0 ∷ []) $ fjoin ! $ move ! (1 ∷ 0 ∷ []) $ join ! $ nothing ! $ move ! (1 ∷ 0 ∷ []) $
-          done !) $
-          calls-at ! fm (p-con 𝓤 H A at-mem run) known-p (
-            (
-              (κ-observations, (κ-reply, ((ν-work3 ∷ []), tt))),
-              (q-observations, (q-reply, (fullShare, tt))),
-              tt,
-              (x-observations, (r2, (x-reply, (record { ptr = x-work .ptr; name = δ-work3; now = x-work .now }, tt)))),
-              (
-                sliceVal (x-observations .ptr) (length (x-observations .now)) ∷ [],
-                (
-                  v2 ∷ [],
-                  (
-                    sliceVal (x-reply .ptr) (length (x-reply .now)) ∷ [],
-                    (sliceVal (x-work .ptr) (length (x-work .now)) ∷ [], tt),
-                  ),
-                ),
-              ),
-            ),
-            tt,
-          ) (and-then ! (load ! (from ! (stop !)) (look ! 78 refl))
+          use1 W (raw (p-con 𝓤 H A at-mem run .pre (p-bound r2 v2 ν-work3 δ-work3))) (p-asks r2 v2 ν-work3 δ-work3 is2) $
+          calls-at ! fm (p-con 𝓤 H A at-mem run) known-p (p-bound r2 v2 ν-work3 δ-work3) (and-then ! (load ! (from ! (stop !)) (look ! 78 refl))
           (and-then ! (load ! (from ! (stop !)) (look ! 58 refl)) (and-then ! (load ! (from ! (stop !)) (look ! 74 refl)) (and-then ! (load ! (from ! (stop !)) (look ! 40 refl)) (no-more !)))))
           (λ v3.
           use1 W (later (some (λ (r3 : Evaluation). ((‵ (flft κ-observations q-observations) ⊛ ‵ (flft κ-reply q-reply) ⊛ ‵ (flft (ν-work3 ∷ []) fullShare) ⊛ ‵ ftrue) ⊛ ‵
           (E.the-row .own r3 (v3 ∷ [])))
           ⊛ raw (ensured 𝓤 H A p.ended (p.clauses 𝓤 H A at-mem run) (κ-observations, (κ-reply, ((ν-work3 ∷ []), tt)))
-          (x-observations, (r2, (x-reply, (record { ptr = x-work .ptr; name = δ-work3; now = x-work .now }, tt)))) tt r3)))) (id⊢ 𝓤 _) $ await ! tt $ pick ! (λ r3.
+          (p-args r2 δ-work3) tt r3)))) (id⊢ 𝓤 _) $ await ! tt $ pick ! (λ r3.
           split ! $ split ! $
           move ! (2 ∷ []) $ use1 W (some (λ (z3 : (Unit {0} × (Unit {0} × (Unit {0} × (List ℕ × Unit {0}))))). ‵ (lasts p.ended (κ-observations, (κ-reply, ((ν-work3 ∷ []), tt)))
-          (x-observations, (r2, (x-reply, (record { ptr = x-work .ptr; name = δ-work3; now = x-work .now }, tt)))) z3) ⊛ raw
+          (p-args r2 δ-work3) z3) ⊛ raw
           (fact 𝓤 (evaluating r3 (z3 .1 .1 .1 .0) ≡ evaluateOver (x-observations .now) r2 (x-reply .now) (x-work .now))))) (id⊢ 𝓤 _) $ pick ! (λ z3.
           split ! $ move ! (1 ∷ []) $ heard ! (evaluating r3 (z3 .1 .1 .1 .0) ≡ evaluateOver (x-observations .now) r2 (x-reply .now) (x-work .now)) (λ e3.
           fsplit ! $ drop ! $ fsplit ! $ drop ! $ fsplit ! $ drop ! $ fsplit ! $ fsplit ! $ move ! (1 ∷ []) $ feqL ! (λ len-work3. move ! (1 ∷ []) $ drop ! $
@@ -587,118 +725,9 @@ module _ {M : Type 1} (𝓤 : URA M) (H : Heap 𝓤) (A : Atoms 𝓤) (W : Given
           (shr-slice-copy 𝓤 H A W (named 1) κ-counts u64 .twice x-counts (sliceVal (x-counts .ptr) (length (x-counts .now)) ∷ [])) $ split ! $
           -- `finish_reply`
           move ! (10 ∷ 9 ∷ 18 ∷ 17 ∷ 3 ∷ 16 ∷ 15 ∷ 1 ∷ 8 ∷ 14 ∷ 13 ∷ 2 ∷ 12 ∷ 11 ∷ []) $ group ! 14 $
-          use1 W (raw (s-con 𝓤 H A at-mem run .pre (
-            (
-              (κ-counts, (κ-state, (κ-answer, (κ-cache, (κ-work, (κ-warm, (κ-results, tt))))))),
-              (q-counts, (q-state, (q-answer, (q-cache, (q-work, (q-warm, (q-results, tt))))))),
-              tt,
-              (
-                x-tally,
-                (
-                  r2,
-                  (
-                    r3,
-                    (
-                      x-counts,
-                      (
-                        record { ptr = x-state .ptr; name = x-state .name; now = z2 .1 .1 .1 .1 .1 .1 .1 .1 .1 .1 .1 .0 },
-                        (x-answer, (x-cache, (record { ptr = x-work .ptr; name = x-work .name; now = z3 .1 .1 .1 .0 }, (x-warm, (x-results, tt))))),
-                      ),
-                    ),
-                  ),
-                ),
-              ),
-              (
-                v-tally ∷ [],
-                (
-                  v2 ∷ [],
-                  (
-                    v3 ∷ [],
-                    (
-                      sliceVal (x-counts .ptr) (length (x-counts .now)) ∷ [],
-                      (
-                        sliceVal (x-state .ptr) (length (x-state .now)) ∷ [],
-                        (
-                          sliceVal (x-answer .ptr) (length (x-answer .now)) ∷ [],
-                          (
-                            sliceVal (x-cache .ptr) (length (x-cache .now)) ∷ [],
-                            (
-                              sliceVal (x-work .ptr) (length (x-work .now)) ∷ [],
-                              (sliceVal (x-warm .ptr) (length (x-warm .now)) ∷ [], (sliceVal (x-results .ptr) (length (x-results .now)) ∷ [], tt)),
-                            ),
-                          ),
-                        ),
-                      ),
-                    ),
-                  ),
-                ),
-              ),
-            ),
-            tt,
-          )))
-          (qed W (‵ (flft κ-counts q-counts) ∷ ‵ (flft κ-state q-state) ∷ ‵ (flft κ-answer q-answer) ∷ ‵ (flft κ-cache q-cache) ∷ ‵ (flft κ-work q-work) ∷ ‵ (flft κ-warm q-warm) ∷ ‵
-          (flft κ-results q-results) ∷ ‵ (ShrSlice (named 1) κ-counts u64 .own (x-counts) (sliceVal (x-counts .ptr) (length (x-counts .now)) ∷ [])) ∷ ‵
-          (MutSlice (named 3) κ-state u64 .own (record { ptr = x-state .ptr; name = x-state .name; now = z2 .1 .1 .1 .1 .1 .1 .1 .1 .1 .1 .1 .0 })
-          (sliceVal (x-state .ptr) (length (x-state .now)) ∷ [])) ∷ ‵ (MutSlice (named 4) κ-answer u64 .own (x-answer) (sliceVal (x-answer .ptr) (length (x-answer .now)) ∷ [])) ∷ ‵
-          (MutSlice (named 5) κ-cache u64 .own (x-cache) (sliceVal (x-cache .ptr) (length (x-cache .now)) ∷ [])) ∷ ‵
-          (MutSlice (named 6) κ-work u64 .own (record { ptr = x-work .ptr; name = x-work .name; now = z3 .1 .1 .1 .0 }) (sliceVal (x-work .ptr) (length (x-work .now)) ∷ [])) ∷ ‵
-          (MutSlice (named 7) κ-warm u64 .own (x-warm) (sliceVal (x-warm .ptr) (length (x-warm .now)) ∷ [])) ∷ ‵
-          (MutSlice (named 8) κ-results u64 .own (x-results) (sliceVal (x-results .ptr) (length (x-results .now)) ∷ [])) ∷ []) ∵ nothing ! $ move ! (7 ∷ 0 ∷ []) $ join ! $ move ! (6 ∷ 0 ∷ []) $ join
-          ! $ move ! (5 ∷ 0 ∷ []) $ join ! $ move ! (4 ∷ 0 ∷ []) $ join ! $ move ! (3 ∷ 0 ∷ []) $ join ! $ move ! (2 ∷ 0 ∷ []) $ join ! $ move ! (1 ∷ 0 ∷ []) $ join ! $ nothing ! $ move !
-          (8 ∷ 0 ∷ []) $ fjoin ! $ move ! (7 ∷ 0 ∷ []) $ fjoin ! $ move ! (6 ∷ 0 ∷ []) $ fjoin ! $ move ! (5 ∷ 0 ∷ []) $ fjoin ! $ move ! (4 ∷ 0 ∷ []) $ fjoin ! $ move ! (3 ∷ 0 ∷ []) $ fjoin ! $
-          move ! (2 ∷ 0 ∷ []) $ fjoin ! $ owned ! E.the-row (Is E.the-row) (EL.makes E.the-type E′.the-plain 𝓤 H A) r3 (v3 ∷ []) is3 $ fjoin ! $ owned ! AD.the-row (Is AD.the-row)
-          (LL.makes AD.the-type AD′.the-plain 𝓤 H A) r2 (v2 ∷ []) is2 $ fjoin ! $ owned ! T.the-row (Is T.the-row) (LL.makes T.the-type T′.the-plain 𝓤 H A) x-tally (v-tally ∷ []) is-tally $ fjoin !
-          $ move ! (1 ∷ 0 ∷ []) $ join ! $ nothing ! $ move ! (1 ∷ 0 ∷ []) $
-          done !) $
-          calls-at ! fm (s-con 𝓤 H A at-mem run) known-s (
-            (
-              (κ-counts, (κ-state, (κ-answer, (κ-cache, (κ-work, (κ-warm, (κ-results, tt))))))),
-              (q-counts, (q-state, (q-answer, (q-cache, (q-work, (q-warm, (q-results, tt))))))),
-              tt,
-              (
-                x-tally,
-                (
-                  r2,
-                  (
-                    r3,
-                    (
-                      x-counts,
-                      (
-                        record { ptr = x-state .ptr; name = x-state .name; now = z2 .1 .1 .1 .1 .1 .1 .1 .1 .1 .1 .1 .0 },
-                        (x-answer, (x-cache, (record { ptr = x-work .ptr; name = x-work .name; now = z3 .1 .1 .1 .0 }, (x-warm, (x-results, tt))))),
-                      ),
-                    ),
-                  ),
-                ),
-              ),
-              (
-                v-tally ∷ [],
-                (
-                  v2 ∷ [],
-                  (
-                    v3 ∷ [],
-                    (
-                      sliceVal (x-counts .ptr) (length (x-counts .now)) ∷ [],
-                      (
-                        sliceVal (x-state .ptr) (length (x-state .now)) ∷ [],
-                        (
-                          sliceVal (x-answer .ptr) (length (x-answer .now)) ∷ [],
-                          (
-                            sliceVal (x-cache .ptr) (length (x-cache .now)) ∷ [],
-                            (
-                              sliceVal (x-work .ptr) (length (x-work .now)) ∷ [],
-                              (sliceVal (x-warm .ptr) (length (x-warm .now)) ∷ [], (sliceVal (x-results .ptr) (length (x-results .now)) ∷ [], tt)),
-                            ),
-                          ),
-                        ),
-                      ),
-                    ),
-                  ),
-                ),
-              ),
-            ),
-            tt,
-          )
+          use1 W (raw (s-con 𝓤 H A at-mem run .pre (s-bound r2 v2 r3 v3 (z2 .1 .1 .1 .1 .1 .1 .1 .1 .1 .1 .1 .0) (z3 .1 .1 .1 .0)))) (s-asks r2 v2 r3 v3 (z2 .1 .1 .1 .1 .1 .1 .1 .1 .1 .1 .1
+          .0) (z3 .1 .1 .1 .0) is2 is3) $
+          calls-at ! fm (s-con 𝓤 H A at-mem run) known-s (s-bound r2 v2 r3 v3 (z2 .1 .1 .1 .1 .1 .1 .1 .1 .1 .1 .1 .0) (z3 .1 .1 .1 .0))
           (and-then ! (load ! (from ! (stop !)) (look ! 74 refl))
           (and-then ! (load ! (from ! (stop !)) (look ! 48 refl)) (and-then ! (load ! (from ! (stop !)) (look ! 46 refl))
           (and-then ! (load ! (from ! (stop !)) (look ! 66 refl)) (and-then ! (load ! (from ! (stop !)) (look ! 26 refl))
@@ -707,40 +736,11 @@ module _ {M : Type 1} (𝓤 : URA M) (H : Heap 𝓤) (A : Atoms 𝓤) (W : Given
           (and-then ! (load ! (from ! (stop !)) (look ! 6 refl)) (no-more !))))))))))) (λ v4.
           use1 W (later (some (λ (r4 : Done). ((‵ (flft κ-counts q-counts) ⊛ ‵ (flft κ-state q-state) ⊛ ‵ (flft κ-answer q-answer) ⊛ ‵ (flft κ-cache q-cache) ⊛ ‵ (flft κ-work q-work) ⊛ ‵
           (flft κ-warm q-warm) ⊛ ‵ (flft κ-results q-results) ⊛ ‵ ftrue) ⊛ ‵ (DO.the-row .own r4 (v4 ∷ []))) ⊛ raw
-          (ensured 𝓤 H A s.ended (s.clauses 𝓤 H A at-mem run) (κ-counts, (κ-state, (κ-answer, (κ-cache, (κ-work, (κ-warm, (κ-results, tt))))))) (
-            x-tally,
-            (
-              r2,
-              (
-                r3,
-                (
-                  x-counts,
-                  (
-                    record { ptr = x-state .ptr; name = x-state .name; now = z2 .1 .1 .1 .1 .1 .1 .1 .1 .1 .1 .1 .0 },
-                    (x-answer, (x-cache, (record { ptr = x-work .ptr; name = x-work .name; now = z3 .1 .1 .1 .0 }, (x-warm, (x-results, tt))))),
-                  ),
-                ),
-              ),
-            ),
-          ) tt r4)))) (id⊢ 𝓤 _) $ await ! tt $ pick ! (λ r4.
+          (ensured 𝓤 H A s.ended (s.clauses 𝓤 H A at-mem run) (κ-counts, (κ-state, (κ-answer, (κ-cache, (κ-work, (κ-warm, (κ-results, tt))))))) (s-args r2 r3 (z2 .1 .1 .1 .1 .1 .1 .1 .1 .1
+          .1 .1 .0) (z3 .1 .1 .1 .0)) tt r4)))) (id⊢ 𝓤 _) $ await ! tt $ pick ! (λ r4.
           split ! $ split ! $
           move ! (2 ∷ []) $ use1 W (some (λ (z4 : (Unit {0} × (Unit {0} × (Unit {0} × (Unit {0} × (List ℕ × (List ℕ × (List ℕ × (List ℕ × (List ℕ × (List ℕ × Unit {0}))))))))))). ‵
-          (lasts s.ended (κ-counts, (κ-state, (κ-answer, (κ-cache, (κ-work, (κ-warm, (κ-results, tt))))))) (
-            x-tally,
-            (
-              r2,
-              (
-                r3,
-                (
-                  x-counts,
-                  (
-                    record { ptr = x-state .ptr; name = x-state .name; now = z2 .1 .1 .1 .1 .1 .1 .1 .1 .1 .1 .1 .0 },
-                    (x-answer, (x-cache, (record { ptr = x-work .ptr; name = x-work .name; now = z3 .1 .1 .1 .0 }, (x-warm, (x-results, tt))))),
-                  ),
-                ),
-              ),
-            ),
-          ) z4) ⊛ raw
+          (lasts s.ended (κ-counts, (κ-state, (κ-answer, (κ-cache, (κ-work, (κ-warm, (κ-results, tt))))))) (s-args r2 r3 (z2 .1 .1 .1 .1 .1 .1 .1 .1 .1 .1 .1 .0) (z3 .1 .1 .1 .0)) z4) ⊛ raw
           (fact 𝓤 (out r4 (z4 .1 .1 .1 .1 .0) (z4 .1 .1 .1 .1 .1 .0) (z4 .1 .1 .1 .1 .1 .1 .0) (z4 .1 .1 .1 .1 .1 .1 .1 .0) (z4 .1 .1 .1 .1 .1 .1 .1 .1 .0)
           (z4 .1 .1 .1 .1 .1 .1 .1 .1 .1 .0) ≡ finishWith (x-counts .now) (r2 .awaited) r3 x-tally (z2 .1 .1 .1 .1 .1 .1 .1 .1 .1 .1 .1 .0) (x-answer .now) (x-cache .now)
           (z3 .1 .1 .1 .0) (x-warm .now) (x-results .now))))) (id⊢ 𝓤 _) $ pick ! (λ z4.
@@ -756,73 +756,14 @@ module _ {M : Type 1} (𝓤 : URA M) (H : Heap 𝓤) (A : Atoms 𝓤) (W : Given
           move ! (6 ∷ []) $ split ! $ move ! (1 ∷ []) $ split ! $ move ! (1 ∷ []) $ split ! $ move ! (1 ∷ []) $ split ! $ move ! (1 ∷ []) $ split ! $ move ! (1 ∷ []) $ split ! $ move !
           (1 ∷ []) $ split
           ! $ move ! (1 ∷ []) $ drop ! $
-          returns ! (look ! 90 refl) $ forget ! 90 refl $ forget ! 88 refl $ forget ! 86 refl $ forget ! 84 refl $ forget ! 82 refl $ forget ! 80 refl $ forget ! 78 refl $ forget ! 76
-          refl $ forget ! 74
-          refl $ forget ! 72 refl $ forget ! 70 refl $ forget ! 68 refl $ forget ! 66 refl $ forget ! 64 refl $ forget ! 62 refl $ forget ! 60 refl $ forget ! 58 refl $ forget ! 56 refl $ forget !
-          54 refl $ forget ! 52 refl $ forget ! 50 refl $ forget ! 48 refl $ forget ! 46 refl $ forget ! 44 refl $ forget ! 42 refl $ forget ! 40 refl $ forget ! 38 refl $ forget ! 36 refl $ forget
-          ! 34 refl $ forget ! 32 refl $ forget ! 30 refl $ forget ! 28 refl $ forget ! 26 refl $ forget ! 24 refl $ forget ! 22 refl $ forget ! 20 refl $ forget ! 18 refl $
-          move ! (90 ∷ 91 ∷ []) $ free1 ! $ move ! (88 ∷ 89 ∷ []) $ free1 ! $ move ! (86 ∷ 87 ∷ []) $ free1 ! $ move ! (84 ∷ 85 ∷ []) $ free1 ! $ move ! (82 ∷ 83 ∷ []) $ free1 ! $ move
-          ! (80 ∷ 81 ∷ [])
-          $ free1 ! $ move ! (78 ∷ 79 ∷ []) $ free1 ! $ move ! (76 ∷ 77 ∷ []) $ free1 ! $ move ! (74 ∷ 75 ∷ []) $ free1 ! $ move ! (72 ∷ 73 ∷ []) $ free1 ! $ move ! (70 ∷ 71 ∷ []) $ free1 ! $ move !
-          (68 ∷ 69 ∷ []) $ free1 ! $ move ! (66 ∷ 67 ∷ []) $ free1 ! $ move ! (64 ∷ 65 ∷ []) $ free1 ! $ move ! (62 ∷ 63 ∷ []) $ free1 ! $ move ! (60 ∷ 61 ∷ []) $ free1 ! $ move ! (58 ∷ 59 ∷ []) $
-          free1 ! $ move ! (56 ∷ 57 ∷ []) $ free1 ! $ move ! (54 ∷ 55 ∷ []) $ free1 ! $ move ! (52 ∷ 53 ∷ []) $ free1 ! $ move ! (50 ∷ 51 ∷ []) $ free1 ! $ move ! (48 ∷ 49 ∷ []) $ free1 ! $ move !
-          (46 ∷ 47 ∷ []) $ free1 ! $ move ! (44 ∷ 45 ∷ []) $ free1 ! $ move ! (42 ∷ 43 ∷ []) $ free1 ! $ move ! (40 ∷ 41 ∷ []) $ free1 ! $ move ! (38 ∷ 39 ∷ []) $ free1 ! $ move ! (36 ∷ 37 ∷ []) $
-          free1 ! $ move ! (34 ∷ 35 ∷ []) $ free1 ! $ move ! (32 ∷ 33 ∷ []) $ free1 ! $ move ! (30 ∷ 31 ∷ []) $ free1 ! $ move ! (28 ∷ 29 ∷ []) $ free1 ! $ move ! (26 ∷ 27 ∷ []) $ free1 ! $ move !
-          (24 ∷ 25 ∷ []) $ free1 ! $ move ! (22 ∷ 23 ∷ []) $ free1 ! $ move ! (20 ∷ 21 ∷ []) $ free1 ! $ move ! (18 ∷ 19 ∷ []) $ free1 ! $ free0 ! $
-          keep ! (15 ∷ 6 ∷ 14 ∷ 5 ∷ 4 ∷ 3 ∷ 2 ∷ 1 ∷ 0 ∷ 17 ∷ 13 ∷ 16 ∷ 12 ∷ 11 ∷ 10 ∷ 9 ∷ 8 ∷ 7 ∷ []) $ suffices ! _
-          (ends-at 𝓤 H A f.ended stayed (f.clauses 𝓤 H A at-mem run) W bound (v4) r4 (
-            tt,
-            (
-              tt,
-              (
-                tt,
-                (
-                  tt,
-                  (
-                    tt,
-                    (
-                      tt,
-                      (
-                        tt,
-                        (
-                          z4 .1 .1 .1 .1 .0,
-                          (
-                            z4 .1 .1 .1 .1 .1 .0,
-                            (
-                              z4 .1 .1 .1 .1 .1 .1 .0,
-                              (
-                                z4 .1 .1 .1 .1 .1 .1 .1 .0,
-                                (z4 .1 .1 .1 .1 .1 .1 .1 .1 .0, (z4 .1 .1 .1 .1 .1 .1 .1 .1 .1 .0, tt)),
-                              ),
-                            ),
-                          ),
-                        ),
-                      ),
-                    ),
-                  ),
-                ),
-              ),
-            ),
-          ) (
-            tt,
-            (
-              tt,
-              (
-                tt,
-                (tt, (tt, (tt, (tt, ((len-state4 ∙ len-state2), (len-answer4, (len-cache4, ((len-work4 ∙ len-work3), (len-warm4, (len-results4, tt)))))))))),
-              ),
-            ),
-          )) $ says !
-          (replied-over x-alone (setupOf x-setup) (x-counts .now) (x-observations .now) x-check x-tally (x-state .now) (x-answer .now) (x-cache .now) (x-work .now) (x-warm .now) (x-results .now)
-          (x-reply .now) (e2 .1) (e2 .0) e3 e4) $
-          nothing ! $ move ! (9 ∷ 0 ∷ []) $ join ! $ move ! (8 ∷ 0 ∷ []) $ join ! $ move ! (7 ∷ 0 ∷ []) $ join ! $ move ! (6 ∷ 0 ∷ []) $ join ! $ move ! (5 ∷ 0 ∷ []) $ join ! $ move ! (4 ∷ 0 ∷ []) $
-          join ! $ move ! (3 ∷ 0 ∷ []) $ join ! $ move ! (2 ∷ 0 ∷ []) $ join ! $ move ! (1 ∷ 0 ∷ []) $ join ! $ frame ! $ nothing ! $ move ! (9 ∷ 0 ∷ []) $ fjoin ! $ move ! (8 ∷ 0 ∷ []) $ fjoin ! $
-          move ! (7 ∷ 0 ∷ []) $ fjoin ! $ move ! (6 ∷ 0 ∷ []) $ fjoin ! $ move ! (5 ∷ 0 ∷ []) $ fjoin ! $ move ! (4 ∷ 0 ∷ []) $ fjoin ! $ move ! (3 ∷ 0 ∷ []) $ fjoin ! $ move ! (2 ∷ 0 ∷ []) $ fjoin
-          ! $ move ! (1 ∷ 0 ∷ []) $ fjoin ! $ owned ! bool (Is bool) (bool-makes 𝓤 H A W) x-alone (vbool (x-alone) ∷ []) is-alone $ fjoin ! $ owned ! K.the-row (Is K.the-row)
-          (EL.makes K.the-type K′.the-plain 𝓤 H A) x-check (v-check ∷ []) is-check $ fjoin ! $ owned ! T.the-row (Is T.the-row) (LL.makes T.the-type T′.the-plain 𝓤 H A) x-tally (v-tally ∷ [])
-          is-tally $ fjoin ! $ owned ! S.the-row (Is S.the-row) (LL.makes S.the-type S′.the-plain 𝓤 H A) x-setup (v-setup ∷ []) is-setup $ fjoin ! $ owned ! DO.the-row (Is DO.the-row)
-          (LL.makes DO.the-type DO′.the-plain 𝓤 H A) r4 (v4 ∷ []) is4 $ move ! (1 ∷ 0 ∷ []) $
-          done !))))))))))))))))))))))))))))))))))))))))))))))))))))))))))))))))
+          returns ! (look ! 90 refl) $ move ! (90 ∷ 91 ∷ 88 ∷ 89 ∷ 86 ∷ 87 ∷ 84 ∷ 85 ∷ 82 ∷ 83 ∷ 80 ∷ 81 ∷ 78 ∷ 79 ∷ 76 ∷ 77 ∷ 74 ∷ 75 ∷ 72 ∷ 73 ∷ 70 ∷ 71 ∷ 68 ∷ 69 ∷ 66 ∷ 67 ∷ 64 ∷ 65 ∷ 62
+          ∷ 63 ∷ 60 ∷ 61 ∷ 58 ∷ 59 ∷ 56 ∷ 57 ∷ 54 ∷ 55 ∷ 52 ∷ 53 ∷ 50 ∷ 51 ∷ 48 ∷ 49 ∷ 46 ∷ 47 ∷ 44 ∷ 45 ∷ 42 ∷ 43 ∷ 40 ∷ 41 ∷ 38 ∷ 39 ∷ 36 ∷ 37 ∷ 34 ∷ 35 ∷ 32 ∷ 33 ∷ 30 ∷ 31 ∷ 28 ∷ 29 ∷ 26
+          ∷ 27 ∷ 24 ∷ 25 ∷ 22 ∷ 23 ∷ 20 ∷ 21 ∷ 18 ∷ 19 ∷ []) $
+          free-all W (_ ∷ _ ∷ _ ∷ _ ∷ _ ∷ _ ∷ _ ∷ _ ∷ _ ∷ _ ∷ _ ∷ _ ∷ _ ∷ _ ∷ _ ∷ _ ∷ _ ∷ _ ∷ _ ∷ _ ∷ _ ∷ _ ∷ _ ∷ _ ∷ _ ∷ _ ∷ _ ∷ _ ∷ _ ∷ _ ∷ _ ∷ _ ∷ _ ∷ _ ∷ _ ∷ _ ∷ _ ∷ []) $
+          keep ! (15 ∷ 6 ∷ 14 ∷ 5 ∷ 4 ∷ 3 ∷ 2 ∷ 1 ∷ 0 ∷ 17 ∷ 13 ∷ 16 ∷ 12 ∷ 11 ∷ 10 ∷ 9 ∷ 8 ∷ 7 ∷ []) $ by ! (exits r4 v4 (z4 .1 .1 .1 .1 .0) (z4 .1 .1 .1 .1 .1 .0) (z4 .1 .1 .1 .1 .1 .1
+          .0) (z4 .1 .1 .1 .1 .1 .1 .1 .0) (z4 .1 .1 .1 .1 .1 .1 .1 .1 .0) (z4 .1 .1 .1 .1 .1 .1 .1 .1 .1 .0) is4 (len-state4 ∙ len-state2) len-answer4 len-cache4 (len-work4 ∙ len-work3)
+          len-warm4 len-results4 (replied-over x-alone (setupOf x-setup) (x-counts .now) (x-observations .now) x-check x-tally (x-state .now) (x-answer .now) (x-cache .now) (x-work .now)
+          (x-warm .now) (x-results .now) (x-reply .now) (e2 .1) (e2 .0) e3 e4))))))))))))))))))))))))))))))))))))))))))))))))))))))))))))))))))
 
 module _ {M : Type 1} (𝓤 : URA M) (H : Heap 𝓤) (A : Atoms 𝓤) (W : Given 𝓤 H A) (at-mem : Memory → SProp 𝓤) (run : Routine → Fun 𝓤) where
   walks : (𝓣 : Tables 𝓤 H) → Triple 𝓤 (𝓣 .C #m) (m-con 𝓤 H A at-mem run) → Triple 𝓤 (𝓣 .C #p) (p-con 𝓤 H A at-mem run) → Triple 𝓤 (𝓣 .C #s) (s-con 𝓤 H A at-mem run) → Walks 𝓤 H A f.ended stayed
@@ -881,7 +822,8 @@ module _ {M : Type 1} (𝓤 : URA M) (H : Heap 𝓤) (A : Atoms 𝓤) (W : Given
       (are .1 .1 .1 .1 .1 .1 .1 .0 .0 .1) (are .1 .1 .1 .1 .1 .1 .1 .1 .0 .0 .1) (are .1 .1 .1 .1 .1 .1 .1 .1 .1 .0 .0 .1) (are .1 .1 .1 .1 .1 .1 .1 .1 .1 .1 .0 .0 .1)
       (are .1 .1 .1 .1 .1 .1 .1 .1 .1 .1 .1 .0 .0 .1) (are .1 .1 .1 .1 .1 .1 .1 .1 .1 .1 .1 .1 .0 .0 .1) (𝓣 .C) (𝓣 .Λ) (fmOf 𝓤 H (W .laws) 𝓣) known-m known-p known-s))
 
-meets : {M : Type 1} (𝓤 : URA M) (H : Heap 𝓤) (A : Atoms 𝓤) → Given 𝓤 H A → (at-mem : Memory → SProp 𝓤) (run : Routine → Fun 𝓤) (𝓣 : Tables 𝓤 H) → Triple 𝓤 (𝓣 .C #m) (m-con 𝓤 H A at-mem run) → Triple
+meets : {M : Type 1} (𝓤 : URA M) (H : Heap 𝓤) (A : Atoms 𝓤) → Given 𝓤 H A → (at-mem : Memory → SProp 𝓤) (run : Routine → Fun 𝓤) (𝓣 : Tables 𝓤 H) → Triple 𝓤 (𝓣 .C #m) (m-con 𝓤 H A at-mem
+    run) → Triple
     𝓤 (𝓣 .C #p) (p-con 𝓤 H A at-mem run) → Triple 𝓤 (𝓣 .C #s) (s-con 𝓤 H A at-mem run) → Meets 𝓤 H A f.signature (WpFn 𝓤 H (𝓣 .C) (𝓣 .Λ) code.function) (f.spec 𝓤 H A at-mem run)
 meets 𝓤 H A W at-mem run 𝓣 known-m known-p known-s = walk-meets 𝓤 H A f.ended stayed W (
   goes-none 𝓤 H A W 9 (λ _. S.the-row) yes (λ κs x f. refl),

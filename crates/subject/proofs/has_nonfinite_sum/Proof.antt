@@ -21,13 +21,13 @@ returns-3 c = pass _ (pass _ (yesOf _ (c .before .is-nonfinite3 .ensures) (c .if
 returns-4 : tie.Need-returns-4
 unfolding hasNonfiniteSum
 returns-4 c =
-    let c3 = c .before in
+    let c3 = c .before .before in
     let c2 = c3 .before .before in
     let c1 = c2 .before .before in
     noOf _ (c1 .before .is-nonfinite .ensures) (c1 .if1 .left)
     (noOf _ (c2 .before .is-nonfinite2 .ensures) (c2 .if2 .left)
     (noOf _ (c3 .before .is-nonfinite3 .ensures) (c3 .if3 .left)
-    (c .has-nonfinite-entry .ensures)))
+    (rw (c .has-nonfinite-entry .ensures, c .before .array-of .ensures))))
 
 pub has-nonfinite-sum-spec : {M : Type 1} → statement M
-has-nonfinite-sum-spec = tie.close (tie.spec free returns free returns-2 free returns-3 free returns-4)
+has-nonfinite-sum-spec = tie.close (tie.spec free returns free returns-2 free returns-3 free free returns-4)

@@ -6,7 +6,7 @@ use Rattle.mode_2d.proofs.population_focei_2d.prior_score.Tie as tie
 
 returns : tie.Need-returns
 unfolding priorScore
-returns c = rw (c .product .ensures, c .before .before .precision .ensures, c .before .vector .ensures)
+returns c = rw (c .product .ensures, c .before .before .array-of .ensures, c .before .vector .ensures)
 
 pub prior-score-spec : {M : Type 1} → statement M
 prior-score-spec = tie.close (tie.spec free free free returns)

@@ -16,12 +16,16 @@ enum-told c = search needs
 
 returns : tie.Need-returns
 returns c =
-    let known = c .before .before .before .before .before .before .before in
-    closes-two _ _ _ (known .before .before .inverse-positive .ensures) (known .det-curvature .given .1) (c .before .before .before .product .ensures) (c .before .before .dot .ensures)
-    (c .log .ensures)
+    let array = c .before .before .before .before .before .before in
+    let known = array .before .before in
+    let asked = known .before .before in
+    closes-two _ _ _ (asked .before .curvature .ensures) (asked .inverse-positive .ensures) (known .det-curvature .given .1) (array .array-of .ensures) (c .before .before .before .product .ensures)
+    (c .before .before .dot .ensures) (c .log .ensures)
 
 returns-2 : tie.Need-returns-2
-returns-2 c = not-positive _ _ _ (c .before .before .inverse-positive .ensures) (c .enum-told .given .1)
+returns-2 c =
+    let asked = c .before .before in
+    not-positive _ _ _ (asked .before .curvature .ensures) (asked .inverse-positive .ensures) (c .enum-told .given .1)
 
 pub closed-2d-spec : {M : Type 1} → statement M
-closed-2d-spec = tie.close (tie.spec free enum-known-det-curvature int-to-float-term free free free enum-told returns returns-2)
+closed-2d-spec = tie.close (tie.spec free free enum-known-det-curvature free int-to-float-term free free free enum-told returns returns-2)

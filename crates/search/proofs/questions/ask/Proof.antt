@@ -6,7 +6,7 @@ use Rattle.search.proofs.questions.ask.Statement.{statement}
 use Rattle.search.proofs.questions.ask.Tie as tie
 
 counted-requires : tie.Need-counted-requires
-counted-requires c κs = room-to-count (c .if1 .taken) (c .before .struct-known2 .given .1 .1 .1 .1 .1 .1 .1 .1 .1 .1 .1 .1 .0)
+counted-requires c κs = room-to-count (c .if1 .taken) (c .before .struct-known2 .given .1 .1 .1 .1 .1 .1 .1 .1 .1 .0)
 
 enum-known-individual : tie.Need-enum-known-individual
 enum-known-individual c = search needs

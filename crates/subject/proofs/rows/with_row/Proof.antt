@@ -8,13 +8,13 @@ use Rattle.subject.proofs.rows.with_row.Tie as tie
 returns : tie.Need-returns
 unfolding withRow
 returns c =
-    let nll = c .before .before .before .before .before in
-    rw (nll .before .before .add-score .ensures, nll .before .add-information .ensures, nll .add-nll .ensures, c .wrapping-add-usize .ensures)
+    let nll = c .before .before in
+    let array = nll .before .before in
+    rw (c .wrapping-add-usize .ensures, c .before .matrix-of .ensures, nll .add-nll .ensures, nll .before .add-information .ensures, array .array-of .ensures, array .before .add-score .ensures)
 
 pub with-row-spec : {M : Type 1} → statement M
 with-row-spec =
     tie.close
     (tie.spec
-    free free free at-0 at-1
-    at-0 at-0 at-0 at-1 at-1 at-0 at-1 at-1
-    free returns)
+    free free free free at-0 at-1
+    free free returns)
