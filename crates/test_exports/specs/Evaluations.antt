@@ -65,7 +65,7 @@ sumsWritten sums out =
     let put : List ℕ → ℕ → Float → List ℕ = λ w i x. set w i (toBits binary64 x) in
     put (put (put (put
     (put (put (put out 0 (sums .nll)) 1 (sums .score .first)) 2 (sums .score .second))
-    3 (sums .i00)) 4 (sums .i01)) 5 (sums .i10)) 6 (sums .i11)
+    3 (sums .information .m00)) 4 (sums .information .m01)) 5 (sums .information .m10)) 6 (sums .information .m11)
 
 -- 0 and the sums' words; or the number, and in word 7 one more than the observation's number, 0 where it is of none
 unfoldable pub told : Evaluation → List ℕ → Answered

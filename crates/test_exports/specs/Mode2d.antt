@@ -3,7 +3,7 @@ use mathlib.Core.List.{List}
 use Prim.Native.Nat.{ℕ}
 use lib.Ieee.{Float}
 use Rattle.float64.specs.Answer.{Answer, given, refused, through}
-use Rattle.matrix.specs.Matrix.{entry}
+use Rattle.matrix.specs.Matrix.{matrixOf}
 use Rattle.mode_2d.specs.Rules.{vector, pairOf, request, advance}
 use Rattle.mode_2d.specs.declared.population_focei_2d.Settings2.{Settings2}
 use Rattle.mode_2d.specs.declared.population_focei_2d.Conditional2.{Conditional2}
@@ -17,10 +17,7 @@ unfoldable pub settingsOf : Float → List (List Float) → List Float → Setti
 settingsOf eta-bound precision warm =
     record {
       «eta_bound» = eta-bound;
-      p00 = entry precision 0 0;
-      p01 = entry precision 0 1;
-      p10 = entry precision 1 0;
-      p11 = entry precision 1 1;
+      precision = matrixOf precision;
       warm = pairOf warm;
     }
 
@@ -30,10 +27,7 @@ pointOf eta nll score information =
       eta = pairOf eta;
       nll = nll;
       score = pairOf score;
-      i00 = entry information 0 0;
-      i01 = entry information 0 1;
-      i10 = entry information 1 0;
-      i11 = entry information 1 1;
+      information = matrixOf information;
     }
 
 -- what is asked

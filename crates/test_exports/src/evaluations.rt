@@ -108,10 +108,10 @@ fn write_sums(sums: Sums, out: &mut [u64])
     words::put(out, 0, float64::to_word(sums.nll));
     words::put(out, 1, float64::to_word(sums.score.first));
     words::put(out, 2, float64::to_word(sums.score.second));
-    words::put(out, 3, float64::to_word(sums.i00));
-    words::put(out, 4, float64::to_word(sums.i01));
-    words::put(out, 5, float64::to_word(sums.i10));
-    words::put(out, 6, float64::to_word(sums.i11));
+    words::put(out, 3, float64::to_word(sums.information.m00));
+    words::put(out, 4, float64::to_word(sums.information.m01));
+    words::put(out, 5, float64::to_word(sums.information.m10));
+    words::put(out, 6, float64::to_word(sums.information.m11));
 }
 
 // Writes the end of an evaluation as a number and words: 0 and the seven words of the sums; or document 01's

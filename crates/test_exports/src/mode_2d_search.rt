@@ -17,10 +17,7 @@ fn settings_of(eta_bound: f64, precision: [[f64; 2]; 2], warm: [f64; 2]) -> Sett
 {
     Settings2 {
         eta_bound,
-        p00: precision[0][0],
-        p01: precision[0][1],
-        p10: precision[1][0],
-        p11: precision[1][1],
+        precision: matrix::matrix_of(precision),
         warm: Pair {
             first: warm[0],
             second: warm[1],
@@ -41,10 +38,7 @@ fn point_of(eta: [f64; 2], nll: f64, score: [f64; 2], information: [[f64; 2]; 2]
             first: score[0],
             second: score[1],
         },
-        i00: information[0][0],
-        i01: information[0][1],
-        i10: information[1][0],
-        i11: information[1][1],
+        information: matrix::matrix_of(information),
     }
 }
 

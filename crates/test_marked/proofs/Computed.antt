@@ -96,7 +96,7 @@ everything = computed
 
 -- two effects: a row's terms, the search, and what it is to a session
 unfoldable pub two-effects : Computed
-unfolding Ieee.eq Ieee.isNan Matrix.product Matrix.dot Row2.rowVariance Row2.scaledRow Row2.addNll Row2.addScore Row2.addInformation Subject.withRow Subject.addRow2 Rules2.maxAbs Rules2.isSame
+unfolding Ieee.eq Ieee.isNan Matrix.sum Matrix.product Matrix.dot Row2.rowVariance Row2.scaledRow Row2.addNll Row2.addScore Row2.addInformation Subject.withRow Subject.addRow2 Rules2.maxAbs Rules2.isSame
     Rules2.priorScore Rules2.joint Rules2.penalisedScore Rules2.norm Rules2.curvature Rules2.stepBy Rules2.scale Rules2.reduced Rules2.trialPoint Rules2.decrease Rules2.isPassedOver
     Rules2.nextReduction Rules2.isTaken Rules2.startPoint Rules2.isUnresolved Rules2.isFar Rules2.better Rules2.between Rules2.trying Rules2.finish Rules2.tryFrom Rules2.descendBy Rules2.descend
     Rules2.beginRound Rules2.take Rules2.leave Rules2.requestAt Rules2.advanceAt Rules2.start Subjects.fitBy Subjects.fit2 Subjects.settings2 Subjects.wanted2 Subjects.key2 Subjects.conditional2
