@@ -11,8 +11,9 @@ pub struct Pair {
     pub second: f64,
 }
 
-// The source's Matrix: its entries by row and column. It is used where a struct holds one, since no enum above
-// it could hold an array; wherever a matrix is summed, inverted or multiplied it is an array.
+// The source's Matrix, where a struct holds one: its entries by row and column. With an array in its place every
+// function over an enum that holds such a struct would be a proof by hand. Wherever a matrix is summed, inverted
+// or multiplied it is an array.
 pub struct Matrix {
     pub m00: f64,
     pub m01: f64,
@@ -21,7 +22,7 @@ pub struct Matrix {
 }
 
 // The answer of inverse_positive: the determinant of a matrix that has an inverse, or none. The source
-// answers with the inverse too; an enum holds no array, so here it is `inverse(matrix, det)`.
+// answers with the inverse too, which is `inverse(matrix, det)` here, so that the enum holds no array.
 pub enum InversePositive {
     Exists(f64),
     None,
