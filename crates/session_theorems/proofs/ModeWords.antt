@@ -45,6 +45,8 @@ use Rattle.search.specs.declared.Wanted.the-variants as Wants
 use Rattle.search.proofs.Fits.{fit-effects}
 use Rattle.machine.specs.Rules.{Trial}
 use Rattle.population.specs.Population.{warmOf, warmStored}
+use Rattle.session.specs.Calls.{shrinkage}
+use Rattle.session.specs.declared.State.{State}
 use Rattle.session_theorems.specs.Inner.{Inner, rules1, inner1, inner2}
 use Rattle.session_theorems.specs.Shown.{precision, Reads, reads1, reads2}
 use Rattle.session_theorems.proofs.Domains.{two-omega}
@@ -60,6 +62,7 @@ module _ (I : Inner) (L : Reads I) where
     pub first : toBits binary64 (m .eta .first) ≡ L .first b
     pub second : toBits binary64 (m .eta .second) ≡ L .second b
     pub nll : toBits binary64 (m .nll) ≡ L .nll b
+    pub square : m .eta .first *ᶠ m .eta .first ≡ L .square b
 
   pub record Tells (effects : ℕ) : Type 1 where
     pub starts : (setup : Setup) (parameters : Parameters) (q : Progress) (warm : List ℕ) (i : ℕ) → setup .effects ≡ effects → q .warm ≡ warmOf warm effects i → I .settingsOf
@@ -74,6 +77,8 @@ module _ (I : Inner) (L : Reads I) where
     pub adds : (setup : Setup) (parameters : Parameters) (p : Progress) (rows : ℕ) (m : Mode) → setup .effects ≡ effects → isNoOmega (withParameters setup parameters) ≡ false → B.closedBy
         (B.fitOf setup parameters) p rows ≡ Positive m
         → m .term ≡ L .term setup (I .settingsOf (B.fitOf setup parameters) p) rows (I .rules .best (I .searchOf p))
+    -- what a state tells of its own sum of squares
+    pub shrinks : (state : State) (n : ℕ) → L .Shrinks state n (state .progress .«eta_squares»)
     -- the rows of the trials in the blocks
     pub Carried : I .rules .Settings → List (Trial (I .rules)) → I .rules .Search → (ℕ → List ℕ) → Type 0
     pub begun : (st : I .rules .Settings) (rows : ℕ → List ℕ) → Carried st [] (I .rules .start) rows
@@ -102,7 +107,7 @@ unfolding B.closed1
 one-mode fit best rows m =
     cases (λ (c : Closed). c ≡ Positive m → OfMode inner1 reads1 m best) (nonfinite (one /ᶠ fit .omega +ᶠ best .information)) (λ t q. absurd (not-positive q))
     (λ t. cases (λ (c : Closed). c ≡ Positive m → OfMode inner1 reads1 m best) (le (one /ᶠ fit .omega +ᶠ best .information) (word 0)) (λ z q. absurd (not-positive q))
-    (λ z q. subst (λ (x : Mode). OfMode inner1 reads1 x best) (same-mode q) (record { first = refl; second = zero-bits; nll = refl })))
+    (λ z q. subst (λ (x : Mode). OfMode inner1 reads1 x best) (same-mode q) (record { first = refl; second = zero-bits; nll = refl; square = refl })))
 
 positive-not : {m : Mode} → Positive m ≡ NotPositive → ⊥
 positive-not e = not-positive (sym e)
@@ -179,6 +184,7 @@ tells1 = record {
   others = λ setup parameters i j d eta warm. let x = getD-set-other warm j i (toBits binary64 (eta .first)) 0 d in cc;
   stays = λ i j d eta warm b h. getD-set-other warm j i (toBits binary64 (eta .first)) 0 d ∙ h;
   adds = adds-one;
+  shrinks = λ state n. unfold shrinkage in refl;
   Carried = Carried1;
   begun = begun1;
   same = same1;
@@ -193,7 +199,7 @@ tells1 = record {
 with-mode : (fit : Fit) (best : Conditional2) (rows : ℕ) (m : Mode) (i : Inverse) → B.closedWith fit best rows i ≡ Positive m → OfMode inner2 reads2 m best
 unfolding B.closedWith
 with-mode fit best rows m (inverted inverse det) e =
-    subst (λ (x : Mode). OfMode inner2 reads2 x best) (same-mode e) (record { first = refl; second = refl; nll = refl })
+    subst (λ (x : Mode). OfMode inner2 reads2 x best) (same-mode e) (record { first = refl; second = refl; nll = refl; square = refl })
 with-mode fit best rows m singular e = absurd (not-positive e)
 
 settings-by : (own : Setup) (theta : Pair) (q : Progress) (i : Inverse) → B.settings2 (B.fitBy own theta i) q ≡ record {
@@ -318,6 +324,7 @@ tells2 = record {
   others = λ setup parameters i j d eta warm. let a = two-others i j d eta warm in let x = a .0 in let y = a .1 in cc;
   stays = λ i j d eta warm b h. let a = two-others i j d eta warm in (a .0 ∙ h .0, a .1 ∙ h .1);
   adds = adds-two;
+  shrinks = λ state n. tt;
   Carried = λ st. Carried2;
   begun = λ st. begun2;
   same = λ st. same2;

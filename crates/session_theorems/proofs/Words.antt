@@ -55,7 +55,7 @@ module _ (R : Rules) (K : Claims R) (M : Machine) (Y : View R M) (Sound : M .Sta
     unfoldable pub Closes : M .State → Move M → Type 0
     Closes s (on t) = ((x : Searched R) → Of x s → X .Stands x (mode-of s) t × (value t ≡ X .with-mode x (mode-of s) (value s))) × (Y .settings t ≡ here s (suc (Y .subject s))) × Carries [] t
     Closes s (halt a t) =
-        (Y .means a ≡ finished → (x : Searched R) → Of x s → X .Stands x (mode-of s) t × X .Gives a (X .with-mode x (mode-of s) (value s)))
+        (Y .means a ≡ finished → (x : Searched R) → Of x s → X .Stands x (mode-of s) t × X .Gives a t (X .with-mode x (mode-of s) (value s)))
         × ((n : ℕ) → Y .means a ≡ refused n → (x : Searched R) → Of x s → X .Remains n x (mode-of s) (X .with-mode x (mode-of s) (value s)) t)
 
     pub record Wordly (E : M .State → Type 0) : Type 0 where

@@ -13,7 +13,7 @@ use lib.ListN.{getD, length, take, drop, length-drop}
 use lib.Seq.{length-take-le}
 use lib.Ieee.{Float, eq}
 use Rattle.float64.specs.Answer.{Answer, given, refused}
-use Rattle.float64.specs.Arithmetic.{_+ᶠ_, word}
+use Rattle.float64.specs.Arithmetic.{_+ᶠ_, _*ᶠ_, word}
 use Rattle.float64.specs.Float64.{nonfinite}
 use Rattle.float64.specs.Pick.{pick, both, cases}
 use Rattle.matrix.specs.declared.Pair.{Pair}
@@ -48,6 +48,7 @@ use Rattle.search.specs.declared.Place.{Place}
 use Rattle.search.specs.declared.Place.the-variants as At
 use Rattle.search.specs.declared.Progress.{Progress}
 use Rattle.search.specs.declared.Step.{Step}
+use Rattle.session.specs.declared.State.{State}
 use Rattle.search.specs.declared.Tally.{Tally}
 use Rattle.search.specs.declared.Wanted.{Wanted}
 use Rattle.search.specs.declared.Wanted.the-variants as Wants
@@ -64,7 +65,7 @@ use Rattle.population.specs.declared.Turned.the-variants.{On, Halt}
 use Rattle.session.specs.Session as N
 use Rattle.session.specs.Session.{Held, held, Call, objective, reply, failure, session}
 use Rattle.session_theorems.specs.Inner.{Inner, inner1, inner2, recalledSums, recalledWork, recalled, runningSums, pointWanted, view}
-use Rattle.session_theorems.specs.Shown.{Words, Objective, before, Reads, reads1, reads2, RunBy, Result, Trials, SameRow, SameRows, Fitted, InWords, Apart, showing, Shown, Shows, EveryWord}
+use Rattle.session_theorems.specs.Shown.{Words, Objective, before, Summed, Reads, reads1, reads2, RunBy, Result, Trials, SameRow, SameRows, Fitted, InWords, Apart, showing, Shown, Shows, EveryWord}
 use Rattle.session_theorems.proofs.Accepted.{Accepts, rows-within, accepts}
 use Rattle.session_theorems.proofs.Always.{After, after-turn, after-entry, after-both}
 use Rattle.session_theorems.proofs.Blocks.{words-at, words-are, rowsIn, before-trial, moved-zero, moved-best, moved-latest, recalled-behind}
@@ -83,10 +84,18 @@ use Rattle.session_theorems.proofs.Trials.{Has, NthHas, SameBlocks}
 use Rattle.session_theorems.proofs.Turns.{turns}
 use Rattle.session_theorems.proofs.Words.{Keeps, Of, Opens, Carried, Closes, shown}
 
--- an evaluated point leaves the objective so far as it is
-same-value : (fit : Fit) (p : Progress) (eta : Pair) (sums : Sums) → B.advanceBy fit p eta sums .progress .ofv ≡ p .ofv
+-- the sums so far
+abbrev valueOf : Progress → Summed
+valueOf p = record { objective = p .ofv; squares = p .«eta_squares» }
+
+-- and with one mode more
+abbrev withMode : Progress → Mode → Summed
+withMode p m = record { objective = p .ofv +ᶠ m .term; squares = p .«eta_squares» +ᶠ m .eta .first *ᶠ m .eta .first }
+
+-- an evaluated point leaves them as they are
+same-value : (fit : Fit) (p : Progress) (eta : Pair) (sums : Sums) → valueOf (B.advanceBy fit p eta sums .progress) ≡ valueOf p
 unfolding B.advanceBy B.advance1 B.advance2 B.withSearch
-same-value fit p eta sums = both (λ (a : Advanced). a .progress .ofv ≡ p .ofv) _ refl refl
+same-value fit p eta sums = both (λ (a : Advanced). valueOf (a .progress) ≡ valueOf p) _ refl refl
 
 module _ (setup : Setup) (counts : List ℕ) (observations : List Observation) (I : Inner) (Q : Suits I (setup .effects)) (L : Reads I) (X : Tells I L (setup .effects))
     (bound : Fits (setup .«eta_bound»))
@@ -111,9 +120,9 @@ module _ (setup : Setup) (counts : List ℕ) (observations : List Observation) (
   abbrev here : Held words → ℕ → I .rules .Settings
   here h i = L .settings setup (h .parameters) (h .whole .warm) i
 
-  -- the objective so far, and the rows of the trials in the blocks of the work words
-  abbrev value : Held words → Float
-  value h = h .whole .progress .ofv
+  -- the sums so far, and the rows of the trials in the blocks of the work words
+  abbrev value : Held words → Summed
+  value h = valueOf (h .whole .progress)
 
   abbrev Carries : List (Trial (I .rules)) → Held words → Type 0
   Carries ts h = X .Carried (Y .settings h) ts (I .searchOf (h .whole .progress)) (rowsIn (rowsOf counts (h .whole .progress .subject)) (h .whole .work))
@@ -353,12 +362,23 @@ module _ (setup : Setup) (counts : List ℕ) (observations : List Observation) (
             (held words (h .parameters) (wholeOf words q tally (w .kept) work stored (w .results)))
         apart q tally work e = record { warm = at-own (λ (n : ℕ). L .Warm n best stored) warm-in; both = trials; other = rows-other e }
 
-        -- its part of the objective
-        adds-up : B.closedBy fit p rows ≡ Positive m → p .ofv +ᶠ m .term ≡ shows .with-mode x best (p .ofv)
+        -- its part of the sums
+        adds-up : B.closedBy fit p rows ≡ Positive m → withMode p m ≡ shows .with-mode x best (valueOf p)
         adds-up q =
             let st = i .settings in
-            ap (λ (v : Float). p .ofv +ᶠ v) (X .adds setup (h .parameters) p rows m refl (s .omega-in) q
-            ∙ ap (λ (n : ℕ). L .term setup (I .settingsOf fit p) n best) (sym count-is) ∙ ap (λ (v : I .rules .Settings). L .term setup v (getD counts (x .subject) 0) best) (sym st))
+            let squares = ap (λ (v : Float). p .«eta_squares» +ᶠ v) (o .square) in
+            let sum = ap (λ (v : Float). p .ofv +ᶠ v) (X .adds setup (h .parameters) p rows m refl (s .omega-in) q
+            ∙ ap (λ (n : ℕ). L .term setup (I .settingsOf fit p) n best) (sym count-is) ∙ ap (λ (v : I .rules .Settings). L .term setup v (getD counts (x .subject) 0) best) (sym st)) in
+            λ d. record { objective = sum d; squares = squares d }
+
+        -- and what is given of them at the end, where the objective stands at q
+        gives-sums : B.closedBy fit p rows ≡ Positive m → (q : Progress) → q .«eta_squares» ≡ withMode p m .squares
+            → (withMode p m .objective ≡ shows .with-mode x best (valueOf p) .objective)
+            × L .Shrinks (record { parameters = h .parameters; progress = q; order = w .kept .order }) (length counts) (shows .with-mode x best (valueOf p) .squares)
+        gives-sums c q e =
+            let v = adds-up c in
+            let state : State = record { parameters = h .parameters; progress = q; order = w .kept .order } in
+            (ap (λ (v : Summed). v .objective) v, subst (λ (n : Float). L .Shrinks state (length counts) n) (e ∙ ap (λ (v : Summed). v .squares) v) (X .shrinks state (length counts)))
 
     -- ---- what a request writes
     by-closed : (c : Closed) → B.closedBy fit p rows ≡ c → let e = closing fit counts p (w .tally) rows (w .work) (w .warm) (w .results) c in Writes (e .warm) (e .results)
@@ -381,7 +401,7 @@ module _ (setup : Setup) (counts : List ℕ) (observations : List Observation) (
     -- ---- a mode
     refuses : (n : ℕ) (place : Place) (work warm results : List ℕ)
         → (let q = B.refusedBy p (w .tally) n place in (k : ℕ) → k ≡ n → (x : Searched (I .rules)) → At-search x h
-        → shows .Remains k x (I .rules .best (I .searchOf p)) (shows .with-mode x (I .rules .best (I .searchOf p)) (p .ofv)) (held words (h .parameters)
+        → shows .Remains k x (I .rules .best (I .searchOf p)) (shows .with-mode x (I .rules .best (I .searchOf p)) (valueOf p)) (held words (h .parameters)
         (wholeOf words (q .progress) (q .tally) (w .kept) (pick (B.isOver (q .step)) (zeros (length work)) work) warm results)))
         → Ends h (closeTurn (ended (Halt (B.refusedBy p (w .tally) n place)) work warm results))
     unfolding Closes N.heldBy moved isOver B.refusedBy
@@ -401,13 +421,16 @@ module _ (setup : Setup) (counts : List ℕ) (observations : List Observation) (
       next-is = mod-eq-of-lt (let l = s .subject in let k = a .most in omega (arith, l, k)) ∙ omega arith
 
       abbrev sum : Float
-      sum = p .ofv +ᶠ m .term
+      sum = withMode p m .objective
+
+      abbrev squares : Float
+      squares = withMode p m .squares
 
       module _ (same : isSameGrid (w .work) rows ≡ true) where
-        begins : (first : ℕ) (squares : Float) (work : List ℕ) → Ends h
+        begins : (first : ℕ) (work : List ℕ) → Ends h
             (closeTurn (ended (On (B.beginSubject (fit .effects) next first (warmOf (stored m o) (fit .effects) next) sum squares)) work (stored m o) (written m o)))
         unfolding Closes N.heldBy moved isOver pick B.beginSubject
-        begins first squares work = (
+        begins first work = (
           λ x i. (in-words m o wants x i _ _ _ same, adds-up m o wants x i positive),
           X .starts setup (h .parameters) (B.beginSubject (fit .effects) next first (warmOf (stored m o) (fit .effects) next) sum squares) (stored m o) next refl
               (ap (λ (n : ℕ). warmOf (stored m o) n next) effects-are)
@@ -415,18 +438,18 @@ module _ (setup : Setup) (counts : List ℕ) (observations : List Observation) (
           nothing-carried _ (fit .effects) next first (warmOf (stored m o) (fit .effects) next) sum squares _,
         )
 
-        finishes : (squares : Float) → Ends h (closeTurn (ended (Halt (B.objectiveOf p (w .tally) sum squares)) (w .work) (stored m o) (written m o)))
-        unfolding B.objectiveOf
-        finishes squares = cases (λ (x : Halted). Ends h (closeTurn (ended (Halt x) (w .work) (stored m o) (written m o)))) (nonfinite sum)
+        finishes : Ends h (closeTurn (ended (Halt (B.objectiveOf p (w .tally) sum squares)) (w .work) (stored m o) (written m o)))
+        unfolding B.objectiveOf B.finished
+        finishes = cases (λ (x : Halted). Ends h (closeTurn (ended (Halt x) (w .work) (stored m o) (written m o)))) (nonfinite sum)
             (λ t. refuses 18 At.Nowhere (w .work) (stored m o) (written m o)
-            (λ k e x i. inr (inr (e, in-words m o wants x i _ _ _ same, subst (λ (v : Float). T (nonfinite v)) (adds-up m o wants x i positive) (subst T (sym t) tt)))))
-            (λ t. unfold Closes N.heldBy moved isOver in (λ e x i. (in-words m o wants x i _ _ _ same, adds-up m o wants x i positive), λ k e. absurd (let z : _≡_ {A = ℕ} 0 1 = cc in omega arith)))
+            (λ k e x i. inr (inr (e, in-words m o wants x i _ _ _ same, subst (λ (v : Summed). T (nonfinite (v .objective))) (adds-up m o wants x i positive) (subst T (sym t) tt)))))
+            (λ t. unfold Closes N.heldBy moved isOver in (λ e x i. (in-words m o wants x i _ _ _ same, gives-sums m o wants x i positive (B.finished p sum squares) refl), λ k e. absurd (let z : _≡_ {A = ℕ} 0 1 = cc in omega arith)))
 
         next-or-end : Ends h (closeTurn (ended (nextSubject fit counts p (w .tally) m rows (stored m o) (w .work) .value)
             (nextSubject fit counts p (w .tally) m rows (stored m o) (w .work) .work) (stored m o) (written m o)))
         unfolding nextSubject
         next-or-end = both (λ (x : Worked Turned). Ends h (closeTurn (ended (x .value) (x .work) (stored m o) (written m o)))) (ltb next (length counts))
-            (begins _ _ (zeros (length (w .work)))) (finishes _)
+            (begins _ (zeros (length (w .work)))) finishes
 
     mode-ends : B.wantedBy fit p ≡ Wants.Mode → (c : Closed) → B.closedBy fit p rows ≡ c → Ends h (closeTurn (closing fit counts p (w .tally) rows (w .work) (w .warm) (w .results) c))
     unfolding closing

@@ -1,6 +1,6 @@
 -- What the lent words show of the log, in every session: a search's settings are those of the call that began its objective, with the warm
 -- start that the words held then; a mode stands in the warm starts and in the results, with the predictions of its own trial and of the one
--- at eta zero; and the objective is the sum over the modes.
+-- at eta zero; the objective is the sum over the modes, and shrinkage is of the sum of their squares.
 use mathlib.Core.Path.{_≡_}
 use mathlib.Core.Bool.{true}
 use mathlib.Core.List.{List, [], _∷_, _++_, List·Memᴰ}
@@ -30,7 +30,9 @@ use Rattle.machine.specs.Machine.{Machine, Outcome, call, Act, calls, sets, set
 use Rattle.machine.specs.Observed.{Meaning, asked, finished, refused, View, call-log, log}
 use Rattle.machine.specs.Rules.{Rules, Trial}
 use Rattle.population.specs.Kept.{words}
+use Rattle.session.specs.Calls.{stateOf, shrinkage}
 use Rattle.session.specs.Session.{Held, Call, objective, reply, failure, opened, session}
+use Rattle.session.specs.declared.State.{State}
 use Rattle.session_theorems.specs.Inner.{Inner, inner1, inner2, view}
 use Rattle.session_theorems.specs.Setup.{Granted}
 use Rattle.work.specs.Work.{resultWords, fittedWords}
@@ -51,9 +53,9 @@ module _ (R : Rules) (M : Machine) (Y : View R M) where
     -- mode would be that
     pub Stands : Searched R → R .Conditional → M .State → Type 0
     pub Remains : ℕ → Searched R → R .Conditional → Value → M .State → Type 0
-    -- the objective with one mode more, and the answer that gives it
+    -- the objective with one mode more, and the answer and the state that give it
     pub with-mode : Searched R → R .Conditional → Value → Value
-    pub Gives : M .Answer → Value → Type 0
+    pub Gives : M .Answer → M .State → Value → Type 0
 
   -- an objective: the call that begins it, and the state that this found
   pub record Objective : Type 0 where
@@ -100,7 +102,7 @@ module _ (R : Rules) (M : Machine) (Y : View R M) where
     -- what an answer leaves: after the last subject, all modes, and the answer gives their sum; else the modes of the subjects before the
     -- newest search's, and what a refusal leaves of its own
     abbrev pub Left : M .Answer → Meaning (R .Point) → M .State → List (Searched R) → Type 0
-    Left a finished t xs = Stood t (Y .subjects) xs × ((v : W .Value) × W .Gives a v × Adds (Y .subjects) xs v)
+    Left a finished t xs = Stood t (Y .subjects) xs × ((v : W .Value) × W .Gives a t v × Adds (Y .subjects) xs v)
     Left a (asked p) t [] = ⊥
     Left a (asked p) t (x ∷ xs) = Stood t (x .subject) xs
     Left a (refused n) t [] = ⊥
@@ -132,6 +134,11 @@ unfoldable pub before : List ℕ → ℕ → ℕ
 before counts zero = 0
 before counts (suc i) = before counts i + getD counts i 0
 
+-- what is summed over the modes: the objective, and the squares of eta, of which shrinkage is made
+pub record Summed : Type 0 where
+  pub objective : Float
+  pub squares : Float
+
 -- what a host reads
 pub record Reads (I : Inner) : Type 1 where
   -- the settings of a subject's search: of the setup, of its objective's parameters, and its warm start in the warm words
@@ -149,6 +156,9 @@ pub record Reads (I : Inner) : Type 1 where
   pub Flat : I .rules .Settings → I .rules .Conditional → Type 0
   -- what a mode adds to the objective, of a subject with n observations
   pub term : Setup → I .rules .Settings → ℕ → I .rules .Conditional → Float
+  -- the square of its eta; and what a state tells of n subjects' sum of them
+  pub square : I .rules .Conditional → Float
+  pub Shrinks : State → ℕ → Float → Type 0
 
 abbrev pub reads1 : Reads inner1
 reads1 = record {
@@ -173,6 +183,9 @@ reads1 = record {
   term = λ setup s n m.
       two *ᶠ m .nll -ᶠ ofInt binary64 (pos n) *ᶠ log2pi +ᶠ m .eta *ᶠ m .eta /ᶠ s .omega
       +ᶠ ln (s .omega *ᶠ (one /ᶠ s .omega +ᶠ m .information));
+  square = λ m. m .eta *ᶠ m .eta;
+  -- document 01's shrinkage: 1 - ((sum of eta²) / n) / omega
+  Shrinks = λ state n squares. shrinkage state n ≡ one -ᶠ squares /ᶠ ofInt binary64 (pos n) /ᶠ state .parameters .omega;
 }
 
 abbrev pub omegaOf : Setup → List (List Float)
@@ -212,6 +225,9 @@ reads2 = record {
       let quadratic = x *ᶠ (p .m00 *ᶠ x +ᶠ p .m01 *ᶠ y) +ᶠ y *ᶠ (p .m10 *ᶠ x +ᶠ p .m11 *ᶠ y) in
       let det = (p .m00 +ᶠ i .m00) *ᶠ (p .m11 +ᶠ i .m11) -ᶠ (p .m01 +ᶠ i .m01) *ᶠ (p .m10 +ᶠ i .m10) in
       two *ᶠ m .nll -ᶠ ofInt binary64 (pos n) *ᶠ log2pi +ᶠ quadratic +ᶠ ln (determinant (omegaOf setup) *ᶠ det);
+  -- there is no shrinkage with two effects
+  square = λ m. m .eta .first *ᶠ m .eta .first;
+  Shrinks = λ state n squares. Unit;
 }
 
 module _ (setup : Setup) (counts : List ℕ) (observations : List Observation) (I : Inner) (L : Reads I) where
@@ -275,10 +291,10 @@ module _ (setup : Setup) (counts : List ℕ) (observations : List Observation) (
     pub both : Trials x m
     pub other : SameRows x m both → ⊥
 
-  abbrev pub GivenBy : Step → Float → Type 0
-  GivenBy (Answer.Asked eta individual) v = ⊥
-  GivenBy (Answer.Finished ofv) v = ofv ≡ v
-  GivenBy (Answer.Refused number place) v = ⊥
+  abbrev pub GivenBy : Step → Held words → Summed → Type 0
+  GivenBy (Answer.Asked eta individual) h v = ⊥
+  GivenBy (Answer.Finished ofv) h v = (ofv ≡ v .objective) × L .Shrinks (stateOf h) (length counts) (v .squares)
+  GivenBy (Answer.Refused number place) h v = ⊥
 
   -- 16 is of the curvature, and leaves no mode; 17 is of the rows, and leaves the warm start; 18 is of the objective, and leaves all of it
   abbrev pub showing : Words (I .rules) (session words setup counts observations) (view words setup counts observations I)
@@ -287,10 +303,13 @@ module _ (setup : Setup) (counts : List ℕ) (observations : List Observation) (
     Runs = RunBy;
     Stands = InWords;
     Remains = λ n x m v h.
-        ((n ≡ 16) × L .Flat (x .settings) m) ⊎ (((n ≡ 17) × Apart x m h) ⊎ ((n ≡ 18) × InWords x m h × T (nonfinite v)));
-    Value = Float;
-    nothing = word 0;
-    with-mode = λ x m v. v +ᶠ L .term setup (x .settings) (getD counts (x .subject) 0) m;
+        ((n ≡ 16) × L .Flat (x .settings) m) ⊎ (((n ≡ 17) × Apart x m h) ⊎ ((n ≡ 18) × InWords x m h × T (nonfinite (v .objective))));
+    Value = Summed;
+    nothing = record { objective = word 0; squares = word 0 };
+    with-mode = λ x m v. record {
+      objective = v .objective +ᶠ L .term setup (x .settings) (getD counts (x .subject) 0) m;
+      squares = v .squares +ᶠ L .square m;
+    };
     Gives = GivenBy;
   }
 
