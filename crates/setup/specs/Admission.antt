@@ -14,8 +14,8 @@ use Rattle.cache.specs.Cache.{keptWords}
 use Rattle.work.specs.Work.{mostSubjects, mostRows, workWords, resultWords, fittedWords}
 use Rattle.subject.specs.declared.AdditiveSd.{AdditiveSd}
 use Rattle.subject.specs.declared.AdditiveSd.the-variants.{Own, Override}
-use Rattle.subject.specs.Observations.{Verdict}
-use Rattle.subject.specs.Observations.Verdict.{passes, fails, failsAt}
+use Rattle.subject.specs.Observations.{Verdict, verdict as checkVerdict}
+use Rattle.subject.specs.Observations.Verdict.{passes, fails}
 use Rattle.subject.specs.declared.Check.{Check}
 use Rattle.subject.specs.declared.Check.the-variants.{Sound, Unsound as UnsoundAt}
 use Rattle.setup.specs.declared.Setup.{Setup}
@@ -116,11 +116,11 @@ isShort setup subjects total largest lent =
 
 -- ---- in their order; 4 is what the check of the observations found
 
--- what an admission says: 4 carries subject and observation, the others no place
+-- what an admission says: 4 is what the check of the observations says, the others carry no place
 abbrev pub verdict : Admission → Verdict
 verdict Accepted = passes
 verdict (Refused number) = fails number
-verdict (Unsound place) = failsAt 4 place
+verdict (Unsound place) = checkVerdict (UnsoundAt place)
 
 unfoldable pub roomy : Setup → ℕ → ℕ → ℕ → Lent → Check → Admission
 roomy setup subjects total largest lent (UnsoundAt place) = Unsound place

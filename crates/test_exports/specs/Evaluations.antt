@@ -7,14 +7,14 @@ use Rattle.float64.specs.Answer.{Answer, through}
 use Rattle.matrix.specs.Matrix.{pair, at}
 use Rattle.matrix.specs.declared.Pair.{Pair}
 use Rattle.likelihood.specs.declared.population_focei.Observation.{Observation}
-use Rattle.subject.specs.Observations.{firstCheck, checkObservations}
+use Rattle.subject.specs.Observations.{Verdict, verdict, firstCheck, checkObservations}
+use Rattle.subject.specs.Observations.Verdict.{passes, fails, failsAt}
 use Rattle.subject.specs.Subject.{additiveSd, begin, next, evaluating, addObservations, finish}
 use Rattle.subject.specs.declared.Trial.{Trial}
 use Rattle.subject.specs.declared.Sums.{Sums}
 use Rattle.subject.specs.declared.Evaluation.{Evaluation}
 use Rattle.subject.specs.declared.Evaluation.the-variants.{Running, Refused, RefusedAt}
 use Rattle.subject.specs.declared.Check.{Check}
-use Rattle.subject.specs.declared.Check.the-variants.{Sound, Unsound}
 use Rattle.test_exports.specs.declared.evaluations.Question.{Question}
 use Rattle.test_exports.specs.declared.evaluations.Begun.{Begun}
 
@@ -85,10 +85,14 @@ evaluate observations question reply work out = evaluateFrom observations (begin
 
 -- ---- the check of every observation
 
--- 0; or 4 and the place's words
+-- 0; or its number, and where it carries a place the place's words
+abbrev pub toldVerdict : Verdict → List ℕ → Answered
+toldVerdict passes out = answered 0 out
+toldVerdict (fails number) out = answered number out
+toldVerdict (failsAt number place) out = answered number (set (set out 0 (place .subject)) 1 (place .observation))
+
 unfoldable pub toldCheck : Check → List ℕ → Answered
-toldCheck (Sound place) out = answered 0 out
-toldCheck (Unsound place) out = answered 4 (set (set out 0 (place .subject)) 1 (place .observation))
+toldCheck check out = toldVerdict (verdict check) out
 
 unfoldable pub checkAll : List Observation → ℕ → List ℕ → List ℕ → Answered
 checkAll observations width counts out =
