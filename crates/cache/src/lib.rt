@@ -36,7 +36,7 @@ pub const HALF: u64 = 4294967296;
 // The source's CacheKey (with one effect SubjectKey): the subject, the words of both thetas and both etas,
 // and the optional additive override, with has_additive 0 where there is none. The sign of a zero counts.
 // With one effect the second theta and eta are fixed.
-#[derive(Drop)]
+#[derive(Clone, Copy)]
 pub struct CacheKey {
     pub subject: u64,
     pub theta0: u64,
@@ -49,7 +49,7 @@ pub struct CacheKey {
 
 // What is kept of an evaluation beside its rows: the words of its nll, score and information, by row and
 // column. None of them includes the prior.
-#[derive(Drop)]
+#[derive(Clone, Copy)]
 pub struct CachedTerms {
     pub nll: u64,
     pub score0: u64,
@@ -62,7 +62,7 @@ pub struct CachedTerms {
 
 // The source's cache_order: the numbers of the oldest entry and the next one, and of the first row that is
 // kept and the next one. They only rise. At first oldest and next are 1, and the rows 0.
-#[derive(Drop)]
+#[derive(Clone, Copy)]
 pub struct CacheOrder {
     pub oldest: usize,
     pub next: usize,
@@ -71,7 +71,7 @@ pub struct CacheOrder {
 }
 
 // The answer of find: the slot of the kept evaluation with a key, or that there is none.
-#[derive(Drop)]
+#[derive(Clone, Copy)]
 pub enum Found {
     At(usize),
     Nothing,

@@ -14,7 +14,7 @@ pub const RECORD_BYTES: usize = 48;
 pub const MOST_RECORDS: usize = 256;
 
 // What check 20 of the records finds: how many subjects they have, or that it refuses them.
-#[derive(Drop)]
+#[derive(Clone, Copy)]
 pub enum Cohort {
     Subjects(usize),
     Refused,

@@ -8,7 +8,7 @@ use state_words::LoadedState;
 use work::MOST_SUBJECTS;
 
 // The shrinkage that some words tell, or that they tell none.
-#[derive(Drop)]
+#[derive(Clone, Copy)]
 pub enum Shrinkage {
     Given(f64),
     None,

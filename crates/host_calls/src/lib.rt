@@ -24,7 +24,7 @@ use setup::{Parameters, Setup};
 // The setup of a session as a host gives it: `additive` overrides the observations' own deviations where
 // `has_additive`.
 #[repr(C)]
-#[derive(Drop)]
+#[derive(Clone, Copy)]
 pub struct SessionSetup {
     pub effects: u32,
     pub omega_00: f64,
@@ -44,7 +44,7 @@ pub struct SessionSetup {
 // The parameters of an objective as a host gives them: theta, the second theta with two effects, and with one
 // effect omega and an additive override where `has_additive`.
 #[repr(C)]
-#[derive(Drop)]
+#[derive(Clone, Copy)]
 pub struct SessionParameters {
     pub theta: f64,
     pub theta_2: f64,
@@ -54,14 +54,14 @@ pub struct SessionParameters {
 }
 
 // What a call gives back beside the words: document 01's number, 0 where nothing is refused, and the tally.
-#[derive(Drop)]
+#[derive(Clone, Copy)]
 pub struct Done {
     pub number: u32,
     pub tally: Tally,
 }
 
 // The five words of an answer.
-#[derive(Drop)]
+#[derive(Clone, Copy)]
 pub struct AnswerWords {
     pub kind: u64,
     pub first: u64,

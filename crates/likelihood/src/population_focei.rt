@@ -15,7 +15,7 @@ pub const LOG_2PI: f64 = 1.8378770664093453;
 // A measured value, the output and the row of the simulator's reply that predict it, and the additive and the
 // proportional deviation of its error.
 #[repr(C)]
-#[derive(Drop)]
+#[derive(Clone, Copy)]
 pub struct Observation {
     pub output: usize,
     pub row: usize,
@@ -25,7 +25,7 @@ pub struct Observation {
 }
 
 // What a row adds to the negative log likelihood, to its derivative by eta, and to the expected information.
-#[derive(Drop)]
+#[derive(Clone, Copy)]
 pub struct RowTerms {
     pub nll: f64,
     pub score: f64,
@@ -34,7 +34,7 @@ pub struct RowTerms {
 
 // The answer of row_terms: the terms of a row, or one of the source's two errors, document 01's 11
 // (InvalidVariance) and 12 (Overflow).
-#[derive(Drop)]
+#[derive(Clone, Copy)]
 pub enum Row {
     Terms(RowTerms),
     InvalidVariance,

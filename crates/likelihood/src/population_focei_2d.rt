@@ -7,7 +7,7 @@ ghost use Rattle.likelihood.specs.Row2.{answer, row_variance, scaled_row, add_nl
 use super::population_focei::{LOG_2PI, Observation, is_no_variance};
 
 // The answer of row_variance: the variance of the residual, or that the row is refused with 11.
-#[derive(Drop)]
+#[derive(Clone, Copy)]
 pub enum RowVariance {
     Valid(f64),
     Invalid,
@@ -15,7 +15,7 @@ pub enum RowVariance {
 
 // What the terms of a row have in common: the residual, its variance, the square of the residual over the
 // variance (z2), and the derivative of the variance by each effect, over the variance (r_eta).
-#[derive(Drop)]
+#[derive(Clone, Copy)]
 pub struct Row2 {
     pub residual: f64,
     pub variance: f64,

@@ -6,7 +6,7 @@ ghost use Rattle.matrix.specs.Matrix.{product, dot};
 
 // The source's Vector: a value for each effect. It is used where a struct or an enum holds one; elsewhere a
 // vector is an array.
-#[derive(Drop)]
+#[derive(Clone, Copy)]
 pub struct Pair {
     pub first: f64,
     pub second: f64,
@@ -15,7 +15,7 @@ pub struct Pair {
 // The source's Matrix, where a struct holds one: its entries by row and column. With an array in its place every
 // function over an enum that holds such a struct would be a proof by hand. Wherever a matrix is summed, inverted
 // or multiplied it is an array.
-#[derive(Drop)]
+#[derive(Clone, Copy)]
 pub struct Matrix {
     pub m00: f64,
     pub m01: f64,
@@ -25,7 +25,7 @@ pub struct Matrix {
 
 // The answer of inverse_positive: the determinant of a matrix that has an inverse, or none. The source
 // answers with the inverse too, which is `inverse(matrix, det)` here, so that the enum holds no array.
-#[derive(Drop)]
+#[derive(Clone, Copy)]
 pub enum InversePositive {
     Exists(f64),
     None,

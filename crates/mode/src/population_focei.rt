@@ -11,7 +11,7 @@ pub const CEILING: u32 = 17 + 1 + 16 + 48;
 
 // What a search is given: eta_bound, omega, the tolerance of eta (`eta_tolerance`) and the subject's warm
 // start.
-#[derive(Drop)]
+#[derive(Clone, Copy)]
 pub struct Settings {
     pub eta_bound: f64,
     pub omega: f64,
@@ -21,7 +21,7 @@ pub struct Settings {
 
 // One evaluated point, the source's Conditional without its rows. Its score has the prior's eta / omega
 // added.
-#[derive(Drop)]
+#[derive(Clone, Copy)]
 pub struct Conditional {
     pub eta: f64,
     pub nll: f64,
@@ -30,7 +30,7 @@ pub struct Conditional {
 }
 
 // The stages of a search, in their order: the points of the grid, the warm start, secant steps, halvings.
-#[derive(Drop)]
+#[derive(Clone, Copy)]
 pub enum Stage {
     Grid,
     Warm,
@@ -41,7 +41,7 @@ pub enum Stage {
 // A search between two evaluations. `count` is the number of points of the stage that are evaluated. Of the
 // grid it keeps the first score, the latest point, whether the score fell from above 0 to 0 or below, and the
 // latest upward cell: `left` and `right`, which are the bracket afterwards.
-#[derive(Drop)]
+#[derive(Clone, Copy)]
 pub struct Search {
     pub stage: Stage,
     pub count: u32,
@@ -55,7 +55,7 @@ pub struct Search {
 
 // What a search asks for: the next point, to end in its mode (the search's best point), or to end in a
 // refusal with document 01's number, 13, 14 or 15.
-#[derive(Drop)]
+#[derive(Clone, Copy)]
 pub enum Request {
     Point(f64),
     Mode,

@@ -14,7 +14,7 @@ pub const CEILING: u32 = 1 + 6 * (1 + 48 * 22);
 
 // What a search with two effects is given: eta_bound, the precision (omega's inverse), and the subject's warm
 // start.
-#[derive(Drop)]
+#[derive(Clone, Copy)]
 pub struct Settings2 {
     pub eta_bound: f64,
     pub precision: Matrix,
@@ -23,7 +23,7 @@ pub struct Settings2 {
 
 // One evaluated point with two effects, the source's Conditional2 without its rows. Neither the score nor the
 // information includes the prior.
-#[derive(Drop)]
+#[derive(Clone, Copy)]
 pub struct Conditional2 {
     pub eta: Pair,
     pub nll: f64,
@@ -32,7 +32,7 @@ pub struct Conditional2 {
 }
 
 // The Newton step of a round: from `eta`, where the penalised score is `score`, against `direction`.
-#[derive(Drop)]
+#[derive(Clone, Copy)]
 pub struct NewtonStep {
     pub eta: Pair,
     pub score: Pair,
@@ -41,7 +41,7 @@ pub struct NewtonStep {
 
 // The point that a search waits for: zero, a start, or a trial of a round; or its end: a mode, or a refusal
 // with document 01's number.
-#[derive(Drop)]
+#[derive(Clone, Copy)]
 pub enum Stage2 {
     Zero,
     Start,
@@ -54,7 +54,7 @@ pub enum Stage2 {
 // is found; `current` is where its rounds stand, and once they are over its candidate; `best` is the best
 // candidate of the starts before (before the first candidate, the evaluation at zero). `trial` is the point
 // awaited in a round, and `decrease` the fall of `joint` that is foreseen there.
-#[derive(Drop)]
+#[derive(Clone, Copy)]
 pub struct Search2 {
     pub stage: Stage2,
     pub seed: u32,
@@ -68,7 +68,7 @@ pub struct Search2 {
 
 // What an evaluated point leads to: to the first start; to a start's rounds, which go on in this round from
 // this reduction on, at this point (from 22 on there is no reduction, and they are over); or to nothing more.
-#[derive(Drop)]
+#[derive(Clone, Copy)]
 pub enum Turn {
     FirstStart,
     Rounds(u32, u32, Conditional2),
@@ -77,7 +77,7 @@ pub enum Turn {
 
 // What the rounds of a start do next: they ask for a trial, of a round and a reduction, with the fall of
 // `joint` that is foreseen there; or they are over; or there is no step, since the curvature has no inverse.
-#[derive(Drop)]
+#[derive(Clone, Copy)]
 pub enum Onward {
     Try(u32, u32, Pair, f64),
     Over,
@@ -86,7 +86,7 @@ pub enum Onward {
 
 // What a search with two effects asks for: the next point, to end in its mode (the search's best point), or
 // to end in a refusal with document 01's number, 13, 14 or 16.
-#[derive(Drop)]
+#[derive(Clone, Copy)]
 pub enum Request2 {
     Point(Pair),
     Mode,

@@ -9,7 +9,7 @@ use search::{CachedRows, Fit, Tally};
 use subject::Sums;
 
 // The positions of the kept evaluations with one more, and the tally with their rows.
-#[derive(Drop)]
+#[derive(Clone, Copy)]
 pub struct Kept {
     pub order: CacheOrder,
     pub tally: Tally,

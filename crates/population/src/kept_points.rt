@@ -19,14 +19,14 @@ use subject::Sums;
 
 // An evaluation of the point that a search asked for, which the search has not been given yet, or none. Its
 // rows are in the trial block.
-#[derive(Drop)]
+#[derive(Clone, Copy)]
 pub enum InHand {
     Nothing,
     Evaluated(Pair, Sums),
 }
 
 // Where an objective's search has come to, the requests that are left, and what it wants now.
-#[derive(Drop)]
+#[derive(Clone, Copy)]
 pub struct Reached {
     pub progress: Progress,
     pub left: usize,
@@ -34,7 +34,7 @@ pub struct Reached {
 }
 
 // Where a search with one effect has come to, the requests that are left, and what it wants now.
-#[derive(Drop)]
+#[derive(Clone, Copy)]
 pub struct Reached1 {
     pub search: Search,
     pub left: usize,
@@ -42,7 +42,7 @@ pub struct Reached1 {
 }
 
 // Where a search with two effects has come to, the requests that are left, and what it wants now.
-#[derive(Drop)]
+#[derive(Clone, Copy)]
 pub struct Reached2 {
     pub search: Search2,
     pub left: usize,

@@ -14,7 +14,7 @@ use matrix::Pair;
 use search::{Closed, Fit, Halted, Mode, Place, Progress, Tally};
 
 // A turn of the loop over the remaining requests: it goes on, without an evaluation, or halts with an answer.
-#[derive(Drop)]
+#[derive(Clone, Copy)]
 pub enum Turned {
     On(Progress),
     Halt(Halted),

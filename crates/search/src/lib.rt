@@ -19,18 +19,18 @@ use work::Sources;
 // The source's `calls`: how many evaluations were asked for. A type of its own, so that it is never added to
 // rows.
 #[repr(C)]
-#[derive(Drop)]
+#[derive(Clone, Copy)]
 pub struct Calls(pub u32);
 
 // The source's `cached_rows`: how many rows are kept. A type of its own, so that it is never added to
 // evaluations.
 #[repr(C)]
-#[derive(Drop)]
+#[derive(Clone, Copy)]
 pub struct CachedRows(pub usize);
 
 // Document 01's tally: the evaluations so far, and the rows that are kept.
 #[repr(C)]
-#[derive(Drop)]
+#[derive(Clone, Copy)]
 pub struct Tally {
     pub calls: Calls,
     pub cached_rows: CachedRows,
@@ -38,7 +38,7 @@ pub struct Tally {
 
 // What the searches of an objective have in common, made of the setup and the objective's own parameters:
 // omega with one effect; with two its inverse (the precision) and its determinant.
-#[derive(Drop)]
+#[derive(Clone, Copy)]
 pub struct Fit {
     pub effects: u32,
     pub eta_bound: f64,
@@ -54,7 +54,7 @@ pub struct Fit {
 
 // A subject's search, by the number of effects. A session has searches of one kind only, so that its state
 // holds one of the two.
-#[derive(Drop)]
+#[derive(Clone, Copy)]
 pub enum SubjectSearch {
     One(Search),
     Two(Search2),
@@ -63,7 +63,7 @@ pub enum SubjectSearch {
 // Where an objective stands: whether a reply is awaited, and then the individual values that were asked for;
 // the subject, the number of its first observation among all, its warm start and its search; the objective's
 // sum so far, and the sum of the squares of eta.
-#[derive(Drop)]
+#[derive(Clone, Copy)]
 pub struct Progress {
     pub awaits: bool,
     pub individual: Pair,
@@ -76,7 +76,7 @@ pub struct Progress {
 }
 
 // What a refusal is about: nothing in particular, a subject, or a subject and one of its observations.
-#[derive(Drop)]
+#[derive(Clone, Copy)]
 pub enum Place {
     Nowhere,
     Subject(usize),
@@ -85,7 +85,7 @@ pub enum Place {
 
 // The answer of a step: a question, with eta and the individual values; the finished objective; or a refusal,
 // with document 01's number and its place.
-#[derive(Drop)]
+#[derive(Clone, Copy)]
 pub enum Step {
     Asked(Pair, Pair),
     Finished(f64),
@@ -93,7 +93,7 @@ pub enum Step {
 }
 
 // The end of a step: where the objective stands, the tally, and the answer.
-#[derive(Drop)]
+#[derive(Clone, Copy)]
 pub struct Halted {
     pub progress: Progress,
     pub tally: Tally,
@@ -102,7 +102,7 @@ pub struct Halted {
 
 // What a subject's search wants, with one effect or two: a point, to end in its mode, or to end in a refusal
 // with document 01's number.
-#[derive(Drop)]
+#[derive(Clone, Copy)]
 pub enum Wanted {
     Point(Pair),
     Mode,
@@ -110,14 +110,14 @@ pub enum Wanted {
 }
 
 // A search with one evaluation more, and the blocks from which the blocks of the work words get their rows.
-#[derive(Drop)]
+#[derive(Clone, Copy)]
 pub struct Advanced {
     pub progress: Progress,
     pub sources: Sources,
 }
 
 // A mode that has passed check 16: eta, the negative log likelihood there, and what it adds to the objective.
-#[derive(Drop)]
+#[derive(Clone, Copy)]
 pub struct Mode {
     pub eta: Pair,
     pub nll: f64,
@@ -125,7 +125,7 @@ pub struct Mode {
 }
 
 // What check 16 finds of a mode: its curvature is positive, or it is not.
-#[derive(Drop)]
+#[derive(Clone, Copy)]
 pub enum Closed {
     Positive(Mode),
     NotPositive,

@@ -17,7 +17,7 @@ use subject::{Evaluation, Trial};
 
 // What a host hands from call to call: the objective's parameters, where it stands, and the positions of the
 // kept evaluations.
-#[derive(Drop)]
+#[derive(Clone, Copy)]
 pub struct State {
     pub parameters: Parameters,
     pub progress: Progress,
@@ -25,7 +25,7 @@ pub struct State {
 }
 
 // What a call after setup gives back: the state, the tally and the answer.
-#[derive(Drop)]
+#[derive(Clone, Copy)]
 pub struct Called {
     pub state: State,
     pub tally: Tally,
@@ -33,14 +33,14 @@ pub struct Called {
 }
 
 // What setup answers: the state of the session that it opened, or a refusal, which alters nothing.
-#[derive(Drop)]
+#[derive(Clone, Copy)]
 pub enum Opening {
     Opened(State),
     Refused(u32, Place),
 }
 
 // What setup gives back: its answer and the tally.
-#[derive(Drop)]
+#[derive(Clone, Copy)]
 pub struct Begun {
     pub opening: Opening,
     pub tally: Tally,
@@ -48,7 +48,7 @@ pub struct Begun {
 
 // Whether a reply or a failure is accepted (19, then 1 to 5), the point that was asked for, and what the
 // searches of its objective have in common.
-#[derive(Drop)]
+#[derive(Clone, Copy)]
 pub struct Awaited {
     pub admission: Admission,
     pub eta: Pair,
@@ -57,7 +57,7 @@ pub struct Awaited {
 
 // A reply, accepted or not: the evaluation that begins with it, and the numbers of the observations that it
 // is over, from `from` up to, but without, `to`. Where it is not accepted there are none.
-#[derive(Drop)]
+#[derive(Clone, Copy)]
 pub struct Admitted {
     pub awaited: Awaited,
     pub from: usize,

@@ -13,7 +13,7 @@ use subject::{AdditiveSd, Position};
 // entry); the bound of eta; the outer fit's gradient_tolerance; the number of outputs; K, the most rows that
 // are kept; the additive deviation; the most values and derivatives of a reply; the most evaluations. (The
 // source's Setup is another thing: a part of a validated request, with names, units, start and limits.)
-#[derive(Drop)]
+#[derive(Clone, Copy)]
 pub struct Setup {
     pub effects: u32,
     pub omega00: f64,
@@ -30,7 +30,7 @@ pub struct Setup {
 }
 
 // What may change with each objective: theta, and with one effect omega and the additive deviation.
-#[derive(Drop)]
+#[derive(Clone, Copy)]
 pub struct Parameters {
     pub theta: Pair,
     pub omega: f64,
@@ -39,7 +39,7 @@ pub struct Parameters {
 
 // How much is lent to a call: the number of observations, and the numbers of work, cache, warm and result
 // words.
-#[derive(Drop)]
+#[derive(Clone, Copy)]
 pub struct Lent {
     pub observations: usize,
     pub work: usize,
@@ -50,7 +50,7 @@ pub struct Lent {
 
 // What is found of the subjects' numbers of observations: their sum and the largest; or that they are outside
 // document 01's domain, with a subject that has none or with more than 100,000 in all.
-#[derive(Drop)]
+#[derive(Clone, Copy)]
 pub enum Counts {
     Within(usize, usize),
     Outside,
@@ -58,7 +58,7 @@ pub enum Counts {
 
 // The answer of the checks: accepted, refused with document 01's number, or refused with 4 at the place of an
 // observation.
-#[derive(Drop)]
+#[derive(Clone, Copy)]
 pub enum Admission {
     Accepted,
     Refused(u32),

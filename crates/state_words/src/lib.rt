@@ -28,7 +28,7 @@ use two_effects::Loaded2;
 pub const STATE_WORDS: usize = 44;
 
 // The answer of load: the state that the words stand for, or that they are no state.
-#[derive(Drop)]
+#[derive(Clone, Copy)]
 pub enum LoadedState {
     Given(State),
     None,

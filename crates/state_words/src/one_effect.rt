@@ -11,7 +11,7 @@ use mode::population_focei::{Conditional, Search, Stage};
 pub const SEARCH_WORDS: usize = 20;
 
 // The answer of load: the search that twenty words stand for, or that they are no search.
-#[derive(Drop)]
+#[derive(Clone, Copy)]
 pub enum Loaded {
     Given(Search),
     None,

@@ -13,7 +13,7 @@ use mode_2d::population_focei_2d::{Conditional2, Search2, Stage2};
 pub const SEARCH_WORDS: usize = 25;
 
 // The answer of load: the search that twenty-five words stand for, or that they are no search.
-#[derive(Drop)]
+#[derive(Clone, Copy)]
 pub enum Loaded2 {
     Given(Search2),
     None,

@@ -18,14 +18,14 @@ use matrix::{Matrix, Pair};
 
 // The answer of individual_values: the value for each effect (with one effect, the first), or that one of
 // them is not finite or not above 0 (check 7).
-#[derive(Drop)]
+#[derive(Clone, Copy)]
 pub enum IndividualValues {
     Valid(Pair),
     Invalid,
 }
 
 // The source's additive_sd: each observation has its own additive deviation, or one overrides them all.
-#[derive(Drop)]
+#[derive(Clone, Copy)]
 pub enum AdditiveSd {
     Own,
     Override(f64),
@@ -34,7 +34,7 @@ pub enum AdditiveSd {
 // What a reply is an answer to, and where its rows go: the individual values (with one effect, the
 // first), the additive deviation, the numbers of outputs and of effects, and the word at which the
 // trial block of the work words begins. Any number of effects but 2 counts as 1.
-#[derive(Drop)]
+#[derive(Clone, Copy)]
 pub struct Trial {
     pub individual: Pair,
     pub additive_sd: AdditiveSd,
@@ -46,7 +46,7 @@ pub struct Trial {
 // The sums over the observations so far: negative log likelihood, score and information. With one effect all
 // but nll, score.first and information.m00 stay as they are. None of them includes the prior.
 // `observation` is the number of the next observation within its subject.
-#[derive(Drop)]
+#[derive(Clone, Copy)]
 pub struct Sums {
     pub nll: f64,
     pub score: Pair,
@@ -57,7 +57,7 @@ pub struct Sums {
 // A subject's evaluation under way with its sums, or the first refusal that it met: document 01's number (8,
 // 9, 12), and for an observation (10, 11, 12) its number within the subject too. (The source's Evaluation is
 // another thing: the result of a whole objective.)
-#[derive(Drop)]
+#[derive(Clone, Copy)]
 pub enum Evaluation {
     Running(Sums),
     Refused(u32),
@@ -65,14 +65,14 @@ pub enum Evaluation {
 }
 
 // The word of a reply at which an observation's row begins, or that there is no such row.
-#[derive(Drop)]
+#[derive(Clone, Copy)]
 pub enum RowAt {
     Word(usize),
     Missing,
 }
 
 // The source's PredictionRow, as words: what is kept of a row of a reply. The side is 0 pre, 1 post.
-#[derive(Drop)]
+#[derive(Clone, Copy)]
 pub struct PredictionRow {
     pub prediction: u64,
     pub time: u64,
@@ -80,7 +80,7 @@ pub struct PredictionRow {
 }
 
 // A place among the observations: a subject, and the number of an observation within it.
-#[derive(Drop)]
+#[derive(Clone, Copy)]
 pub struct Position {
     pub subject: usize,
     pub observation: usize,
@@ -88,7 +88,7 @@ pub struct Position {
 
 // How far the check of the observations (check 4) has come: all so far are sound, and this is the place of
 // the next one; or this is the place of the first that is not.
-#[derive(Drop)]
+#[derive(Clone, Copy)]
 pub enum Check {
     Sound(Position),
     Unsound(Position),

@@ -13,7 +13,7 @@ use subject::{Check, Evaluation, IndividualValues, Sums, Trial};
 // `to`; `additive` overrides their own where `has_additive`; the trial block of the work words begins at word
 // `block`.
 #[repr(C)]
-#[derive(Drop)]
+#[derive(Clone, Copy)]
 pub struct Question {
     pub from: usize,
     pub to: usize,
@@ -29,7 +29,7 @@ pub struct Question {
 
 // An evaluation that begins, with the bounds of the observations that it is over and what their rows are
 // computed with.
-#[derive(Drop)]
+#[derive(Clone, Copy)]
 pub struct Begun {
     pub from: usize,
     pub to: usize,

@@ -7,7 +7,7 @@ use search::{Place, Step, Tally};
 
 // The answer of a call: its kind (0 asked, 1 finished or opened, 2 refused), and the four words that it
 // carries.
-#[derive(Drop)]
+#[derive(Clone, Copy)]
 pub struct Answer {
     pub kind: u64,
     pub a: u64,

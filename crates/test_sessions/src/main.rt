@@ -44,7 +44,7 @@ const OBSERVATIONS: usize = 2560;
 const REPLY: usize = 8192;
 
 // How many words are lent.
-#[derive(Drop)]
+#[derive(Clone, Copy)]
 struct Lengths {
     cache: usize,
     work: usize,
@@ -55,7 +55,7 @@ struct Lengths {
 // What a session's host has besides its words: the session's own, how many words are lent, how many
 // subjects and observations there are, and the operands of the call that is made, the parameters of an
 // objective or the number of words of a reply.
-#[derive(Drop)]
+#[derive(Clone, Copy)]
 struct Host {
     setup: Setup,
     state: State,
@@ -68,7 +68,7 @@ struct Host {
 }
 
 // What a call gave back.
-#[derive(Drop)]
+#[derive(Clone, Copy)]
 struct Given {
     answer: Answer,
     state: State,

@@ -43,7 +43,7 @@ pub const TRIAL: usize = 3;
 
 // From which block each of the first three blocks gets its rows after an evaluation; its own number, where
 // its rows stay.
-#[derive(Drop)]
+#[derive(Clone, Copy)]
 pub struct Sources {
     pub population: usize,
     pub best: usize,

@@ -1,0 +1,451 @@
+#!/usr/bin/env python3
+"""Turns the proof files of an older Rattle, which went through `Tie`, into today's.
+
+    python3 tools/port_proofs.py [--no-generate] [CRATE..]      at the top of the repository
+
+A `crates/C/proofs/F/Proof.antt` with a line `use ....Tie as tie` becomes `Invariants.antt` (invariants and
+measures) and `Answers.antt` (answers), and goes away. Other files are left alone, so a second run does nothing.
+The names of goals, places and variables come from `rt check --generated DIR --old-names`, run for each crate, so
+the crates below must be built. What cannot be turned is printed.
+"""
+import json
+import os
+import re
+import subprocess
+import sys
+
+NAMES = "/tmp/port_proofs"
+TRIVIAL = {"search rules", "search needs", "search arith", "omega arith", "tt", "refl"}
+DROPPED = {"search rules", "search needs"}
+IDENT = r"[^\s(){}\[\],;.]+"
+
+# Names of the older libraries that moved or were respelled: (module, name) -> name in COMMON, or a whole module.
+COMMON = "Rattle.std.proofs.Common"
+
+
+def say(*words):
+    print(*words)
+
+
+def squash(name):
+    """A name up to dashes, underscores and the guillemets round a keyword."""
+    return re.sub(r"[-_«»]", "", name).lower()
+
+
+def run_generated(crate):
+    out = os.path.join(NAMES, crate)
+    os.makedirs(out, exist_ok=True)
+    done = subprocess.run(
+        ["rt", "check", "--generated", out, "--old-names"],
+        cwd=os.path.join("crates", crate), stdout=subprocess.PIPE, stderr=subprocess.STDOUT, text=True)
+    if not os.path.exists(os.path.join(out, "names.json")):
+        say(crate + ": no names.json:", *done.stdout.splitlines()[-3:])
+
+
+def read_names(crate):
+    path = os.path.join(NAMES, crate, "names.json")
+    if not os.path.exists(path):
+        return {}
+    with open(path) as file:
+        return json.load(file)
+
+
+# A proof file's parts.
+
+def parts(text):
+    """(head comments, use lines, declarations); a declaration is a list of items at column 0, comments first."""
+    items = []
+    for line in text.splitlines():
+        if line and not line[0].isspace():
+            items.append([line])
+        elif items:
+            items[-1].append(line)
+    items = ["\n".join(item).rstrip() for item in items]
+    head, uses, decls, pending = [], [], [], []
+    for item in items:
+        if item.startswith("use "):
+            uses.append(item)
+            continue
+        if not uses and not decls and item.startswith("--"):
+            head.append(item)
+            continue
+        if item.startswith("--"):
+            pending.append(item)
+            continue
+        signature = re.match(r"((?:abbrev |unfoldable |pub )*)(" + IDENT + r")\s+:\s", item + " ")
+        word = item.split()[0]
+        if signature and word not in ("use", "unfolding"):
+            decls.append({"comments": pending, "name": signature.group(2), "marks": signature.group(1).strip(),
+                          "signature": item, "body": []})
+            pending = []
+        elif word in ("data", "record", "mutual", "section", "end", "variable", "infix", "infixl", "infixr", "syntax", "ruleset"):
+            decls.append({"comments": pending, "name": item.split()[1] if len(item.split()) > 1 else "", "marks": "",
+                          "signature": item, "body": [], "other": True})
+            pending = []
+        elif decls:
+            decls[-1]["body"] += pending + [item]
+            pending = []
+        else:
+            say("  stray:", item[:60])
+    return head, uses, decls
+
+
+def split_arguments(text):
+    """The arguments of an application, at the outer level."""
+    out, depth, word = [], 0, ""
+    for char in text:
+        if char in "([{":
+            depth += 1
+        if char in ")]}":
+            depth -= 1
+        if char.isspace() and depth == 0:
+            if word:
+                out.append(word)
+            word = ""
+        else:
+            word += char
+    if word:
+        out.append(word)
+    return out
+
+
+# Names of today, for one function.
+
+class Function:
+    def __init__(self, entry):
+        self.entry = entry
+        self.needs = entry["needs"]
+        asked = entry["asked_at"]
+        self.at = {new: asked[k][0] for k, (old, new) in enumerate(self.needs)} if len(asked) == len(self.needs) else {}
+        self.places = {}
+        for place in entry["places"]:
+            self.places.setdefault(place[0], place)
+
+    def goal(self, old):
+        for wanted in (old, re.sub(r"^(overflow|nonzero)-", "", old)):
+            for same in (lambda name: name == wanted, lambda name: squash(name) == squash(wanted)):
+                found = [new for was, new in self.needs if same(was)]
+                if found:
+                    return found[0]
+        return None
+
+    def path(self, place, ups, field):
+        """Today's field for the field `field` of the place `ups` above `place`, or None."""
+        for _ in range(ups):
+            row = self.places.get(place)
+            if row is None or row[1] is None:
+                return None
+            place = row[1]
+        seen = place
+        while seen is not None:
+            row = self.places.get(seen)
+            if row is None:
+                return None
+            old, new = row[2]
+            if old and squash(old) == squash(field):
+                return new
+            if seen != place:
+                pass
+            if row[1] is None and squash(field) in ("args", "requires", "ranges", "wellformed", "utf8"):
+                return {"wellformed": "well_formed"}.get(squash(field), field)
+            seen = row[1]
+        return None
+
+    def up(self, place, ups):
+        for _ in range(ups):
+            row = self.places.get(place)
+            if row is None or row[1] is None:
+                return None
+            place = row[1]
+        return place
+
+
+def turn_places(text, function, where, place, told):
+    """The body of an answer, with the paths of its `c` turned."""
+    env = {"c": place}
+    out, rest = "", text
+    token = re.compile(
+        r"let\s+(?P<name>" + IDENT + r")\s+=\s+(?P<base>" + IDENT + r")(?P<ups>(?:\.before)*)\s+in\b\s*"
+        r"|(?<![\w.\-«])(?P<var>[^\s(){}\[\],;.←]+)(?P<upsb>(?:\.before)*)\.(?P<field>[^\s(){}\[\],;.]+)")
+    at = 0
+    for found in token.finditer(text):
+        if found.start() < at:
+            continue
+        if found.group("name"):
+            base = found.group("base")
+            if base in env and (found.group("ups") or base != found.group("name")):
+                out += text[at:found.start()]
+                env[found.group("name")] = function.up(env[base], found.group("ups").count(".before")) if env[base] else None
+                at = found.end()
+            continue
+        var = found.group("var")
+        if var not in env:
+            continue
+        ups = found.group("upsb").count(".before")
+        field = found.group("field")
+        if field == "before":
+            continue
+        new = function.path(env[var], ups, field) if env[var] else None
+        if new is None:
+            told.append("%s: %s at %s" % (where, found.group(0), env[var]))
+            new = field
+        out += text[at:found.start()] + "c." + new
+        at = found.end()
+    out += text[at:]
+    return out
+
+
+def strip_head(equation, name):
+    """(arguments, body) of an equation `name args = body`."""
+    found = re.match(re.escape(name) + r"((?:\s+[^=\s]+)*?)\s+=(?:\s+|$)", equation)
+    if not found:
+        return None, equation
+    return found.group(1).split(), equation[found.end():]
+
+
+def turn_variables(body, given):
+    """The parameters of an old invariant, as projections of `l`."""
+    def one(found):
+        word = found.group(0)
+        return given.get(word, word)
+    return re.sub(r"(?<![\w.\-])[^\s(){}\[\],;.]+(?!\w)", one, body)
+
+
+def used(names, text):
+    """Which of the imported names `text` uses."""
+    out = []
+    for name in names:
+        bare = name.split(" as ")[-1].strip()
+        symbols = [part for part in bare.split("◌") if part]
+        if "◌" in bare:
+            if bare in text or all(re.search(r"(^|[\s(])" + re.escape(symbol.strip()) + r"($|[\s)])", text) for symbol in symbols):
+                out.append(name)
+        elif re.search(r"(?<![\w\-'′₀-₉])" + re.escape(bare) + r"(?![\w\-'′₀-₉])", text):
+            out.append(name)
+    return out
+
+
+def imports(uses, text):
+    out = []
+    for use in uses:
+        if re.search(r"\.(Statement|Tie)\b", use):
+            continue
+        line = " ".join(use.split())
+        found = re.match(r"use (\S+?)\.\{(.*)\}$", line)
+        if not found:
+            out.append(line)
+            continue
+        module, names = found.group(1), [name.strip() for name in found.group(2).split(",") if name.strip()]
+        if module == "borrow.Author.Rules" or module == "native.Mathlib.Omega" or module == "mathlib.Core.Path":
+            module = COMMON
+        names = used(names, text)
+        if names:
+            out.append((module, names))
+    merged, lines = {}, []
+    for entry in out:
+        if isinstance(entry, str):
+            lines.append(entry)
+        else:
+            merged.setdefault(entry[0], [])
+            merged[entry[0]] += [name for name in entry[1] if name not in merged[entry[0]]]
+    return lines + ["use %s.{%s}" % (module, ", ".join(names)) for module, names in merged.items()]
+
+
+def module_of(path):
+    """crates/C/proofs/a/b/Proof.antt -> (Rattle.C.proofs.a.b, names.json's key)"""
+    piece = path.split("/")
+    crate, inner = piece[1], piece[3:-1]
+    return "Rattle.%s.proofs.%s" % (crate, ".".join(inner)), "Rattle-%s-proofs.%s.Lts" % (crate, ".".join(inner))
+
+
+def convert(path, names):
+    module, key = module_of(path)
+    entry = names.get(key)
+    if entry is None:
+        say("%s: no entry %s" % (path, key))
+        return False
+    function = Function(entry)
+    with open(path) as file:
+        head, uses, decls = parts(file.read())
+    told = []
+    folder = os.path.dirname(path)
+    kept, invariants, answers, spec = [], [], [], None
+    locals_ = {decl["name"] for decl in decls}
+    for decl in decls:
+        flat = " ".join(decl["signature"].split())
+        found = re.search(r" : tie\.(\S+)", flat)
+        if "tie.close" in " ".join(decl["body"]):
+            spec = decl
+        elif found and found.group(1).startswith("Need-"):
+            answers.append((decl, found.group(1)[len("Need-"):]))
+        elif found and re.match(r"(invariant|decreases)", found.group(1)):
+            invariants.append((decl, found.group(1)))
+        else:
+            kept.append(decl)
+    # the arguments of tie.spec, which may be other lemmas
+    direct = []
+    if spec:
+        text = " ".join(spec["body"][-1].split())
+        found = re.search(r"tie\.spec (.*?)\)?$", text)
+        if found:
+            arguments = split_arguments(found.group(1).rstrip(")") if found.group(1).count("(") < found.group(1).count(")") else found.group(1))
+            own = {decl["name"] for decl, _ in invariants}
+            arguments = [argument for argument in arguments if argument not in own]
+            answered = {decl["name"] for decl, _ in answers}
+            if len(arguments) == len(function.needs):
+                for (old, new), argument in zip(function.needs, arguments):
+                    if argument not in answered:
+                        direct.append((new, argument))
+            else:
+                others = [argument for argument in arguments if argument not in answered]
+                if others:
+                    told.append("tie.spec has %d answers for %d goals: %s" % (len(arguments), len(function.needs), " ".join(others)))
+    # invariants
+    out_invariants = []
+    for decl, old in invariants:
+        new, given = invariant_names(old, entry, folder, told)
+        body = []
+        for item in decl["body"]:
+            if item.startswith(decl["name"] + " "):
+                arguments, text = strip_head(item, decl["name"])
+                body.append("%s l = %s" % (new, turn_variables(text, given(arguments))))
+            else:
+                body.append(item)
+        out_invariants.append("\n".join(decl["comments"] + ["abbrev pub %s : goal.%s" % (new, new)] + body))
+    # answers
+    out_answers, have = [], set()
+    for decl, old in answers:
+        new = function.goal(old)
+        if new is None:
+            if any(squash(name) in (squash(old), squash("overflow" + old)) for name in entry.get("settled", [])):
+                continue
+            trivial = decl["body"] and strip_head(decl["body"][-1], decl["name"])[1] in TRIVIAL
+            if not trivial:
+                told.append("no goal for %s" % old)
+            if trivial:
+                continue
+            new = old
+        body, trivial = [], False
+        for item in decl["body"]:
+            if item.startswith(decl["name"] + " "):
+                arguments, text = strip_head(item, decl["name"])
+                if arguments is None:
+                    arguments, text = [], item
+                arguments = [argument for argument in arguments if argument != "κs"]
+                if " ".join(text.split()) in DROPPED and len(decl["body"]) == 1:
+                    trivial = True
+                text = turn_places(text, function, new, function.at.get(new), told)
+                line = " ".join([new] + arguments) + " ="
+                body.append(line + (" " if "\n" not in text else "\n    ") + text)
+            else:
+                body.append(item)
+        if trivial:
+            continue
+        have.add(new)
+        out_answers.append("\n".join(decl["comments"] + ["pub %s : goal.%s" % (new, new)] + body))
+    for new, argument in direct:
+        if new not in have and not (argument == "free" and re.search(r"-requires(-\d+)?$", new)):
+            out_answers.append("pub %s : goal.%s\n%s = %s" % (new, new, new, re.sub(r"^\((.*)\)$", r"\1", argument)))
+    # the other declarations
+    out_kept = ["\n".join(decl["comments"] + [decl["signature"]] + decl["body"]) for decl in kept]
+    for decl in kept:
+        if "tie." in decl["signature"] + " ".join(decl["body"]):
+            told.append("a lemma names tie: %s" % decl["name"])
+    in_invariants = []
+    text_invariants = "\n\n".join(out_invariants)
+    for _ in kept:
+        for decl, text in zip(kept, out_kept):
+            if text not in in_invariants and used([decl["name"]], text_invariants + "\n".join(in_invariants)):
+                in_invariants.append(text)
+    if out_invariants:
+        write(os.path.join(folder, "Invariants.antt"), head, uses, module + ".Given", [], [text for text in out_kept if text in in_invariants] + out_invariants)
+    rest = [text for text in out_kept if text not in in_invariants]
+    if out_answers:
+        cited = []
+        names_in = [decl["name"] for decl, text in zip(kept, out_kept) if text in in_invariants]
+        cited = used(names_in, "\n".join(rest + out_answers))
+        extra = ["use %s.Invariants.{%s}" % (module, ", ".join(cited))] if cited else []
+        write(os.path.join(folder, "Answers.antt"), head, uses, module + ".Goals", extra, rest + out_answers)
+    os.remove(path)
+    for line in told:
+        say("%s: %s" % (folder, line))
+    return True
+
+
+def invariant_names(old, entry, where, told):
+    """Today's name of the invariant or the measure `old`, and a function from its old parameters to what they are."""
+    kind, _, tail = old.partition("-")
+    for place, ((was, now), variables) in enumerate(entry["loops"]):
+        if squash(was) == squash(tail):
+            changed = entry["changed"][place] if place < len(entry["changed"]) else []
+
+            def given(arguments):
+                out = {}
+                if len(changed) == len(variables) and len(arguments) == len(variables) + sum(changed):
+                    for argument, variable, does in zip(arguments, variables, changed):
+                        out[argument] = ("l.initial." if does else "l.") + variable
+                    moving = [variable for variable, does in zip(variables, changed) if does]
+                    for argument, variable in zip(arguments[len(variables):], moving):
+                        out[argument] = "l." + variable
+                    return out
+                told.append("%s: %d parameters for %s %s" % (old, len(arguments), variables, changed))
+                for argument in arguments:
+                    bare = argument.rstrip("₀")
+                    near = [v for v in variables if squash(v) == squash(bare)] or [bare.replace("-", "_")]
+                    out[argument] = ("l.initial." if argument.endswith("₀") else "l.") + near[0]
+                return out
+            return kind + "-" + now, given
+    told.append("%s: no such loop" % old)
+    return old, lambda arguments: {argument: "l." + argument.replace("-", "_") for argument in arguments}
+
+
+def write(path, head, uses, module, extra, decls):
+    text = "\n\n".join(decls)
+    lines = head + imports(uses, text) + extra + ["use %s as goal" % module]
+    with open(path, "w") as file:
+        file.write("\n".join(lines) + "\n\n" + text + "\n")
+
+
+def tactic_line(crate):
+    for name in ("lib.rt", "main.rt"):
+        path = os.path.join("crates", crate, "src", name)
+        if not os.path.exists(path):
+            continue
+        with open(path) as file:
+            text = file.read()
+        if re.search(r"^#!\[tactic\(", text, re.M):
+            return
+        lines = text.splitlines(keepends=True)
+        at = 0
+        while at < len(lines) and lines[at].startswith("//"):
+            at += 1
+        lines.insert(at, "#![tactic(auto)]\n")
+        with open(path, "w") as file:
+            file.write("".join(lines))
+
+
+def main():
+    crates = [word for word in sys.argv[1:] if not word.startswith("-")]
+    if not crates:
+        with open("crates.txt") as file:
+            crates = [line.split(":")[0].split()[0] for line in file if ":" in line and not line.startswith("#")]
+    for crate in crates:
+        paths = []
+        for folder, _, files in os.walk(os.path.join("crates", crate, "proofs")):
+            if "Proof.antt" in files:
+                path = os.path.join(folder, "Proof.antt")
+                with open(path) as file:
+                    if re.search(r"^use .*\.Tie as tie", file.read(), re.M):
+                        paths.append(path)
+        tactic_line(crate)
+        if not paths:
+            continue
+        if "--no-generate" not in sys.argv:
+            run_generated(crate)
+        names = read_names(crate)
+        done = sum(convert(path, names) for path in sorted(paths))
+        say("%s: %d of %d" % (crate, done, len(paths)))
+
+
+if __name__ == "__main__":
+    main()
