@@ -5,8 +5,8 @@
 
 A `crates/C/proofs/F/Proof.antt` with a line `use ....Tie as tie` becomes `Invariants.antt` (invariants and
 measures) and `Answers.antt` (answers), and goes away. Other files are left alone, so a second run does nothing.
-The names of goals, places and variables come from `rt check --generated DIR --old-names`, run for each crate, so
-the crates below must be built. What cannot be turned is printed.
+The names of goals, places and variables come from `rattle check --generated DIR --old-names`, run for each crate
+over the sources of the crates below it, which need not be proved. What cannot be turned is printed.
 """
 import json
 import os
@@ -14,7 +14,8 @@ import re
 import subprocess
 import sys
 
-NAMES = "/tmp/port_proofs"
+KIT = "/opt/rattle"
+NAMES = "/tmp/port_proofs" + os.getcwd().replace("/", "-")  # where `rt check --generated` writes
 TRIVIAL = {"search rules", "search needs", "search arith", "omega arith", "tt", "refl"}
 DROPPED = {"search rules", "search needs"}
 IDENT = r"[^\s(){}\[\],;.]+"
@@ -32,14 +33,55 @@ def squash(name):
     return re.sub(r"[-_«»]", "", name).lower()
 
 
+def crates_below():
+    """crates.txt: each crate's line, as {crate: [what it stands on]}, and the static libraries."""
+    lines, static = {}, set()
+    with open("crates.txt") as file:
+        for line in file:
+            line = line.split("#")[0].strip()
+            if ":" in line:
+                head, deps = line.split(":")
+                lines[head.split()[0]] = deps.split()
+                if "staticlib" in head:
+                    static.add(head.split()[0])
+    return lines, static
+
+
 def run_generated(crate):
+    """names.json of a crate, over the sources of the crates below it, which need not be proved."""
+    lines, static = crates_below()
+    below = []
+
+    def visit(name):
+        for dep in lines[name]:
+            if dep in lines and dep not in below:
+                visit(dep)
+                below.append(dep)
+    visit(crate)
+    words = [KIT + "/bin/rattle", "check", "--crate-name", crate, root_of(crate)]
+    kit = {"core", "std"} | {dep for name in [crate] + below for dep in lines[name] if dep not in lines}
+    for name in sorted(kit):
+        words += ["--extern", "%s=%s/rlibs/%s.rlib" % (name, KIT, name)]
+    words += ["-L", "dependency=%s/rlibs" % KIT]
+    for name in below:
+        words += ["--lib", "%s:%s=../%s/src/lib.rt" % (name, ",".join(dict.fromkeys(["core", "std"] + lines[name])), name)]
+    words += ["--antt-project", KIT + "/rattle/logic/antt-project.json", "--logic-built", KIT + "/logic_built", "--links", crate + "="]
+    if crate in static:
+        words += ["--crate-type", "staticlib"]
     out = os.path.join(NAMES, crate)
     os.makedirs(out, exist_ok=True)
+    if os.path.exists(os.path.join(out, "names.json")):
+        os.remove(os.path.join(out, "names.json"))
     done = subprocess.run(
-        ["rt", "check", "--generated", out, "--old-names"],
+        words + ["--generated", out, "--old-names"],
         cwd=os.path.join("crates", crate), stdout=subprocess.PIPE, stderr=subprocess.STDOUT, text=True)
     if not os.path.exists(os.path.join(out, "names.json")):
         say(crate + ": no names.json:", *done.stdout.splitlines()[-3:])
+
+
+def root_of(crate):
+    main = os.path.join("crates", crate, "src", "main.rt")
+    return "src/main.rt" if os.path.exists(main) else "src/lib.rt"
 
 
 def read_names(crate):
@@ -115,11 +157,13 @@ class Function:
     def __init__(self, entry):
         self.entry = entry
         self.needs = entry["needs"]
+        self.used = []  # places that lemmas name
         asked = entry["asked_at"]
         self.at = {new: asked[k][0] for k, (old, new) in enumerate(self.needs)} if len(asked) == len(self.needs) else {}
         self.places = {}
         for place in entry["places"]:
             self.places.setdefault(place[0], place)
+        self.now = {place[0]: name for place, name in zip(entry["places"], entry["places_by_name"])}
 
     def goal(self, old):
         for wanted in (old, re.sub(r"^(overflow|nonzero)-", "", old)):
@@ -160,39 +204,69 @@ class Function:
         return place
 
 
-def turn_places(text, function, where, place, told):
-    """The body of an answer, with the paths of its `c` turned."""
-    env = {"c": place}
-    out, rest = "", text
+def turn_places(text, function, where, root, place, told):
+    """`text`, with the paths of the context `root`, which stands at `place`, turned. An alias `let d = c.before in`
+    goes away."""
+    env = {root: (place, 0)}
+    out, at = "", 0
     token = re.compile(
-        r"let\s+(?P<name>" + IDENT + r")\s+=\s+(?P<base>" + IDENT + r")(?P<ups>(?:\.before)*)\s+in\b\s*"
-        r"|(?<![\w.\-«])(?P<var>[^\s(){}\[\],;.←]+)(?P<upsb>(?:\.before)*)\.(?P<field>[^\s(){}\[\],;.]+)")
-    at = 0
+        r"let\s+(?P<name>" + IDENT + r")\s+=\s+(?P<base>" + IDENT + r"?)(?P<ups>(?:\.before)*)\s+in\b\s*"
+        r"|(?<![\w.\-«'′₀-₉])(?P<var>[^\s(){}\[\],;.←]+)(?P<upsb>(?:\.before)*)(?:\.(?P<field>[^\s(){}\[\],;.]+)(?P<rest>(?:\.[^\s(){}\[\],;.]+)*))?")
     for found in token.finditer(text):
         if found.start() < at:
             continue
         if found.group("name"):
             base = found.group("base")
-            if base in env and (found.group("ups") or base != found.group("name")):
+            if base in env:
+                was, ups = env[base]
+                more = found.group("ups").count(".before")
+                env[found.group("name")] = (function.up(was, more), ups + more)
                 out += text[at:found.start()]
-                env[found.group("name")] = function.up(env[base], found.group("ups").count(".before")) if env[base] else None
                 at = found.end()
             continue
         var = found.group("var")
         if var not in env:
             continue
+        was, base_ups = env[var]
         ups = found.group("upsb").count(".before")
         field = found.group("field")
-        if field == "before":
+        if field is None:
+            whole = root + ".before" * (base_ups + ups)
+            if text[found.end():found.end() + 2] == " :":
+                continue
+            out += text[at:found.start()] + whole
+            at = found.end()
             continue
-        new = function.path(env[var], ups, field) if env[var] else None
+        new = function.path(was, ups, field) if was else None
         if new is None:
-            told.append("%s: %s at %s" % (where, found.group(0), env[var]))
+            told.append("%s: %s at %s" % (where, found.group(0), was))
             new = field
-        out += text[at:found.start()] + "c." + new
+        out += text[at:found.start()] + root + "." + new + found.group("rest").replace("-", "_")
         at = found.end()
     out += text[at:]
+    for alias in re.findall(r"let\s+(" + IDENT + r")\s+=\s+" + re.escape(root) + r"\.args\s+in\b", out):
+        out = re.sub(r"(?<![\w.\-])" + re.escape(alias) + r"\.[\w\-]+", lambda name: name.group(0).replace("-", "_"), out)
     return out
+
+
+def turn_lemma(decl, function, told):
+    """A lemma over a context, `(c : tie.PLACE)`: today's place, and its paths turned."""
+    found = re.search(r"\((" + IDENT + r")\s+:\s+tie\.(" + IDENT + r")\)", decl["signature"])
+    if not found:
+        return
+    root, place = found.group(1), found.group(2)
+    new = function.now.get(place)
+    if new is None:
+        told.append("no place %s in the lemma %s" % (place, decl["name"]))
+        return
+    head = decl["signature"][:found.start()] + "(%s : %s)" % (root, new)
+    function.used.append(new)
+    decl["signature"] = head + turn_places(decl["signature"][found.end():], function, decl["name"], root, place, told)
+    for at, item in enumerate(decl["body"]):
+        if item.startswith(decl["name"] + " "):
+            arguments, text = strip_head(item, decl["name"])
+            if arguments:
+                decl["body"][at] = item[:len(item) - len(text)] + turn_places(text, function, decl["name"], arguments[0], place, told)
 
 
 def strip_head(equation, name):
@@ -334,7 +408,7 @@ def convert(path, names):
                 arguments = [argument for argument in arguments if argument != "κs"]
                 if " ".join(text.split()) in DROPPED and len(decl["body"]) == 1:
                     trivial = True
-                text = turn_places(text, function, new, function.at.get(new), told)
+                text = turn_places(text, function, new, arguments[-1] if arguments else "c", function.at.get(new), told)
                 line = " ".join([new] + arguments) + " ="
                 body.append(line + (" " if "\n" not in text else "\n    ") + text)
             else:
@@ -347,6 +421,8 @@ def convert(path, names):
         if new not in have and not (argument == "free" and re.search(r"-requires(-\d+)?$", new)):
             out_answers.append("pub %s : goal.%s\n%s = %s" % (new, new, new, re.sub(r"^\((.*)\)$", r"\1", argument)))
     # the other declarations
+    for decl in kept:
+        turn_lemma(decl, function, told)
     out_kept = ["\n".join(decl["comments"] + [decl["signature"]] + decl["body"]) for decl in kept]
     for decl in kept:
         if "tie." in decl["signature"] + " ".join(decl["body"]):
@@ -365,6 +441,8 @@ def convert(path, names):
         names_in = [decl["name"] for decl, text in zip(kept, out_kept) if text in in_invariants]
         cited = used(names_in, "\n".join(rest + out_answers))
         extra = ["use %s.Invariants.{%s}" % (module, ", ".join(cited))] if cited else []
+        if function.used:
+            extra.append("use %s.Goals.{%s}" % (module, ", ".join(sorted(set(function.used)))))
         write(os.path.join(folder, "Answers.antt"), head, uses, module + ".Goals", extra, rest + out_answers)
     os.remove(path)
     for line in told:

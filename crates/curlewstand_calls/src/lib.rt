@@ -7,6 +7,7 @@
 // All that decides anything is by value, in `host_calls` and the crates below it; here the tally is copied
 // out, the observations are gone through, and the tally is written back. `figures` has what a host is told
 // besides.
+#![tactic(auto)]
 ghost use Rattle.std.specs.Prelude.{◌≡◌};
 ghost use Rattle.session.specs.Session.{all_checked, objective, reply as replies, failure};
 ghost use Rattle.host_calls.specs.Hosting.{setup_of, parameters_of, out, setup_over, call_over, done_with};

@@ -5,6 +5,7 @@
 // refuses what is not right of what is lent with document 01's number and place, and its contract gives all
 // that it answers and writes. What is lent to be written must overlap nothing else that is lent to the same
 // call.
+#![tactic(auto)]
 ghost use Rattle.std.specs.Prelude.{◌≡◌};
 ghost use Rattle.subject.specs.Observations.{check_observations};
 ghost use Rattle.host_calls.specs.Hosting.{setup_of, out, done_with};

@@ -1,5 +1,7 @@
 // f64 and its 64-bit word, and the operations of Rust's f64 that the sources use. Each function is
 // defined for every float and every word.
+#![tactic(auto)]
+
 ghost use Rattle.std.specs.Prelude.{◌≡◌};
 ghost use Rattle.std.specs.Float.{binary64};
 ghost use Rattle.std.specs.Float.Ieee.{of_bits, to_bits};

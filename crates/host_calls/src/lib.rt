@@ -7,6 +7,7 @@
 // The answer is five words: 0 for a question, then both etas and both individual values; 1 for an end, then
 // the objective (0 for setup) and zeros; 2 for a refusal, then its number, 0 for no place, 1 for a subject
 // and 2 for an observation, the subject and the observation.
+#![tactic(auto)]
 ghost use Rattle.std.specs.Prelude.{◌≡◌};
 ghost use Rattle.search.specs.declared.Place.TheVariants.{Nowhere};
 ghost use Rattle.host_calls.specs.Hosting.{setup_of, parameters_of, setup_from, setup_bits, parameters_from, parameter_bits};

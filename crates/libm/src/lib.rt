@@ -1,5 +1,7 @@
 // Document 01's stand-ins for libm: log and exp of musl 1.1.20, with musl's names and order of
 // operations.
+#![tactic(auto)]
+
 ghost use Rattle.std.specs.Prelude.{◌≡◌, ◌<◌, ◌≤◌};
 ghost use Rattle.std.specs.Float.{binary64};
 ghost use Rattle.std.specs.Float.Ieee.{of_int, minus};

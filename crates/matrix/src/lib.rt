@@ -1,5 +1,7 @@
 // Pairs and two by two matrices of floats, by value, with the operations of population_focei_2d.rs in that
 // file's order. Each function is defined for all floats.
+#![tactic(auto)]
+
 ghost use Rattle.std.specs.Prelude.{◌≡◌};
 ghost use Rattle.matrix.specs.Matrix.{answer, determinant, array_of, matrix_of, sum, has_nonfinite_entry, inverse, inverse_positive};
 ghost use Rattle.matrix.specs.Matrix.{product, dot};

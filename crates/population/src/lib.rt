@@ -3,6 +3,7 @@
 // mode is added to the objective. Here are the counts and the warm starts in lent words, and what is done
 // with a mode; `kept_points` takes a search through kept evaluations, `answers` keeps a reply, and `steps`
 // has the loop over the requests. Each function is defined for all values and words.
+#![tactic(auto)]
 ghost use Rattle.std.specs.Prelude.{◌≡◌};
 ghost use Rattle.population.specs.Population.{rows_of, warm_of, warm_stored, worked, next_subject, ended, at_mode};
 

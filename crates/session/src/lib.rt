@@ -2,6 +2,7 @@
 // begin, the shrinkage of a finished objective, and how many evaluations a search may ask for; whether a call
 // is accepted is in `checks`. Of the observations there is what was found of them: how many there are, and
 // their check. Each function is defined for all values and words.
+#![tactic(auto)]
 ghost use Rattle.std.specs.Prelude.{◌≡◌, length};
 ghost use Rattle.session.specs.Calls.{lent_by, refused_as, start_of, first_state, shrinkage};
 ghost use Rattle.session.specs.Figures.{has_mode, has_finished, ceiling_of};

@@ -3,6 +3,7 @@
 // objective (`run`), to a refusal that ends it (`ended_as`) or to one that alters nothing. The tally goes by
 // value here, and of the observations there is what was found of them: how many there are, and their check.
 // Each function is defined for all values and words.
+#![tactic(auto)]
 ghost use Rattle.std.specs.Prelude.{◌≡◌, length};
 ghost use Rattle.words.specs.Words.{zeros};
 ghost use Rattle.population.specs.Kept.{cache_of, words};

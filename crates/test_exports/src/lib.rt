@@ -3,6 +3,7 @@
 // `mode_search` and `mode_2d_search` (the searches as words), `kept` (kept evaluations) and `evaluations`.
 // Each function is defined for every input, and its contract gives all that it answers and writes. What is
 // lent to be written must overlap nothing else that is lent to the same call.
+#![tactic(auto)]
 pub mod evaluations;
 pub mod floats;
 pub mod kept;

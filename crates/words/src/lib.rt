@@ -1,5 +1,7 @@
 // Words and bytes that a caller lends, read and written one by one. Each function is defined for all words
 // and numbers: beyond the end a word reads as 0, and nothing is written there.
+#![tactic(auto)]
+
 ghost use Rattle.std.specs.Prelude.{◌≡◌, [], ◌∷◌, length, get_or, set};
 ghost use Rattle.words.specs.Words.{smaller, zeros};
 ghost use Rattle.words.specs.Written.{written, write};

@@ -1,0 +1,55 @@
+-- `copy_words` meets its contract: in one run, or in two. Assumes nothing.
+use Rattle.std.proofs.Common.{◌<◌, ◌∙◌, mod-lt, arith}
+use Rattle.cache.proofs.EntriesPaths.{in_one_run, in_two_runs}
+use Rattle.cache.proofs.entries.copy_words.Goals.{After-modulo-at}
+use Rattle.cache.proofs.entries.copy_words.Goals as goal
+
+-- the first row's place in the ring
+below : (c : After-modulo-at) → c.modulo-at.result < c.args.k
+below c = rw c.modulo-at.ensures (mod-lt _ c.requires.0)
+
+pub overflow_mul-at : goal.overflow_mul-at
+overflow_mul-at c = omega (arith, below c)
+
+pub overflow_sub-left : goal.overflow_sub-left
+overflow_sub-left c = omega (arith, below c)
+
+pub overflow_add-base : goal.overflow_add-base
+overflow_add-base c = omega (arith, below c.before)
+
+pub copy_run-requires : goal.copy_run-requires
+copy_run-requires c =
+    let m = below c.before.before in
+    (omega (arith, m, c.if-n-left.true, c.requires.3), omega (arith, c.requires.4))
+
+pub shape_of-out-then-n-left : goal.shape_of-out-then-n-left
+shape_of-out-then-n-left c = c.copy_run.auto.1.1.1.0
+
+pub returns-then-n-left : goal.returns-then-n-left
+returns-then-n-left c =
+    let m = c.modulo-at.ensures in
+    in_one_run _ _ _ _ _ _ c.requires.0 c.entry_IsPlace.ensures.0 c.read.ensures c.number-first.ensures
+    (rw m at c.if-n-left.true) (rw m at c.copy_run.ensures)
+
+pub overflow_add-base-2 : goal.overflow_add-base-2
+overflow_add-base-2 c = omega (arith, below c.before)
+
+pub copy_run-requires-2 : goal.copy_run-requires-2
+copy_run-requires-2 c =
+    let m = below c.before.before in
+    (omega (arith, m, c.requires.3), omega (arith, m, c.if-n-left.false, c.requires.4))
+
+pub copy_run-requires-3 : goal.copy_run-requires-3
+copy_run-requires-3 c =
+    let m = below c.before.before.before.before.before.before in
+    (omega (arith, m, c.requires.2, c.requires.3), omega (arith, m, c.requires.4, c.copy_run-2.auto.1.1.1.0, c.if-n-left.false))
+
+pub shape_of-out : goal.shape_of-out
+shape_of-out c = c.copy_run-3.auto.1.1.1.0 ∙ c.copy_run-2.auto.1.1.1.0
+
+pub returns : goal.returns
+returns c =
+    let m = c.modulo-at.ensures in
+    in_two_runs _ _ _ _ _ _ c.requires.0 c.entry_IsPlace.ensures.0 c.read.ensures c.number-first.ensures c.requires.2
+    (rw m at c.if-n-left.false) (rw m at c.copy_run-2.ensures)
+    (rw m at c.copy_run-3.ensures)

@@ -1,0 +1,24 @@
+-- `hexadecimal` meets its contract: each turn by its law. Assumes nothing.
+use Rattle.std.proofs.Common.{arith, refl, ◌∙◌}
+use Rattle.focei_text.proofs.Paths.{hex_end, hex_step, hex_all}
+use Rattle.focei_text.proofs.hexadecimal.Goals as goal
+
+pub loop-left-init : goal.loop-left-init
+loop-left-init c = (refl, refl, omega arith)
+
+pub byte-end-requires : goal.byte-end-requires
+byte-end-requires c = tt
+
+pub loop-left-preserved : goal.loop-left-preserved
+loop-left-preserved c =
+    (
+  hex_step _ _ _ c.loop-left-test.true c.glyph.ensures c.byte-end.ensures ∙ c.loop-left.invariant.0,
+  c.byte-end.auto.0 ∙ c.loop-left.invariant.1,
+  omega arith,
+)
+
+pub shape_of-out : goal.shape_of-out
+shape_of-out c = c.loop-left.invariant.1
+
+pub returns : goal.returns
+returns c = hex_all _ _ (hex_end _ _ _ c.loop-left-test.false ∙ c.loop-left.invariant.0)

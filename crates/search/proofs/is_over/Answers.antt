@@ -1,0 +1,16 @@
+-- `is_over` meets its contract: each step by its law. Assumes nothing.
+use Rattle.search.specs.Subjects.{is_over}
+use Rattle.search.proofs.Paths.{over_at}
+use Rattle.search.proofs.is_over.Goals as goal
+
+pub returns-in-Asked : goal.returns-in-Asked
+unfolding is_over
+returns-in-Asked c = over_at c.enum_told-1.given.1
+
+pub returns-in-Finished : goal.returns-in-Finished
+unfolding is_over
+returns-in-Finished c = over_at c.enum_told-in-Finished-1.given.1
+
+pub returns-in-Refused : goal.returns-in-Refused
+unfolding is_over
+returns-in-Refused c = over_at c.enum_told-in-Refused-1.given.1

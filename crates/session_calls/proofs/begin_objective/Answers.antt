@@ -1,0 +1,42 @@
+-- `begin_objective` meets its contract: each case by its law. Assumes nothing.
+use Rattle.float64.proofs.Laws.{free}
+use Rattle.machine.specs.Machine.{on}
+use Rattle.population.specs.Kept.{words}
+use Rattle.search.proofs.Fits.{own_fit}
+use Rattle.session.specs.Calls.{held_of, run}
+use Rattle.session.specs.Session.{begun}
+use Rattle.session_calls.proofs.Paths.{refused_called, lets_in, keeps_out, unsound_out, objective_enters, objective_starts}
+use Rattle.session_calls.proofs.begin_objective.Goals as goal
+
+pub returns-in-Accepted : goal.returns-in-Accepted
+returns-in-Accepted c =
+    let h = held_of c.args.state c.args.tally c.args.cache.now c.args.work.now c.args.warm.now c.args.results.now in
+    lets_in (λ x. run c.args.setup c.args.counts.now x) h (on (begun words c.args.setup c.args.counts.now c.args.parameters h.whole))
+    (objective_enters c.args.setup c.args.counts.now c.args.observations c.args.check c.args.parameters c.args.state c.args.tally
+    c.args.cache.now c.args.work.now c.args.warm.now c.args.results.now c.lent_by-lent.ensures c.admit_objective.ensures)
+    c.enum_told-1.given.1
+    (objective_starts c.args.setup c.args.counts.now c.args.observations c.args.check c.args.parameters c.args.state c.args.tally
+    c.args.cache.now c.args.work.now c.args.warm.now c.args.results.now (own_fit c.args.setup c.args.parameters
+    c.with_parameters-own.ensures c.fit_of-fit.ensures)
+    c.start_of_lem.ensures c.run.ensures)
+
+pub returns-in-Refused : goal.returns-in-Refused
+returns-in-Refused c =
+    let h = held_of c.args.state c.args.tally c.args.cache.now c.args.work.now c.args.warm.now c.args.results.now in
+    refused_called c.args.state c.args.tally _ _ c.args.cache.now c.args.work.now c.args.warm.now c.args.results.now c.IsRefused-as.ensures
+    (keeps_out (λ x. run c.args.setup c.args.counts.now x) h (on (begun words c.args.setup c.args.counts.now c.args.parameters h.whole))
+    (objective_enters c.args.setup c.args.counts.now c.args.observations c.args.check c.args.parameters c.args.state c.args.tally
+    c.args.cache.now c.args.work.now c.args.warm.now c.args.results.now c.lent_by-lent.ensures c.admit_objective.ensures)
+    c.number-1.given.1)
+
+pub returns-in-Unsound : goal.returns-in-Unsound
+returns-in-Unsound c =
+    let h = held_of c.args.state c.args.tally c.args.cache.now c.args.work.now c.args.warm.now c.args.results.now in
+    refused_called c.args.state c.args.tally _ _ c.args.cache.now c.args.work.now c.args.warm.now c.args.results.now c.refused_as-in-Unsound.ensures
+    (unsound_out (λ x. run c.args.setup c.args.counts.now x) h (on (begun words c.args.setup c.args.counts.now c.args.parameters h.whole))
+    (objective_enters c.args.setup c.args.counts.now c.args.observations c.args.check c.args.parameters c.args.state c.args.tally
+    c.args.cache.now c.args.work.now c.args.warm.now c.args.results.now c.lent_by-lent.ensures c.admit_objective.ensures)
+    c.at-1.given.1)
+
+pub refused_as-requires-in-Unsound : goal.refused_as-requires-in-Unsound
+refused_as-requires-in-Unsound = free

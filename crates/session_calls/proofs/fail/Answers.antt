@@ -1,0 +1,40 @@
+-- `fail` meets its contract: each case by its law. Assumes nothing.
+use Rattle.float64.proofs.Laws.{free}
+use Rattle.search.specs.declared.Place.TheVariants.{Subject}
+use Rattle.population.specs.Kept.{words}
+use Rattle.session.specs.Calls.{held_of, run}
+use Rattle.session.specs.Session.{over}
+use Rattle.session_calls.proofs.Paths.{refused_called, ended_called, lets_in, keeps_out, unsound_out, failure_enters}
+use Rattle.session_calls.proofs.fail.Goals as goal
+
+pub returns-in-Accepted : goal.returns-in-Accepted
+returns-in-Accepted c =
+    let h = held_of c.args.state c.args.tally c.args.cache.now c.args.work.now c.args.warm.now c.args.results.now in
+    let e = c.ended_as.ensures in
+    lets_in (λ x. run c.args.setup c.args.counts.now x) h (over words 8 (Subject c.args.state.progress.subject) h)
+    (failure_enters c.args.setup c.args.counts.now c.args.observations c.args.check c.args.state c.args.tally c.args.cache.now c.args.work.now
+    c.args.warm.now c.args.results.now
+    c.lent_by-lent.ensures c.admit_awaited-awaited.ensures) c.enum_told-1.given.1
+    (ended_called _ c.args.state c.args.tally 8 (Subject c.args.state.progress.subject) c.args.cache.now c.args.work.now c.args.warm.now
+    c.args.results.now e.0 e.1)
+
+pub returns-in-Refused : goal.returns-in-Refused
+returns-in-Refused c =
+    let h = held_of c.args.state c.args.tally c.args.cache.now c.args.work.now c.args.warm.now c.args.results.now in
+    refused_called c.args.state c.args.tally _ _ c.args.cache.now c.args.work.now c.args.warm.now c.args.results.now c.IsRefused-as.ensures
+    (keeps_out (λ x. run c.args.setup c.args.counts.now x) h (over words 8 (Subject c.args.state.progress.subject) h)
+    (failure_enters c.args.setup c.args.counts.now c.args.observations c.args.check c.args.state c.args.tally c.args.cache.now c.args.work.now
+    c.args.warm.now c.args.results.now
+    c.lent_by-lent.ensures c.admit_awaited-awaited.ensures) c.admission-1.given.1)
+
+pub returns-in-Unsound : goal.returns-in-Unsound
+returns-in-Unsound c =
+    let h = held_of c.args.state c.args.tally c.args.cache.now c.args.work.now c.args.warm.now c.args.results.now in
+    refused_called c.args.state c.args.tally _ _ c.args.cache.now c.args.work.now c.args.warm.now c.args.results.now c.refused_as-in-Unsound.ensures
+    (unsound_out (λ x. run c.args.setup c.args.counts.now x) h (over words 8 (Subject c.args.state.progress.subject) h)
+    (failure_enters c.args.setup c.args.counts.now c.args.observations c.args.check c.args.state c.args.tally c.args.cache.now c.args.work.now
+    c.args.warm.now c.args.results.now
+    c.lent_by-lent.ensures c.admit_awaited-awaited.ensures) c.admission-in-Unsound-1.given.1)
+
+pub refused_as-requires-in-Unsound : goal.refused_as-requires-in-Unsound
+refused_as-requires-in-Unsound = free

@@ -1,0 +1,7 @@
+-- `beginning` meets its contract. Assumes nothing.
+use Rattle.test_exports.specs.Evaluations.{beginning}
+use Rattle.test_exports.proofs.evaluations.beginning.Goals as goal
+
+pub returns : goal.returns
+unfolding beginning
+returns c = rw (c.begin-evaluation.ensures, c.additive_sd-additive_sd.ensures)

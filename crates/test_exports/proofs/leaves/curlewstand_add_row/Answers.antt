@@ -1,0 +1,21 @@
+-- `curlewstand_add_row` meets its contract: the case of the leaf's answer is the case of the definition. Assumes nothing.
+use Rattle.std.proofs.Common.{sym, ap, ◌∙◌}
+use Rattle.likelihood.specs.Row2.{answer}
+use Rattle.float64.specs.Answer.{number_of}
+use Rattle.test_exports.specs.Leaves.{observation_of, added, add_row}
+use Rattle.test_exports.proofs.leaves.curlewstand_add_row.Goals as goal
+
+pub returns-in-Valid : goal.returns-in-Valid
+unfolding answer observation_of number_of added add_row
+returns-in-Valid c =
+    let found = sym (ap answer c.variance-1.given.1) ∙ c.row_variance.ensures in
+    let row = c.scaled_row-row.ensures in (
+      ap number_of found,
+      rw (c.add_nll.ensures, c.add_score-next_score.ensures, c.add_information-next_information.ensures, row) (ap (added _ _ _ _) found),
+    )
+
+pub returns-in-Invalid : goal.returns-in-Invalid
+unfolding answer observation_of number_of added add_row
+returns-in-Invalid c =
+    let found = sym (ap answer c.enum_told-1.given.1) ∙ c.row_variance.ensures in
+    (ap number_of found, ap (added _ _ _ _) found)

@@ -1,0 +1,20 @@
+-- `curlewstand_mode_2d_request` meets its contract: each exit by its law. Assumes nothing.
+use Rattle.std.proofs.Common.{sym, ◌∙◌}
+use Rattle.test_exports.specs.Mode2d.{request_number, point_or}
+use Rattle.test_exports.proofs.Paths.{request_given, request_none}
+use Rattle.test_exports.proofs.mode_2d_search.curlewstand_mode_2d_request.Goals as goal
+
+pub returns-in-Point : goal.returns-in-Point
+unfolding request_number point_or
+returns-in-Point c = request_given _ c.load.ensures c.settings_of-settings.ensures _ c.x-1.given.1 (sym c.p-1.given.1 ∙ c.request.ensures)
+
+pub returns-in-Mode : goal.returns-in-Mode
+unfolding request_number point_or
+returns-in-Mode c = request_given _ c.load.ensures c.settings_of-settings.ensures _ c.x-1.given.1 (sym c.enum_told-1.given.1 ∙ c.request.ensures)
+
+pub returns-in-Refused : goal.returns-in-Refused
+unfolding request_number point_or
+returns-in-Refused c = request_given _ c.load.ensures c.settings_of-settings.ensures _ c.x-1.given.1 (sym c.number-1.given.1 ∙ c.request.ensures)
+
+pub returns-in-None : goal.returns-in-None
+returns-in-None c = request_none _ c.load.ensures c.enum_told-in-None-1.given.1 _ _

@@ -1,0 +1,34 @@
+-- `curlewstand_mode_request` meets its contract: the case of what is loaded and asked is the case of the definition. Assumes nothing.
+use Rattle.std.proofs.Common.{sym, ap, ◌∙◌}
+use Rattle.float64.specs.Answer.{given, through}
+use Rattle.mode.specs.Rules.{request}
+use Rattle.state_words.specs.SearchWords.{answer}
+use Rattle.test_exports.specs.Mode.{requested, request_number, point_or}
+use Rattle.test_exports.proofs.mode_search.curlewstand_mode_request.Goals as goal
+
+pub returns-in-Point : goal.returns-in-Point
+unfolding answer through requested request_number point_or
+returns-in-Point c =
+    let found = ap (through (request _)) (sym (ap answer c.x-1.given.1) ∙ c.load.ensures) in
+    let told = ap given (sym c.p-1.given.1 ∙ c.request.ensures) ∙ found in
+    (ap request_number told, ap (point_or _) told)
+
+pub returns-in-Mode : goal.returns-in-Mode
+unfolding answer through requested request_number point_or
+returns-in-Mode c =
+    let found = ap (through (request _)) (sym (ap answer c.x-1.given.1) ∙ c.load.ensures) in
+    let told = ap given (sym c.enum_told-1.given.1 ∙ c.request.ensures) ∙ found in
+    (ap request_number told, ap (point_or _) told)
+
+pub returns-in-Refused : goal.returns-in-Refused
+unfolding answer through requested request_number point_or
+returns-in-Refused c =
+    let found = ap (through (request _)) (sym (ap answer c.x-1.given.1) ∙ c.load.ensures) in
+    let told = ap given (sym c.number-1.given.1 ∙ c.request.ensures) ∙ found in
+    (ap request_number told, ap (point_or _) told)
+
+pub returns-in-None : goal.returns-in-None
+unfolding answer through requested request_number point_or
+returns-in-None c =
+    let found = ap (through (request _)) (sym (ap answer c.enum_told-in-None-1.given.1) ∙ c.load.ensures) in
+    (ap request_number found, ap (point_or _) found)
