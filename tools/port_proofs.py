@@ -158,6 +158,7 @@ class Function:
         self.entry = entry
         self.needs = entry["needs"]
         self.used = []  # places that lemmas name
+        self.lemmas = {}  # the place that a lemma of the file is about
         asked = entry["asked_at"]
         self.at = {new: asked[k][0] for k, (old, new) in enumerate(self.needs)} if len(asked) == len(self.needs) else {}
         self.places = {}
@@ -173,41 +174,58 @@ class Function:
                     return found[0]
         return None
 
-    def path(self, place, ups, field):
-        """Today's field for the field `field` of the place `ups` above `place`, or None."""
-        for _ in range(ups):
-            row = self.places.get(place)
-            if row is None or row[1] is None:
-                return None
-            place = row[1]
-        seen = place
-        while seen is not None:
-            row = self.places.get(seen)
-            if row is None:
-                return None
-            old, new = row[2]
-            if old and squash(old) == squash(field):
-                return new
-            if seen != place:
-                pass
-            if row[1] is None and squash(field) in ("args", "requires", "ranges", "wellformed", "utf8"):
-                return {"wellformed": "well_formed"}.get(squash(field), field)
-            seen = row[1]
-        return None
+    def place_of(self, old):
+        for name in self.places:
+            if squash(name) == squash(old):
+                return name
+        return old
 
-    def up(self, place, ups):
-        for _ in range(ups):
-            row = self.places.get(place)
-            if row is None or row[1] is None:
-                return None
-            place = row[1]
-        return place
+    def chain(self, place):
+        """The places from `place` up to the start."""
+        out = []
+        while place is not None and place in self.places:
+            out.append(place)
+            place = self.places[place][1]
+        return out
+
+    def path(self, place, ups, field, rest):
+        """Today's path for `field` and what follows it, at the place `ups` above `place`, or None. The count of
+        places may have changed since: then the nearest place with that field counts."""
+        chain = self.chain(place)
+        rest = rest.replace("-", "_")
+        wanted = squash(field)
+        if wanted in ("args", "requires", "ranges", "wellformed", "utf8"):
+            if wanted == "requires" and self.entry["pre"]:
+                names = self.entry["pre"]["fields"]
+                digit = re.match(r"\.(\d+)", rest)
+                if digit and int(digit.group(1)) < len(names):
+                    rest = "." + names[int(digit.group(1))] + rest[digit.end():]
+            return {"wellformed": "well_formed"}.get(wanted, field) + rest
+        order = [at for at in range(len(chain)) if at >= ups] + [at for at in reversed(range(len(chain))) if at < ups]
+        for same in (wanted, wanted.replace("isplace", "place")):
+            for at in order:
+                row = self.places[chain[at]]
+                old, new = row[2]
+                if old and squash(old) == same:
+                    digits = re.match(r"\.auto((?:\.1)*)(\.0)?$", rest)
+                    params = self.entry["params"].get(row[3]) if row[3] else None
+                    if digits and params and digits.group(1).count("1") < len(params):
+                        rest = ".auto." + params[digits.group(1).count("1")]
+                    row_at = self.entry["places"].index(row)
+                    arm = self.entry["arms"][row_at] if row_at < len(self.entry["arms"]) else None
+                    if arm:
+                        for sub, was, path in arm[2]:
+                            whole = "".join("." + word for word in path)
+                            if squash(was) == same and whole and (rest + ".").startswith(whole + "."):
+                                return arm[0] + "." + sub + rest[len(whole):]
+                    return new + rest
+        return None
 
 
 def turn_places(text, function, where, root, place, told):
     """`text`, with the paths of the context `root`, which stands at `place`, turned. An alias `let d = c.before in`
     goes away."""
-    env = {root: (place, 0)}
+    env = {root: 0}
     out, at = "", 0
     token = re.compile(
         r"let\s+(?P<name>" + IDENT + r")\s+=\s+(?P<base>" + IDENT + r"?)(?P<ups>(?:\.before)*)\s+in\b\s*"
@@ -218,30 +236,31 @@ def turn_places(text, function, where, root, place, told):
         if found.group("name"):
             base = found.group("base")
             if base in env:
-                was, ups = env[base]
-                more = found.group("ups").count(".before")
-                env[found.group("name")] = (function.up(was, more), ups + more)
+                env[found.group("name")] = env[base] + found.group("ups").count(".before")
                 out += text[at:found.start()]
                 at = found.end()
             continue
         var = found.group("var")
         if var not in env:
             continue
-        was, base_ups = env[var]
-        ups = found.group("upsb").count(".before")
+        ups = env[var] + found.group("upsb").count(".before")
         field = found.group("field")
         if field is None:
-            whole = root + ".before" * (base_ups + ups)
             if text[found.end():found.end() + 2] == " :":
                 continue
-            out += text[at:found.start()] + whole
+            taker = re.search(r"(" + IDENT + r")\s+$", text[:found.start()])
+            if taker and taker.group(1) in function.lemmas:
+                chain = function.chain(place)
+                if function.lemmas[taker.group(1)] in chain:
+                    ups = chain.index(function.lemmas[taker.group(1)])
+            out += text[at:found.start()] + root + ".before" * ups
             at = found.end()
             continue
-        new = function.path(was, ups, field) if was else None
+        new = function.path(place, ups, field, found.group("rest")) if place else None
         if new is None:
-            told.append("%s: %s at %s" % (where, found.group(0), was))
-            new = field
-        out += text[at:found.start()] + root + "." + new + found.group("rest").replace("-", "_")
+            told.append("%s: %s at %s" % (where, found.group(0), place))
+            new = field + found.group("rest")
+        out += text[at:found.start()] + root + "." + new
         at = found.end()
     out += text[at:]
     for alias in re.findall(r"let\s+(" + IDENT + r")\s+=\s+" + re.escape(root) + r"\.args\s+in\b", out):
@@ -254,7 +273,7 @@ def turn_lemma(decl, function, told):
     found = re.search(r"\((" + IDENT + r")\s+:\s+tie\.(" + IDENT + r")\)", decl["signature"])
     if not found:
         return
-    root, place = found.group(1), found.group(2)
+    root, place = found.group(1), function.place_of(found.group(2))
     new = function.now.get(place)
     if new is None:
         told.append("no place %s in the lemma %s" % (place, decl["name"]))
@@ -267,6 +286,38 @@ def turn_lemma(decl, function, told):
             arguments, text = strip_head(item, decl["name"])
             if arguments:
                 decl["body"][at] = item[:len(item) - len(text)] + turn_places(text, function, decl["name"], arguments[0], place, told)
+
+
+def as_record(text, fields):
+    """An answer that was a tuple of clauses, as a record of them."""
+    depth, last = 0, 0
+    for found in re.finditer(r"[(\[{]|[)\]}]|(?<!\S)in(?!\S)", text):
+        word = found.group(0)
+        if word == "in":
+            if depth == 0:
+                last = found.end()
+        else:
+            depth += 1 if word in "([{" else -1
+    lets, end = text[:last], text[last:].strip()
+    if end.startswith(("record", "search", "grind", "omega", "simp", "rw", "elim")):
+        return text
+    pieces, depth, piece = [], 0, ""
+    for char in end:
+        if char in ")]}":
+            depth -= 1
+        if char == "," and depth == 1:
+            pieces.append(piece)
+            piece = ""
+        elif not (char in "()" and (depth == 0)):
+            piece += char
+        if char in "([{":
+            depth += 1
+    pieces.append(piece)
+    gap = "\n    " if "\n" in text or lets else " "
+    if end.startswith("(") and end.endswith(")") and len(pieces) == len(fields):
+        return lets + gap.strip(" ") + "record { %s }" % "; ".join("%s = %s" % pair for pair in zip(fields, [piece.strip() for piece in pieces]))
+    parts = "; ".join("%s = asked.%d" % (field, at) for at, field in enumerate(fields))
+    return lets + "\n    let asked = %s in\n    record { %s }" % (end, parts)
 
 
 def strip_head(equation, name):
@@ -356,6 +407,10 @@ def convert(path, names):
             invariants.append((decl, found.group(1)))
         else:
             kept.append(decl)
+    for decl in kept:
+        about = re.search(r"\(" + IDENT + r"\s+:\s+tie\.(" + IDENT + r")\)", decl["signature"])
+        if about:
+            function.lemmas[decl["name"]] = function.place_of(about.group(1))
     # the arguments of tie.spec, which may be other lemmas
     direct = []
     if spec:
@@ -409,6 +464,10 @@ def convert(path, names):
                 if " ".join(text.split()) in DROPPED and len(decl["body"]) == 1:
                     trivial = True
                 text = turn_places(text, function, new, arguments[-1] if arguments else "c", function.at.get(new), told)
+                if re.match(r"shape_of-", new) and re.fullmatch(r"[^\s()]+\.auto\.[^\s()]+", text.strip()):
+                    trivial = True
+                if new in entry["asked"]:
+                    text = as_record(text, entry["asked"][new])
                 line = " ".join([new] + arguments) + " ="
                 body.append(line + (" " if "\n" not in text else "\n    ") + text)
             else:
@@ -418,7 +477,7 @@ def convert(path, names):
         have.add(new)
         out_answers.append("\n".join(decl["comments"] + ["pub %s : goal.%s" % (new, new)] + body))
     for new, argument in direct:
-        if new not in have and not (argument == "free" and re.search(r"-requires(-\d+)?$", new)):
+        if new not in have and argument != "free":
             out_answers.append("pub %s : goal.%s\n%s = %s" % (new, new, new, re.sub(r"^\((.*)\)$", r"\1", argument)))
     # the other declarations
     for decl in kept:

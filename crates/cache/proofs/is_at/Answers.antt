@@ -7,7 +7,7 @@ pub overflow_add-k : goal.overflow_add-k
 overflow_add-k c = omega (arith, c.modulo.ensures, mod-lt c.args.entry c.requires.0)
 
 pub returns-then-read-bits : goal.returns-then-read-bits
-returns-then-read-bits c = looked_at _ _ _ _ _ (rw c.modulo.ensures at c.read.ensures) c.if-read-bits.true c.entry_IsPlace.ensures.0 c.is_same.ensures
+returns-then-read-bits c = looked_at _ _ _ _ _ (rw c.modulo.ensures at c.read.ensures) c.if-read-bits.true c.entry_place.ensures.0 c.is_same.ensures
 
 pub returns : goal.returns
 returns c = not_looked_at _ _ _ _ _ (rw c.modulo.ensures at c.read.ensures) c.if-read-bits.false

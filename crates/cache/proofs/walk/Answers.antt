@@ -1,6 +1,5 @@
 -- `walk` meets its contract: each turn and each exit by its law. Assumes nothing.
 use Rattle.std.proofs.Common.{refl, ◌∙◌, mod-lt, arith}
-use Rattle.float64.proofs.Laws.{free}
 use Rattle.cache.proofs.Paths.{walk_dead, walk_spent, walk_hit, walk_on}
 use Rattle.cache.proofs.walk.Goals as goal
 
@@ -24,6 +23,3 @@ loop-entry-preserved c =
 
 pub returns : goal.returns
 returns c = walk_dead _ _ _ _ _ _ _ c.loop-entry-test.false ∙ c.loop-entry.invariant
-
-pub modulo-requires-in-loop-entry : goal.modulo-requires-in-loop-entry
-modulo-requires-in-loop-entry = free

@@ -14,26 +14,23 @@ run-last-requires c =
 pub told-requires : goal.told-requires
 told-requires c = c.requires.2
 
-pub shape_of-reply : goal.shape_of-reply
-shape_of-reply c = c.run.auto.1.1.1.1.1.0
-
 pub shape_of-cache-in-Opened : goal.shape_of-cache-in-Opened
-shape_of-cache-in-Opened c = c.run.auto.1.1.1.1.1.1.0 ∙ c.«open».auto.1.1.1.1.0
+shape_of-cache-in-Opened c = c.run-last.auto.cache ∙ c.open-opened.auto.cache
 
 pub shape_of-work-in-Opened : goal.shape_of-work-in-Opened
-shape_of-work-in-Opened c = c.run.auto.1.1.1.1.1.1.1.0 ∙ c.«open».auto.1.1.1.1.1.0
+shape_of-work-in-Opened c = c.run-last.auto.work ∙ c.open-opened.auto.work
 
 pub shape_of-warm-in-Opened : goal.shape_of-warm-in-Opened
-shape_of-warm-in-Opened c = c.run.auto.1.1.1.1.1.1.1.1.0 ∙ c.«open».auto.1.1.1.1.1.1.0
+shape_of-warm-in-Opened c = c.run-last.auto.warm ∙ c.open-opened.auto.warm
 
 pub returns-in-Opened : goal.returns-in-Opened
 returns-in-Opened c =
     let a = c.args in is_opened_lem a.input.now a.counts.now a.observations.now a.cache.now a.work.now a.warm.now a.results.now (written 0 a.out.now)
-    c.settings.ensures
-    c.«open».ensures c.opening.given.1 c.run.ensures c.told.ensures
+    c.settings-setup.ensures
+    c.open-opened.ensures c.in-Opened.is c.run-last.ensures c.told.ensures
 
 pub returns-in-Refused : goal.returns-in-Refused
 returns-in-Refused c =
     let a = c.args in not_opened a.input.now a.counts.now a.observations.now a.cache.now a.work.now a.warm.now a.results.now
-    (written 0 a.out.now) c.settings.ensures c.open-opened.ensures
-    c.opening-in-Refused-1.given.1 c.refused.ensures
+    (written 0 a.out.now) c.settings-setup.ensures c.open-opened.ensures
+    c.in-Refused.is c.refused.ensures

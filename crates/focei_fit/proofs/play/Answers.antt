@@ -29,7 +29,7 @@ shape_of-results-in-Finished c = c.loop-left.invariant.5
 pub returns-in-Finished : goal.returns-in-Finished
 returns-in-Finished c =
     let a = c.args in let l = c.loop-left in play_finished a.input.now
-    a.counts.now a.observations.now l.left (called l.at l.cache l.work l.warm l.results) c.loop-left-test.true c.enum_told-1.given.1 ∙ l.invariant.0
+    a.counts.now a.observations.now l.left (called l.at l.cache l.work l.warm l.results) c.loop-left-test.true c.in-Finished.is ∙ l.invariant.0
 
 pub shape_of-reply-in-Refused : goal.shape_of-reply-in-Refused
 shape_of-reply-in-Refused c = c.loop-left.invariant.1
@@ -49,14 +49,14 @@ shape_of-results-in-Refused c = c.loop-left.invariant.5
 pub returns-in-Refused : goal.returns-in-Refused
 returns-in-Refused c =
     let a = c.args in let l = c.loop-left in play_refused a.input.now
-    a.counts.now a.observations.now l.left (called l.at l.cache l.work l.warm l.results) c.loop-left-test.true c.enum_told-in-Refused-1.given.1 ∙ l.invariant.0
+    a.counts.now a.observations.now l.left (called l.at l.cache l.work l.warm l.results) c.loop-left-test.true c.in-Refused.is ∙ l.invariant.0
 
 pub loop-left-preserved : goal.loop-left-preserved
 loop-left-preserved c =
-    let a = c.args in let l = c.loop-left in let kept = c.answer-at.auto in (
+    let a = c.args in let l = c.loop-left in let kept = c.answer-at.auto.input in (
   play_asked a.input.now a.counts.now a.observations.now l.left (called l.at l.cache l.work l.warm l.results)
       c.loop-left-test.true
-      c.step-1.given.1
+      c.in-Asked.is
       c.answer-at.ensures ∙ l.inv.0,
   kept.1.1.1.1.1.0 ∙ l.inv.1,
   kept.1.1.1.1.1.1.0 ∙ l.inv.2,

@@ -11,7 +11,7 @@ pub loop-subject-preserved : goal.loop-subject-preserved
 loop-subject-preserved c =
     (
   counts_step _ _ _ _ c.loop-subject-test.true c.count.ensures c.word-end.ensures ∙ c.loop-subject.invariant.0,
-  c.word-end.auto.0 ∙ c.loop-subject.invariant.1,
+  c.word-end.auto.out ∙ c.loop-subject.invariant.1,
 )
 
 pub shape_of-out : goal.shape_of-out

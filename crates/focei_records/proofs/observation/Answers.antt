@@ -4,7 +4,7 @@ use Rattle.std.proofs.Common.{◌∙◌}
 use Rattle.focei_records.proofs.observation.Goals as goal
 
 pub shape_of-out : goal.shape_of-out
-shape_of-out c = c.word.auto.0 ∙ c.word-additive.auto.0 ∙ c.word-value.auto.0 ∙ c.word-place.auto.0 ∙ c.word-output.auto.0
+shape_of-out c = c.word.auto.out ∙ c.word-additive.auto.out ∙ c.word-value.auto.out ∙ c.word-place.auto.out ∙ c.word-output.auto.out
 
 pub returns : goal.returns
 returns c =

@@ -11,7 +11,7 @@ pub loop-i-preserved : goal.loop-i-preserved
 loop-i-preserved c =
     (
   observations_step _ _ _ _ c.loop-i-test.true c.observation-end.ensures ∙ c.loop-i.invariant.0,
-  c.observation-end.auto.1.1.0 ∙ c.loop-i.invariant.1,
+  c.observation-end.auto.out ∙ c.loop-i.invariant.1,
 )
 
 pub shape_of-out : goal.shape_of-out

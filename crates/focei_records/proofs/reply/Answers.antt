@@ -16,7 +16,7 @@ pub loop-left-preserved : goal.loop-left-preserved
 loop-left-preserved c =
     (
   reply_step _ _ _ _ _ c.loop-left-test.true c.if-records-i.false c.row-end.ensures ∙ c.loop-left.invariant.0,
-  c.row-end.auto.1.1.1.0 ∙ c.loop-left.invariant.1,
+  c.row-end.auto.out ∙ c.loop-left.invariant.1,
 )
 
 pub shape_of-out : goal.shape_of-out

@@ -4,7 +4,7 @@ use Rattle.std.proofs.Common.{◌∙◌}
 use Rattle.focei_records.proofs.row.Goals as goal
 
 pub shape_of-out : goal.shape_of-out
-shape_of-out c = c.word.auto.0 ∙ c.word-value.auto.0 ∙ c.word-side.auto.0 ∙ c.word-time.auto.0
+shape_of-out c = c.word.auto.out ∙ c.word-value.auto.out ∙ c.word-side.auto.out ∙ c.word-time.auto.out
 
 pub returns : goal.returns
 returns c =

@@ -21,7 +21,7 @@ loop-subject-preserved c =
     let low = few_rows _ _ c.rows_of-rows.ensures in (
   all_step _ _ _ _ _ _ c.loop-subject-test.true
       c.rows_of-rows.ensures c.fitted_lines-end.ensures ∙ c.loop-subject.invariant.0,
-  c.fitted_lines-end.auto.0 ∙ c.loop-subject.invariant.1,
+  c.fitted_lines-end.auto.out ∙ c.loop-subject.invariant.1,
   omega arith,
 )
 

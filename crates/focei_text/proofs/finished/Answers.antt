@@ -10,7 +10,7 @@ pub all_fitted-fits-requires : goal.all_fitted-fits-requires
 all_fitted-fits-requires c = few_subjects _ c.subjects_of-subjects.ensures
 
 pub shape_of-out : goal.shape_of-out
-shape_of-out c = c.shrinkage_line.auto.0 ∙ c.all_fitted-fits.auto.0 ∙ c.subject_lines-etas.auto.0 ∙ c.objective_line-first.auto.0
+shape_of-out c = c.shrinkage_line.auto.out ∙ c.all_fitted-fits.auto.out ∙ c.subject_lines-etas.auto.out ∙ c.objective_line-first.auto.out
 
 pub returns : goal.returns
 returns c =

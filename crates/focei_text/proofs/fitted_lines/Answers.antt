@@ -12,7 +12,7 @@ loop-i-preserved c =
     (
   fitted_step _ _ _ _ _ _ c.loop-i-test.true c.read-population.ensures
       c.read-individual.ensures c.fitted_line-end.ensures ∙ c.loop-i.invariant.0,
-  c.fitted_line-end.auto.0 ∙ c.loop-i.invariant.1,
+  c.fitted_line-end.auto.out ∙ c.loop-i.invariant.1,
   omega arith,
 )
 

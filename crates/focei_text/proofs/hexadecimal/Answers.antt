@@ -13,7 +13,7 @@ pub loop-left-preserved : goal.loop-left-preserved
 loop-left-preserved c =
     (
   hex_step _ _ _ c.loop-left-test.true c.glyph.ensures c.byte-end.ensures ∙ c.loop-left.invariant.0,
-  c.byte-end.auto.0 ∙ c.loop-left.invariant.1,
+  c.byte-end.auto.out ∙ c.loop-left.invariant.1,
   omega arith,
 )
 

@@ -4,7 +4,7 @@ use Rattle.std.proofs.Common.{◌∙◌}
 use Rattle.focei_text.proofs.refused.Goals as goal
 
 pub shape_of-out : goal.shape_of-out
-shape_of-out c = c.byte.auto.0 ∙ c.observation_field-observation.auto.0 ∙ c.subject_field-subject.auto.0 ∙ c.decimal_field-numbered.auto.0 ∙ c.byte-letter.auto.0
+shape_of-out c = c.byte.auto.out ∙ c.observation_field-observation.auto.out ∙ c.subject_field-subject.auto.out ∙ c.decimal_field-numbered.auto.out ∙ c.byte-letter.auto.out
 
 pub returns : goal.returns
 returns c =

@@ -11,7 +11,7 @@ pub loop-subject-preserved : goal.loop-subject-preserved
 loop-subject-preserved c =
     (
   subjects_step _ _ _ _ c.loop-subject-test.true c.read.ensures c.subject_line-end.ensures ∙ c.loop-subject.invariant.0,
-  c.subject_line-end.auto.0 ∙ c.loop-subject.invariant.1,
+  c.subject_line-end.auto.out ∙ c.loop-subject.invariant.1,
 )
 
 pub shape_of-out : goal.shape_of-out

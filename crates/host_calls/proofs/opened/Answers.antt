@@ -1,18 +1,14 @@
 -- `opened` meets its contract: each case by its law. Assumes nothing.
-use Rattle.float64.proofs.Laws.{free}
 use Rattle.host_calls.proofs.Paths.{opens_told, refused_told}
 use Rattle.host_calls.proofs.opened.Goals as goal
 
 pub returns-in-Opened : goal.returns-in-Opened
 returns-in-Opened c =
     opens_told c.args.begun c.args.state.now
-    c.args.answer.now c.opening-1.given.1 c.write_answer.ensures
+    c.args.answer.now c.in-Opened.is c.write_answer.ensures
     c.save.ensures
 
 pub returns-in-Refused : goal.returns-in-Refused
 returns-in-Refused c =
     refused_told c.args.begun c.args.state.now c.args.answer.now
-    c.opening-in-Refused-1.given.1 c.place_words.ensures c.write_answer-in-Refused.ensures
-
-pub write_answer-requires-in-Refused : goal.write_answer-requires-in-Refused
-write_answer-requires-in-Refused = free
+    c.in-Refused.is c.place_words.ensures c.write_answer-in-Refused.ensures

@@ -3,10 +3,10 @@ use Rattle.host_calls.proofs.Paths.{nowhere_words, subject_words, observation_wo
 use Rattle.host_calls.proofs.place_words.Goals as goal
 
 pub returns-in-Nowhere : goal.returns-in-Nowhere
-returns-in-Nowhere c = nowhere_words _ c.enum_told-1.given.1
+returns-in-Nowhere c = nowhere_words _ c.in-Nowhere.is
 
 pub returns-in-Subject : goal.returns-in-Subject
-returns-in-Subject c = subject_words _ c.place-1.given.1
+returns-in-Subject c = subject_words _ c.in-Subject.is
 
 pub returns-in-Observation : goal.returns-in-Observation
-returns-in-Observation c = observation_words_lem _ c.place-in-Observation-1.given.1
+returns-in-Observation c = observation_words_lem _ c.in-Observation.is

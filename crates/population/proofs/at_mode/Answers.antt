@@ -1,6 +1,5 @@
 -- `at_mode` meets its contract: each exit by its law. Assumes nothing.
 use Rattle.std.proofs.Common.{arith}
-use Rattle.float64.proofs.Laws.{free}
 use Rattle.population.proofs.Paths.{rows_at_most, not_positive, other_grid, same_grid}
 use Rattle.population.proofs.at_mode.Goals as goal
 
@@ -9,17 +8,14 @@ overflow_cast-rows c = let most = rows_at_most _ _ c.rows_of-rows.ensures in ome
 
 pub returns-then-is_same_grid : goal.returns-then-is_same_grid
 returns-then-is_same_grid c =
-    same_grid _ _ _ _ _ _ _ c.rows-of.ensures c.closed-by.ensures c.mode.given.1 c.store-warm.ensures
-    c.is-same-grid.ensures c.if1.true c.write-result.ensures c.write-fitted.ensures
+    same_grid _ _ _ _ _ _ _ c.rows_of-rows.ensures c.closed_by.ensures c.in-Positive.is c.store_warm.ensures
+    c.is_same_grid.ensures c.if-is_same_grid.true c.write_result.ensures c.write_fitted.ensures
     c.next_subject.ensures
 
 pub returns-else-is_same_grid : goal.returns-else-is_same_grid
 returns-else-is_same_grid c =
-    other_grid _ _ _ _ _ _ _ c.rows-of.ensures c.closed-by.ensures c.mode.given.1 c.store-warm.ensures
+    other_grid _ _ _ _ _ _ _ c.rows_of-rows.ensures c.closed_by.ensures c.in-Positive.is c.store_warm.ensures
     c.is_same_grid.ensures c.if-is_same_grid.false c.refused.ensures
 
 pub returns-in-NotPositive : goal.returns-in-NotPositive
-returns-in-NotPositive c = not_positive _ _ _ _ _ _ _ c.rows_of-rows.ensures c.closed_by.ensures c.enum_told-1.given.1 c.refused-in-NotPositive.ensures
-
-pub refused-requires-in-NotPositive : goal.refused-requires-in-NotPositive
-refused-requires-in-NotPositive = free
+returns-in-NotPositive c = not_positive _ _ _ _ _ _ _ c.rows_of-rows.ensures c.closed_by.ensures c.in-NotPositive.is c.refused-in-NotPositive.ensures

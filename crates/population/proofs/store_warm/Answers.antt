@@ -1,5 +1,4 @@
 -- `store_warm` meets its contract: each exit by its law. Assumes nothing.
-use Rattle.float64.proofs.Laws.{free}
 use Rattle.population.proofs.Paths.{none_stored, two_stored, one_stored}
 use Rattle.population.proofs.store_warm.Goals as goal
 
@@ -11,9 +10,3 @@ returns-then-effects-eq2 c = two_stored _ _ _ _ c.if-effects-eq2.true c.to_word.
 
 pub returns : goal.returns
 returns c = one_stored _ _ _ _ c.if-effects-eq2.false c.to_word-2.ensures c.put-2.ensures
-
-pub to_word-requires-then-effects-eq2 : goal.to_word-requires-then-effects-eq2
-to_word-requires-then-effects-eq2 = free
-
-pub put-requires-then-effects-eq2 : goal.put-requires-then-effects-eq2
-put-requires-then-effects-eq2 = free

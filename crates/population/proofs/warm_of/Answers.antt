@@ -1,5 +1,4 @@
 -- `warm_of` meets its contract: each exit by its law. Assumes nothing.
-use Rattle.float64.proofs.Laws.{free}
 use Rattle.population.proofs.Paths.{no_warm, two_warm, one_warm}
 use Rattle.population.proofs.warm_of.Goals as goal
 
@@ -11,9 +10,3 @@ returns-then-effects-eq2 c = two_warm _ _ _ c.if-effects-eq2.true c.read.ensures
 
 pub returns : goal.returns
 returns c = one_warm _ _ _ c.if-effects-eq2.false c.read-2.ensures c.from_word-2.ensures
-
-pub read-requires-then-effects-eq2 : goal.read-requires-then-effects-eq2
-read-requires-then-effects-eq2 = free
-
-pub from_word-requires-then-effects-eq2 : goal.from_word-requires-then-effects-eq2
-from_word-requires-then-effects-eq2 = free

@@ -10,7 +10,7 @@ pub loop-i-preserved : goal.loop-i-preserved
 loop-i-preserved c =
     let so_far = c.loop-i.invariant in (
       add_next _ _ _ _ _ _ c.loop-i-test.true c.observation_at-observation.ensures c.add_observation-sums.ensures ∙ so_far.0,
-      c.add_observation-sums.auto.1.1.1.1.0 ∙ so_far.1,
+      c.add_observation-sums.auto.work ∙ so_far.1,
     )
 
 pub shape_of-work : goal.shape_of-work

@@ -5,12 +5,12 @@ use Rattle.search.proofs.is_over.Goals as goal
 
 pub returns-in-Asked : goal.returns-in-Asked
 unfolding is_over
-returns-in-Asked c = over_at c.enum_told-1.given.1
+returns-in-Asked c = over_at c.in-Asked.is
 
 pub returns-in-Finished : goal.returns-in-Finished
 unfolding is_over
-returns-in-Finished c = over_at c.enum_told-in-Finished-1.given.1
+returns-in-Finished c = over_at c.in-Finished.is
 
 pub returns-in-Refused : goal.returns-in-Refused
 unfolding is_over
-returns-in-Refused c = over_at c.enum_told-in-Refused-1.given.1
+returns-in-Refused c = over_at c.in-Refused.is

@@ -4,7 +4,7 @@ use Rattle.search.specs.Subjects.{one_of}
 use Rattle.search.proofs.one_of.Goals as goal
 
 pub returns-in-One : goal.returns-in-One
-returns-in-One c = ap one_of (sym c.search-1.given.1)
+returns-in-One c = ap one_of (sym c.in-One.is)
 
 pub returns-in-Two : goal.returns-in-Two
-returns-in-Two c = c.start.ensures ∙ ap one_of (sym c.enum_told-1.given.1)
+returns-in-Two c = c.start.ensures ∙ ap one_of (sym c.in-Two.is)

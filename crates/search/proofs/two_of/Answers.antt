@@ -4,7 +4,7 @@ use Rattle.search.specs.Subjects.{two_of}
 use Rattle.search.proofs.two_of.Goals as goal
 
 pub returns-in-One : goal.returns-in-One
-returns-in-One c = c.start.ensures ∙ ap two_of (sym c.enum_told-1.given.1)
+returns-in-One c = c.start.ensures ∙ ap two_of (sym c.in-One.is)
 
 pub returns-in-Two : goal.returns-in-Two
-returns-in-Two c = ap two_of (sym c.search-1.given.1)
+returns-in-Two c = ap two_of (sym c.in-Two.is)

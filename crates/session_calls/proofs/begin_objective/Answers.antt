@@ -1,5 +1,4 @@
 -- `begin_objective` meets its contract: each case by its law. Assumes nothing.
-use Rattle.float64.proofs.Laws.{free}
 use Rattle.machine.specs.Machine.{on}
 use Rattle.population.specs.Kept.{words}
 use Rattle.search.proofs.Fits.{own_fit}
@@ -14,7 +13,7 @@ returns-in-Accepted c =
     lets_in (λ x. run c.args.setup c.args.counts.now x) h (on (begun words c.args.setup c.args.counts.now c.args.parameters h.whole))
     (objective_enters c.args.setup c.args.counts.now c.args.observations c.args.check c.args.parameters c.args.state c.args.tally
     c.args.cache.now c.args.work.now c.args.warm.now c.args.results.now c.lent_by-lent.ensures c.admit_objective.ensures)
-    c.enum_told-1.given.1
+    c.in-Accepted.is
     (objective_starts c.args.setup c.args.counts.now c.args.observations c.args.check c.args.parameters c.args.state c.args.tally
     c.args.cache.now c.args.work.now c.args.warm.now c.args.results.now (own_fit c.args.setup c.args.parameters
     c.with_parameters-own.ensures c.fit_of-fit.ensures)
@@ -27,7 +26,7 @@ returns-in-Refused c =
     (keeps_out (λ x. run c.args.setup c.args.counts.now x) h (on (begun words c.args.setup c.args.counts.now c.args.parameters h.whole))
     (objective_enters c.args.setup c.args.counts.now c.args.observations c.args.check c.args.parameters c.args.state c.args.tally
     c.args.cache.now c.args.work.now c.args.warm.now c.args.results.now c.lent_by-lent.ensures c.admit_objective.ensures)
-    c.number-1.given.1)
+    c.in-Refused.is)
 
 pub returns-in-Unsound : goal.returns-in-Unsound
 returns-in-Unsound c =
@@ -36,7 +35,4 @@ returns-in-Unsound c =
     (unsound_out (λ x. run c.args.setup c.args.counts.now x) h (on (begun words c.args.setup c.args.counts.now c.args.parameters h.whole))
     (objective_enters c.args.setup c.args.counts.now c.args.observations c.args.check c.args.parameters c.args.state c.args.tally
     c.args.cache.now c.args.work.now c.args.warm.now c.args.results.now c.lent_by-lent.ensures c.admit_objective.ensures)
-    c.at-1.given.1)
-
-pub refused_as-requires-in-Unsound : goal.refused_as-requires-in-Unsound
-refused_as-requires-in-Unsound = free
+    c.in-Unsound.is)

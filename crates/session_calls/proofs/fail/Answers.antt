@@ -1,5 +1,4 @@
 -- `fail` meets its contract: each case by its law. Assumes nothing.
-use Rattle.float64.proofs.Laws.{free}
 use Rattle.search.specs.declared.Place.TheVariants.{Subject}
 use Rattle.population.specs.Kept.{words}
 use Rattle.session.specs.Calls.{held_of, run}
@@ -14,7 +13,7 @@ returns-in-Accepted c =
     lets_in (λ x. run c.args.setup c.args.counts.now x) h (over words 8 (Subject c.args.state.progress.subject) h)
     (failure_enters c.args.setup c.args.counts.now c.args.observations c.args.check c.args.state c.args.tally c.args.cache.now c.args.work.now
     c.args.warm.now c.args.results.now
-    c.lent_by-lent.ensures c.admit_awaited-awaited.ensures) c.enum_told-1.given.1
+    c.lent_by-lent.ensures c.admit_awaited-awaited.ensures) c.in-Accepted.is
     (ended_called _ c.args.state c.args.tally 8 (Subject c.args.state.progress.subject) c.args.cache.now c.args.work.now c.args.warm.now
     c.args.results.now e.0 e.1)
 
@@ -25,7 +24,7 @@ returns-in-Refused c =
     (keeps_out (λ x. run c.args.setup c.args.counts.now x) h (over words 8 (Subject c.args.state.progress.subject) h)
     (failure_enters c.args.setup c.args.counts.now c.args.observations c.args.check c.args.state c.args.tally c.args.cache.now c.args.work.now
     c.args.warm.now c.args.results.now
-    c.lent_by-lent.ensures c.admit_awaited-awaited.ensures) c.admission-1.given.1)
+    c.lent_by-lent.ensures c.admit_awaited-awaited.ensures) c.in-Refused.is)
 
 pub returns-in-Unsound : goal.returns-in-Unsound
 returns-in-Unsound c =
@@ -34,7 +33,4 @@ returns-in-Unsound c =
     (unsound_out (λ x. run c.args.setup c.args.counts.now x) h (over words 8 (Subject c.args.state.progress.subject) h)
     (failure_enters c.args.setup c.args.counts.now c.args.observations c.args.check c.args.state c.args.tally c.args.cache.now c.args.work.now
     c.args.warm.now c.args.results.now
-    c.lent_by-lent.ensures c.admit_awaited-awaited.ensures) c.admission-in-Unsound-1.given.1)
-
-pub refused_as-requires-in-Unsound : goal.refused_as-requires-in-Unsound
-refused_as-requires-in-Unsound = free
+    c.lent_by-lent.ensures c.admit_awaited-awaited.ensures) c.in-Unsound.is)

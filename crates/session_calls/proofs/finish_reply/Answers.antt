@@ -1,5 +1,4 @@
 -- `finish_reply` meets its contract: each case by its law. Assumes nothing.
-use Rattle.float64.proofs.Laws.{free}
 use Rattle.std.proofs.Common.{refl, ◌∙◌}
 use Rattle.session.specs.Calls.{held_of}
 use Rattle.session_calls.proofs.Paths.{refused_called, keeps_out, unsound_out, finish_enters, finish_follows}
@@ -8,19 +7,16 @@ use Rattle.session_calls.proofs.finish_reply.Goals as goal
 pub returns-in-Accepted : goal.returns-in-Accepted
 returns-in-Accepted c =
     finish_follows c.args.counts.now c.args.admitted.awaited c.args.evaluation (held_of c.args.state c.args.tally c.args.cache.now c.args.work.now
-    c.args.warm.now c.args.results.now) c.enum_told-1.given.1 c.follow.ensures
+    c.args.warm.now c.args.results.now) c.in-Accepted.is c.follow.ensures
 
 pub returns-in-Refused : goal.returns-in-Refused
 returns-in-Refused c =
     let h = held_of c.args.state c.args.tally c.args.cache.now c.args.work.now c.args.warm.now c.args.results.now in
     refused_called c.args.state c.args.tally _ _ c.args.cache.now c.args.work.now c.args.warm.now c.args.results.now c.IsRefused-as.ensures
-    (keeps_out _ h _ refl c.admission-1.given.1 ∙ finish_enters c.args.counts.now c.args.admitted.awaited c.args.evaluation h)
+    (keeps_out _ h _ refl c.in-Refused.is ∙ finish_enters c.args.counts.now c.args.admitted.awaited c.args.evaluation h)
 
 pub returns-in-Unsound : goal.returns-in-Unsound
 returns-in-Unsound c =
     let h = held_of c.args.state c.args.tally c.args.cache.now c.args.work.now c.args.warm.now c.args.results.now in
     refused_called c.args.state c.args.tally _ _ c.args.cache.now c.args.work.now c.args.warm.now c.args.results.now c.refused_as-in-Unsound.ensures
-    (unsound_out _ h _ refl c.admission-in-Unsound-1.given.1 ∙ finish_enters c.args.counts.now c.args.admitted.awaited c.args.evaluation h)
-
-pub refused_as-requires-in-Unsound : goal.refused_as-requires-in-Unsound
-refused_as-requires-in-Unsound = free
+    (unsound_out _ h _ refl c.in-Unsound.is ∙ finish_enters c.args.counts.now c.args.admitted.awaited c.args.evaluation h)

@@ -1,5 +1,4 @@
 -- `follow` meets its contract: each case by its law. Assumes nothing.
-use Rattle.float64.proofs.Laws.{free}
 use Rattle.session_calls.proofs.Paths.{follows_sums, follows_refusal, follows_refusal_at}
 use Rattle.session_calls.proofs.follow.Goals as goal
 
@@ -7,19 +6,16 @@ pub returns-in-Running : goal.returns-in-Running
 returns-in-Running c =
     follows_sums c.args.fit c.args.counts.now c.args.eta c.args.evaluation c.args.state c.args.tally c.args.cache.now c.args.work.now
     c.args.warm.now c.args.results.now
-    c.finish.ensures c.keep.result c.sums.given.1 c.keep.ensures c.run.ensures
+    c.finish.ensures c.keep-kept.result c.in-Running.is c.keep-kept.ensures c.run.ensures
 
 pub returns-in-Refused : goal.returns-in-Refused
 returns-in-Refused c =
     follows_refusal c.args.fit c.args.counts.now c.args.eta c.args.evaluation c.args.state c.args.tally c.args.cache.now c.args.work.now
     c.args.warm.now c.args.results.now
-    c.finish.ensures c.number-1.given.1 c.ended_as.ensures
+    c.finish.ensures c.in-Refused.is c.ended_as.ensures
 
 pub returns-in-RefusedAt : goal.returns-in-RefusedAt
 returns-in-RefusedAt c =
     follows_refusal_at c.args.fit c.args.counts.now c.args.eta c.args.evaluation c.args.state c.args.tally c.args.cache.now c.args.work.now
     c.args.warm.now c.args.results.now
-    c.finish.ensures c.number-in-RefusedAt-1.given.1 c.ended_as-in-RefusedAt.ensures
-
-pub ended_as-requires-in-RefusedAt : goal.ended_as-requires-in-RefusedAt
-ended_as-requires-in-RefusedAt = free
+    c.finish.ensures c.in-RefusedAt.is c.ended_as-in-RefusedAt.ensures

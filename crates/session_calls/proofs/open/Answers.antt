@@ -1,5 +1,4 @@
 -- `open` meets its contract: each case by its law. Assumes nothing.
-use Rattle.float64.proofs.Laws.{free}
 use Rattle.session_calls.proofs.Paths.{setup_opens, setup_refused, setup_unsound}
 use Rattle.session_calls.proofs.open.Goals as goal
 
@@ -8,7 +7,7 @@ returns-in-Accepted c =
     setup_opens c.args.setup c.args.counts.now c.args.observations c.args.check c.args.tally c.args.cache.now c.args.work.now
     c.args.warm.now c.args.results.now c.lent_by-lent.ensures
     c.checks.ensures
-    c.enum_told-1.given.1
+    c.in-Accepted.is
     c.clear.ensures c.clear-in-Accepted.ensures
     c.clear-in-Accepted-2.ensures c.first_state.ensures
 
@@ -16,16 +15,10 @@ pub returns-in-Refused : goal.returns-in-Refused
 returns-in-Refused c =
     setup_refused c.args.setup c.args.counts.now
     c.args.observations c.args.check c.args.tally c.args.cache.now c.args.work.now c.args.warm.now c.args.results.now
-    c.lent_by-lent.ensures c.checks.ensures c.number-1.given.1
+    c.lent_by-lent.ensures c.checks.ensures c.in-Refused.is
 
 pub returns-in-Unsound : goal.returns-in-Unsound
 returns-in-Unsound c =
     setup_unsound c.args.setup c.args.counts.now
     c.args.observations c.args.check c.args.tally c.args.cache.now c.args.work.now c.args.warm.now c.args.results.now
-    c.lent_by-lent.ensures c.checks.ensures c.at-1.given.1
-
-pub clear-requires-in-Accepted : goal.clear-requires-in-Accepted
-clear-requires-in-Accepted = free
-
-pub clear-requires-in-Accepted-2 : goal.clear-requires-in-Accepted-2
-clear-requires-in-Accepted-2 = free
+    c.lent_by-lent.ensures c.checks.ensures c.in-Unsound.is

@@ -17,9 +17,9 @@ returns-then-setup c = not_symmetric _ c.is_no_variance.ensures c.if-is_no_varia
 pub returns-in-Exists : goal.returns-in-Exists
 returns-in-Exists c =
     has_inverse _ c.is_no_variance.ensures c.if-is_no_variance.false c.if-setup-eq1.false c.is_no_variance-2.ensures c.if-is_no_variance-2.false c.if-setup.false
-    c.inverse_positive.ensures c.enum_told-1.given.1
+    c.inverse_positive.ensures c.in-Exists.is
 
 pub returns-in-None : goal.returns-in-None
 returns-in-None c =
     no_inverse_lem _ c.is_no_variance.ensures c.if-is_no_variance.false c.if-setup-eq1.false c.is_no_variance-2.ensures c.if-is_no_variance-2.false c.if-setup.false
-    c.inverse_positive.ensures c.enum_told-in-None-1.given.1
+    c.inverse_positive.ensures c.in-None.is

@@ -3,13 +3,13 @@ use Rattle.subject.proofs.Paths.{sum_overflows, sums_stand, ends_refused, ends_r
 use Rattle.subject.proofs.finish.Goals as goal
 
 pub returns-then-has_nonfinite_sum : goal.returns-then-has_nonfinite_sum
-returns-then-has_nonfinite_sum c = sum_overflows c.evaluation-1.given.1 c.has_nonfinite_sum.ensures c.if-has_nonfinite_sum.true
+returns-then-has_nonfinite_sum c = sum_overflows c.in-Running.is c.has_nonfinite_sum.ensures c.if-has_nonfinite_sum.true
 
 pub returns-else-has_nonfinite_sum : goal.returns-else-has_nonfinite_sum
-returns-else-has_nonfinite_sum c = sums_stand c.evaluation-1.given.1 c.has_nonfinite_sum.ensures c.if-has_nonfinite_sum.false
+returns-else-has_nonfinite_sum c = sums_stand c.in-Running.is c.has_nonfinite_sum.ensures c.if-has_nonfinite_sum.false
 
 pub returns-in-Refused : goal.returns-in-Refused
-returns-in-Refused c = ends_refused c.evaluation-in-Refused-1.given.1
+returns-in-Refused c = ends_refused c.in-Refused.is
 
 pub returns-in-RefusedAt : goal.returns-in-RefusedAt
-returns-in-RefusedAt c = ends_refused_at c.evaluation-in-RefusedAt-1.given.1
+returns-in-RefusedAt c = ends_refused_at c.in-RefusedAt.is

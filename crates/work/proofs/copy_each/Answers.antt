@@ -9,8 +9,8 @@ loop-i-init c = (simp (sub-zero, add-zero), refl)
 
 pub loop-i-preserved : goal.loop-i-preserved
 loop-i-preserved c =
-    let so_far = c.loop.invariant in
-    (copy_step _ _ _ _ _ c.loop-test.true c.read-word.ensures c.put.ensures ∙ so_far.0, c.put.auto.0 ∙ so_far.1)
+    let so_far = c.loop-i.invariant in
+    (copy_step _ _ _ _ _ c.loop-i-test.true c.read-word.ensures c.put.ensures ∙ so_far.0, c.put.auto.words ∙ so_far.1)
 
 pub shape_of-work : goal.shape_of-work
 shape_of-work c = c.loop-i.invariant.1

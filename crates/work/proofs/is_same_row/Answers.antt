@@ -1,5 +1,4 @@
 -- `is_same_row` meets its contract: each exit by its law. Assumes nothing.
-use Rattle.float64.proofs.Laws.{free}
 use Rattle.work.proofs.Paths.{same_time, other_time}
 use Rattle.work.proofs.is_same_row.Goals as goal
 
@@ -12,9 +11,3 @@ pub returns : goal.returns
 returns c =
     other_time _ _ _ c.read.ensures c.from_word-time.ensures c.read-2.ensures c.from_word-other.ensures
     c.if-time-other.false
-
-pub read-requires-then-time-other : goal.read-requires-then-time-other
-read-requires-then-time-other = free
-
-pub read-requires-then-time-other-2 : goal.read-requires-then-time-other-2
-read-requires-then-time-other-2 = free

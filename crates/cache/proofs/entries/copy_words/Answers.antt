@@ -22,13 +22,10 @@ copy_run-requires c =
     let m = below c.before.before in
     (omega (arith, m, c.if-n-left.true, c.requires.3), omega (arith, c.requires.4))
 
-pub shape_of-out-then-n-left : goal.shape_of-out-then-n-left
-shape_of-out-then-n-left c = c.copy_run.auto.1.1.1.0
-
 pub returns-then-n-left : goal.returns-then-n-left
 returns-then-n-left c =
     let m = c.modulo-at.ensures in
-    in_one_run _ _ _ _ _ _ c.requires.0 c.entry_IsPlace.ensures.0 c.read.ensures c.number-first.ensures
+    in_one_run _ _ _ _ _ _ c.requires.0 c.entry_place.ensures.0 c.read.ensures c.number-first.ensures
     (rw m at c.if-n-left.true) (rw m at c.copy_run.ensures)
 
 pub overflow_add-base-2 : goal.overflow_add-base-2
@@ -42,14 +39,14 @@ copy_run-requires-2 c =
 pub copy_run-requires-3 : goal.copy_run-requires-3
 copy_run-requires-3 c =
     let m = below c.before.before.before.before.before.before in
-    (omega (arith, m, c.requires.2, c.requires.3), omega (arith, m, c.requires.4, c.copy_run-2.auto.1.1.1.0, c.if-n-left.false))
+    (omega (arith, m, c.requires.2, c.requires.3), omega (arith, m, c.requires.4, c.copy_run-2.auto.out, c.if-n-left.false))
 
 pub shape_of-out : goal.shape_of-out
-shape_of-out c = c.copy_run-3.auto.1.1.1.0 ∙ c.copy_run-2.auto.1.1.1.0
+shape_of-out c = c.copy_run-3.auto.out ∙ c.copy_run-2.auto.out
 
 pub returns : goal.returns
 returns c =
     let m = c.modulo-at.ensures in
-    in_two_runs _ _ _ _ _ _ c.requires.0 c.entry_IsPlace.ensures.0 c.read.ensures c.number-first.ensures c.requires.2
+    in_two_runs _ _ _ _ _ _ c.requires.0 c.entry_place.ensures.0 c.read.ensures c.number-first.ensures c.requires.2
     (rw m at c.if-n-left.false) (rw m at c.copy_run-2.ensures)
     (rw m at c.copy_run-3.ensures)

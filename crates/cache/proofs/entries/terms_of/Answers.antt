@@ -20,7 +20,7 @@ returns-then-is_room c =
       c.read-score1.ensures,
       c.read-score0.ensures,
       c.read-nll.ensures,
-      c.entry_IsPlace.ensures.0,
+      c.entry_place-at.ensures.0,
     ))
 
 pub returns : goal.returns

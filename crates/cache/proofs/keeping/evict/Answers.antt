@@ -12,7 +12,7 @@ returns-then-less-room c = evict_fits _ _ _ _ _ _ _ c.loop-oldest-test.true c.le
 pub loop-oldest-preserved : goal.loop-oldest-preserved
 loop-oldest-preserved c =
     evict_more _ _ _ _ _ _ _ c.loop-oldest-test.true c.less.ensures c.if-less-room.false
-    c.entry_IsPlace.ensures.0 c.read.ensures c.number-n.ensures c.raised-first_row.ensures
+    c.entry_place.ensures.0 c.read.ensures c.number-n.ensures c.raised-first_row.ensures
     ∙ c.loop-oldest.invariant
 
 pub returns : goal.returns

@@ -18,7 +18,7 @@ loop-i-preserved c =
     let so_far = c.loop-i.invariant in (
       put_step _ _ _ _ _ _ _ _ c.loop-i-test.true so_far.1 c.read.ensures c.put.ensures ∙ so_far.0,
       round _ _ _ so_far.1 c.onward-at.ensures,
-      c.put.auto.0 ∙ so_far.2,
+      c.put.auto.words ∙ so_far.2,
     )
 
 pub shape_of-words : goal.shape_of-words

@@ -7,11 +7,11 @@ use Rattle.curlewstand_calls.proofs.figures.curlewstand_shrinkage.Goals as goal
 pub returns-in-Given : goal.returns-in-Given
 unfolding told number_of or_old
 returns-in-Given c =
-    let found = sym (ap told c.value-1.given.1) ∙ c.shrinkage_from.ensures in
+    let found = sym (ap told c.in-Given.is) ∙ c.shrinkage_from.ensures in
     (ap number_of found, ap (or_old _) found)
 
 pub returns-in-None : goal.returns-in-None
 unfolding told number_of or_old
 returns-in-None c =
-    let found = sym (ap told c.enum_told-1.given.1) ∙ c.shrinkage_from.ensures in
+    let found = sym (ap told c.in-None.is) ∙ c.shrinkage_from.ensures in
     (ap number_of found, ap (or_old _) found)

@@ -8,7 +8,7 @@ returns-in-Given c =
     objective_given (setup_of c.args.setup) c.args.counts.now c.args.observations c.args.check
     c.args.tally c.args.state.now c.args.answer.now c.args.cache.now c.args.work.now c.args.warm.now c.args.results.now
     c.load.ensures
-    (parameters_of c.args.parameters) c.at-1.given.1 c.setup_of.ensures.0
+    (parameters_of c.args.parameters) c.in-Given.is c.setup_of.ensures.0
     c.parameters_of.ensures.0
     c.begin_objective-begun.ensures c.told.ensures
 
@@ -16,5 +16,5 @@ pub returns-in-None : goal.returns-in-None
 returns-in-None c =
     objective_none (setup_of c.args.setup)
     c.args.counts.now c.args.observations c.args.check c.args.tally c.args.state.now c.args.answer.now c.args.cache.now c.args.work.now c.args.warm.now
-    c.args.results.now c.load.ensures (parameters_of c.args.parameters) c.enum_told-1.given.1
+    c.args.results.now c.load.ensures (parameters_of c.args.parameters) c.in-None.is
     c.no_state.ensures

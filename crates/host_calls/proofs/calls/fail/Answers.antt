@@ -6,7 +6,7 @@ use Rattle.host_calls.proofs.calls.fail.Goals as goal
 pub returns-in-Given : goal.returns-in-Given
 returns-in-Given c =
     failure_given (setup_of c.args.setup) c.args.counts.now c.args.observations c.args.check c.args.tally c.args.state.now c.args.answer.now
-    c.args.cache.now c.args.work.now c.args.warm.now c.args.results.now c.load.ensures c.at-1.given.1
+    c.args.cache.now c.args.work.now c.args.warm.now c.args.results.now c.load.ensures c.in-Given.is
     c.setup_of.ensures.0
     c.fail-failed.ensures c.told.ensures
 
@@ -14,4 +14,4 @@ pub returns-in-None : goal.returns-in-None
 returns-in-None c =
     failure_none (setup_of c.args.setup)
     c.args.counts.now c.args.observations c.args.check c.args.tally c.args.state.now c.args.answer.now c.args.cache.now c.args.work.now c.args.warm.now
-    c.args.results.now c.load.ensures c.enum_told-1.given.1 c.no_state.ensures
+    c.args.results.now c.load.ensures c.in-None.is c.no_state.ensures

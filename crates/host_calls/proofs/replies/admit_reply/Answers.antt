@@ -1,6 +1,5 @@
 -- `admit_reply` meets its contract: each case by its law. Assumes nothing.
 use Rattle.std.proofs.Common.{refl}
-use Rattle.float64.proofs.Laws.{free}
 use Rattle.host_calls.specs.Hosting.{setup_of, admit_with}
 use Rattle.host_calls.proofs.Paths.{of_given, of_none}
 use Rattle.host_calls.proofs.replies.admit_reply.Goals as goal
@@ -10,7 +9,7 @@ unfolding admit_with
 returns-in-Given c =
     let d = c.args in (
       of_given d.state.now c.load.ensures (admit_with (setup_of d.setup) d.counts.now d.lent d.check d.tally d.reply.now)
-          c.at-1.given.1 (rw (← c.setup_of.ensures.0) c.admit_reply.ensures),
+          c.in-Given.is (rw (← c.setup_of.ensures.0) c.admit_reply.ensures),
       refl,
     )
 
@@ -19,9 +18,6 @@ unfolding admit_with
 returns-in-None c =
     let d = c.args in (
       of_none d.state.now c.load.ensures (admit_with (setup_of d.setup) d.counts.now d.lent d.check d.tally d.reply.now)
-          c.enum_told-1.given.1 (rw (← c.setup_of-in-None.ensures.0) c.unadmitted.ensures),
+          c.in-None.is (rw (← c.setup_of-in-None.ensures.0) c.unadmitted.ensures),
       refl,
     )
-
-pub setup_of-requires-in-None : goal.setup_of-requires-in-None
-setup_of-requires-in-None = free

@@ -10,7 +10,7 @@ unfolding admit_subject_with
 returns-in-Given c =
     let d = c.args in (
       of_given d.state.now c.load.ensures (admit_subject_with (setup_of d.setup) d.counts.now d.lent d.check d.tally d.reply.now)
-          c.at-1.given.1 (rw (← c.setup_of-own.ensures.0) c.admit_subject_reply.ensures),
+          c.in-Given.is (rw (← c.setup_of-own.ensures.0) c.admit_subject_reply.ensures),
       refl,
     )
 
@@ -19,6 +19,6 @@ unfolding admit_subject_with
 returns-in-None c =
     let d = c.args in (
       of_none d.state.now c.load.ensures (admit_subject_with (setup_of d.setup) d.counts.now d.lent d.check d.tally d.reply.now)
-          c.enum_told-1.given.1 (rw (← c.setup_of.ensures.0) c.unadmitted.ensures),
+          c.in-None.is (rw (← c.setup_of.ensures.0) c.unadmitted.ensures),
       refl,
     )

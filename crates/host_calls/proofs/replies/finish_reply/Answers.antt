@@ -6,10 +6,10 @@ pub returns-in-Given : goal.returns-in-Given
 returns-in-Given c =
     finish_given c.args.counts.now c.args.admitted.awaited c.args.evaluation c.args.tally
     c.args.state.now c.args.answer.now c.args.cache.now c.args.work.now c.args.warm.now c.args.results.now
-    c.load.ensures c.at-1.given.1 c.finish_reply-finished.ensures c.told.ensures
+    c.load.ensures c.in-Given.is c.finish_reply-finished.ensures c.told.ensures
 
 pub returns-in-None : goal.returns-in-None
 returns-in-None c =
     finish_none c.args.counts.now c.args.admitted.awaited c.args.evaluation c.args.tally
     c.args.state.now c.args.answer.now c.args.cache.now c.args.work.now c.args.warm.now c.args.results.now
-    c.load.ensures c.enum_told-1.given.1 c.no_state.ensures
+    c.load.ensures c.in-None.is c.no_state.ensures

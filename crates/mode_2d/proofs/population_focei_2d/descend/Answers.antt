@@ -7,8 +7,8 @@ try_from-requires c = c.requires
 
 pub returns-in-Exists : goal.returns-in-Exists
 returns-in-Exists c =
-    goes_down _ _ _ _ c.curvature-curvature.ensures c.inverse_positive.ensures c.det-1.given.1 c.inverse.ensures c.step_by-step.ensures
+    goes_down _ _ _ _ c.curvature-curvature.ensures c.inverse_positive.ensures c.in-Exists.is c.inverse.ensures c.step_by-step.ensures
     c.try_from.ensures
 
 pub returns-in-None : goal.returns-in-None
-returns-in-None c = no_inverse_lem _ _ _ _ c.curvature-curvature.ensures c.inverse_positive.ensures c.enum_told-1.given.1
+returns-in-None c = no_inverse_lem _ _ _ _ c.curvature-curvature.ensures c.inverse_positive.ensures c.in-None.is

@@ -1,7 +1,6 @@
 -- `population_focei_2d::finish` meets its contract: each exit by the tests that lead there. Assumes nothing.
 use borrow.Author.Tests.{lt-ltb, le-ltb}
 use Rattle.float64.specs.Pick.{yes, no, yes_of, no_of}
-use Rattle.float64.proofs.Laws.{free}
 use Rattle.mode_2d.specs.Rules.{finish}
 use Rattle.mode_2d.proofs.population_focei_2d.finish.Goals as goal
 
@@ -30,9 +29,3 @@ returns c =
     (no_of _ c.is_unresolved.ensures c.if-is_unresolved.false
     (no_of _ c.is_far.ensures c.if-is_far.false
     (no _ (le-ltb _ _ c.if-seed-lt5.false) c.between-2.ensures)))
-
-pub between-requires-then-is_far : goal.between-requires-then-is_far
-between-requires-then-is_far = free
-
-pub between-requires-then-seed-lt5 : goal.between-requires-then-seed-lt5
-between-requires-then-seed-lt5 = free

@@ -6,12 +6,12 @@ use Rattle.population.proofs.kept_points.eta_of.Goals as goal
 
 pub returns-in-Point : goal.returns-in-Point
 unfolding eta_of
-returns-in-Point c = eta_at c.wanted-1.given.1 refl
+returns-in-Point c = eta_at c.in-Point.is refl
 
 pub returns-in-Mode : goal.returns-in-Mode
 unfolding eta_of
-returns-in-Mode c = eta_at c.enum_told-1.given.1 refl
+returns-in-Mode c = eta_at c.in-Mode.is refl
 
 pub returns-in-Refused : goal.returns-in-Refused
 unfolding eta_of
-returns-in-Refused c = eta_at c.enum_told-in-Refused-1.given.1 refl
+returns-in-Refused c = eta_at c.in-Refused.is refl

@@ -6,12 +6,12 @@ use Rattle.population.proofs.kept_points.is_over.Goals as goal
 
 pub returns-in-Point : goal.returns-in-Point
 unfolding is_over
-returns-in-Point c = over_at _ c.enum_told-1.given.1 refl
+returns-in-Point c = over_at _ c.in-Point.is refl
 
 pub returns-in-Mode : goal.returns-in-Mode
 unfolding is_over
-returns-in-Mode c = over_at _ c.enum_told-in-Mode-1.given.1 refl
+returns-in-Mode c = over_at _ c.in-Mode.is refl
 
 pub returns-in-Refused : goal.returns-in-Refused
 unfolding is_over
-returns-in-Refused c = over_at _ c.enum_told-in-Refused-1.given.1 refl
+returns-in-Refused c = over_at _ c.in-Refused.is refl

@@ -10,13 +10,13 @@ kept-init c = (refl, refl)
 pub overflow_sub-left : goal.overflow_sub-left
 overflow_sub-left c =
     one_left _ _ _ _ _ c.is_over-over.ensures c.eta_of-at.ensures c.kept_at.ensures
-    c.slot-1.given.1
+    c.in-At.is
 
 pub kept-smaller : goal.kept-smaller
 kept-smaller c =
     let h = one_left _ _ _ _ _ c.is_over-over.ensures
     c.eta_of-at.ensures c.kept_at.ensures
-    c.slot-1.given.1 in omega arith
+    c.in-At.is in omega arith
 
 pub kept-preserved : goal.kept-preserved
 unfolding with_search
@@ -25,17 +25,17 @@ kept-preserved c =
     let wanted = two_wanted c.args.fit c.args.rows c.args.start c.requires c.settings_2d-settings.ensures _ c.wanted_2d-wanted.ensures in (
       goes_on _ _ _ _ _ _ _ taken wanted c.is_over-over.ensures
           c.eta_of-at.ensures c.kept_at.ensures
-          c.slot-1.given.1 c.recall_rows.ensures c.recall.ensures ∙ c.kept.invariant.0,
-      c.recall_rows.auto.1.1.1.1.0 ∙ c.take_2d-search.auto.1.1.1.1.0 ∙ c.kept.invariant.1,
+          c.in-At.is c.recall_rows.ensures c.recall.ensures ∙ c.kept.invariant.0,
+      c.recall_rows.auto.work ∙ c.take_2d-search.auto.work ∙ c.kept.invariant.1,
     )
 
 pub shape_of-work : goal.shape_of-work
-shape_of-work c = c.take_2d-search.auto.1.1.1.1.0 ∙ c.kept.invariant.1
+shape_of-work c = c.take_2d-search.auto.work ∙ c.kept.invariant.1
 
 pub returns : goal.returns
 unfolding with_search
 returns c =
     let taken = two_taken c.args.fit c.args.rows c.args.start c.requires c.settings_2d-settings.ensures _ _ _ c.take_2d-search.ensures in
     let wanted = two_wanted c.args.fit c.args.rows c.args.start c.requires c.settings_2d-settings.ensures _ c.wanted_2d-wanted.ensures in
-    stops _ _ _ _ _ _ _ taken wanted c.is_over-over.ensures c.eta_of-at.ensures c.kept_at.ensures c.enum_told-1.given.1 ∙
+    stops _ _ _ _ _ _ _ taken wanted c.is_over-over.ensures c.eta_of-at.ensures c.kept_at.ensures c.in-Nothing.is ∙
     c.kept.invariant.0 ∙ from_two _ _ _ _ _ _ _ c.requires c.two_of-search.ensures

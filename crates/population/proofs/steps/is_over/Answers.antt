@@ -3,7 +3,7 @@ use Rattle.population.proofs.StepsPaths.{goes_on, halts}
 use Rattle.population.proofs.steps.is_over.Goals as goal
 
 pub returns-in-On : goal.returns-in-On
-returns-in-On c = goes_on c.enum_told-1.given.1
+returns-in-On c = goes_on c.in-On.is
 
 pub returns-in-Halt : goal.returns-in-Halt
-returns-in-Halt c = halts c.turned-1.given.1 c.is_over.ensures
+returns-in-Halt c = halts c.in-Halt.is c.is_over.ensures

@@ -4,8 +4,8 @@ use Rattle.search.proofs.objective.closed_2d.Goals as goal
 
 pub returns-in-Exists : goal.returns-in-Exists
 returns-in-Exists c =
-    closes_two _ _ _ c.curvature-curvature.ensures c.inverse_positive.ensures c.det_curvature-1.given.1 c.array_of-precision.ensures c.product.ensures
+    closes_two _ _ _ c.curvature-curvature.ensures c.inverse_positive.ensures c.in-Exists.is c.array_of-precision.ensures c.product.ensures
     c.dot.ensures c.log.ensures
 
 pub returns-in-None : goal.returns-in-None
-returns-in-None c = not_positive _ _ _ c.curvature-curvature.ensures c.inverse_positive.ensures c.enum_told-1.given.1
+returns-in-None c = not_positive _ _ _ c.curvature-curvature.ensures c.inverse_positive.ensures c.in-None.is

@@ -6,19 +6,19 @@ use Rattle.search.proofs.points.current_source.Goals as goal
 
 pub returns-in-Zero : goal.returns-in-Zero
 unfolding current_at
-returns-in-Zero c = current_at_lem _ _ _ c.enum_told-1.given.1 refl
+returns-in-Zero c = current_at_lem _ _ _ c.in-Zero.is refl
 
 pub returns-in-Start : goal.returns-in-Start
 unfolding current_at
-returns-in-Start c = current_at_lem _ _ _ c.enum_told-in-Start-1.given.1 refl
+returns-in-Start c = current_at_lem _ _ _ c.in-Start.is refl
 
 pub returns-in-Trial : goal.returns-in-Trial
-returns-in-Trial c = current_taken _ _ _ c.enum_told-in-Trial-1.given.1 c.is_taken-taken.ensures c.select.ensures
+returns-in-Trial c = current_taken _ _ _ c.in-Trial.is c.is_taken-taken.ensures c.select.ensures
 
 pub returns-in-Found : goal.returns-in-Found
 unfolding current_at
-returns-in-Found c = current_at_lem _ _ _ c.enum_told-in-Found-1.given.1 refl
+returns-in-Found c = current_at_lem _ _ _ c.in-Found.is refl
 
 pub returns-in-Halted : goal.returns-in-Halted
 unfolding current_at
-returns-in-Halted c = current_at_lem _ _ _ c.enum_told-in-Halted-1.given.1 refl
+returns-in-Halted c = current_at_lem _ _ _ c.in-Halted.is refl

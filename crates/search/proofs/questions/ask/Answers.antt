@@ -6,10 +6,10 @@ pub counted-raised-requires : goal.counted-raised-requires
 counted-raised-requires c = room_to_count c.if-tally-fit.true c.struct_known-2-1.given.1.1.1.1.1.1.1.1.1.0
 
 pub returns-in-Valid : goal.returns-in-Valid
-returns-in-Valid c = valid_values _ _ _ _ c.if-tally-fit.true c.counted-raised.ensures c.individual_values.ensures c.individual-1.given.1 c.awaiting.ensures
+returns-in-Valid c = valid_values _ _ _ _ c.if-tally-fit.true c.counted-raised.ensures c.individual_values.ensures c.in-Valid.is c.awaiting.ensures
 
 pub returns-in-Invalid : goal.returns-in-Invalid
-returns-in-Invalid c = invalid_values _ _ _ _ c.if-tally-fit.true c.counted-raised.ensures c.individual_values.ensures c.enum_told-1.given.1 c.refused.ensures
+returns-in-Invalid c = invalid_values _ _ _ _ c.if-tally-fit.true c.counted-raised.ensures c.individual_values.ensures c.in-Invalid.is c.refused.ensures
 
 pub returns : goal.returns
 returns c = none_left _ _ _ _ c.if-tally-fit.false c.refused-2.ensures

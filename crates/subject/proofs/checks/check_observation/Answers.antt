@@ -3,7 +3,7 @@ use Rattle.subject.proofs.ChecksPaths.{after_sound, after_unsound}
 use Rattle.subject.proofs.checks.check_observation.Goals as goal
 
 pub returns-in-Sound : goal.returns-in-Sound
-returns-in-Sound c = after_sound _ _ _ c.check-1.given.1 c.check_at.ensures
+returns-in-Sound c = after_sound _ _ _ c.in-Sound.is c.check_at.ensures
 
 pub returns-in-Unsound : goal.returns-in-Unsound
-returns-in-Unsound c = after_unsound _ _ _ c.check-in-Unsound-1.given.1
+returns-in-Unsound c = after_unsound _ _ _ c.in-Unsound.is

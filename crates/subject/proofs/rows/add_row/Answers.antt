@@ -3,10 +3,10 @@ use Rattle.subject.proofs.Turns.{terms_added, no_variance, overflows}
 use Rattle.subject.proofs.rows.add_row.Goals as goal
 
 pub returns-in-Terms : goal.returns-in-Terms
-returns-in-Terms c = terms_added _ _ _ _ _ c.row_terms.ensures c.terms-1.given.1 c.with_terms.ensures
+returns-in-Terms c = terms_added _ _ _ _ _ c.row_terms.ensures c.in-Terms.is c.with_terms.ensures
 
 pub returns-in-InvalidVariance : goal.returns-in-InvalidVariance
-returns-in-InvalidVariance c = no_variance _ _ _ _ _ c.row_terms.ensures c.enum_told-1.given.1
+returns-in-InvalidVariance c = no_variance _ _ _ _ _ c.row_terms.ensures c.in-InvalidVariance.is
 
 pub returns-in-Overflow : goal.returns-in-Overflow
-returns-in-Overflow c = overflows _ _ _ _ _ c.row_terms.ensures c.enum_told-in-Overflow-1.given.1
+returns-in-Overflow c = overflows _ _ _ _ _ c.row_terms.ensures c.in-Overflow.is

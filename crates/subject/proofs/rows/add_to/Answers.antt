@@ -3,13 +3,16 @@ use Rattle.subject.proofs.RowsPaths.{row_says, row_missing, row_taken}
 use Rattle.subject.proofs.rows.add_to.Goals as goal
 
 pub prediction_row-row-requires : goal.prediction_row-row-requires
-prediction_row-row-requires c = row_says _ _ _ _ _ c.row_at.ensures c.at-1.given.1
+prediction_row-row-requires c = row_says _ _ _ _ _ c.row_at.ensures c.in-Word.is
 
 pub add_row_at-requires : goal.add_row_at-requires
-add_row_at-requires c = row_says _ _ _ _ _ c.row_at.ensures c.at-1.given.1
+add_row_at-requires c =
+    
+    let asked = row_says _ _ _ _ _ c.row_at.ensures c.in-Word.is in
+    record { at_in_bounds = asked.0; output_lt_width = asked.1 }
 
 pub returns-in-Word : goal.returns-in-Word
-returns-in-Word c = row_taken _ _ _ _ _ c.row_at.ensures c.at-1.given.1 c.prediction_row-row.ensures c.write_row.ensures c.add_row_at.ensures
+returns-in-Word c = row_taken _ _ _ _ _ c.row_at.ensures c.in-Word.is c.prediction_row-row.ensures c.write_row.ensures c.add_row_at.ensures
 
 pub returns-in-Missing : goal.returns-in-Missing
-returns-in-Missing c = row_missing _ _ _ _ _ c.row_at.ensures c.enum_told-1.given.1
+returns-in-Missing c = row_missing _ _ _ _ _ c.row_at.ensures c.in-Missing.is

@@ -6,8 +6,8 @@ use Rattle.subject.proofs.rows.additive_of.Goals as goal
 
 pub returns-in-Own : goal.returns-in-Own
 unfolding additive_of
-returns-in-Own c = ap (λ (a : AdditiveSd). additive_of a c.args.observation) (sym c.enum_told-1.given.1)
+returns-in-Own c = ap (λ (a : AdditiveSd). additive_of a c.args.observation) (sym c.in-Own.is)
 
 pub returns-in-Override : goal.returns-in-Override
 unfolding additive_of
-returns-in-Override c = ap (λ (a : AdditiveSd). additive_of a c.args.observation) (sym c.additive_sd-1.given.1)
+returns-in-Override c = ap (λ (a : AdditiveSd). additive_of a c.args.observation) (sym c.in-Override.is)

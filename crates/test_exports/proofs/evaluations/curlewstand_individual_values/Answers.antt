@@ -3,7 +3,7 @@ use Rattle.test_exports.proofs.EvaluationsPaths.{values_written, no_values}
 use Rattle.test_exports.proofs.evaluations.curlewstand_individual_values.Goals as goal
 
 pub returns-in-Valid : goal.returns-in-Valid
-returns-in-Valid c = values_written _ _ _ _ c.pair_of-typical.ensures c.pair_of-effect.ensures c.individual_values.ensures c.values-1.given.1
+returns-in-Valid c = values_written _ _ _ _ c.pair_of-typical.ensures c.pair_of-effect.ensures c.individual_values.ensures c.in-Valid.is
 
 pub returns-in-Invalid : goal.returns-in-Invalid
-returns-in-Invalid c = no_values _ _ _ _ c.pair_of-typical.ensures c.pair_of-effect.ensures c.individual_values.ensures c.enum_told-1.given.1
+returns-in-Invalid c = no_values _ _ _ _ c.pair_of-typical.ensures c.pair_of-effect.ensures c.individual_values.ensures c.in-Invalid.is

@@ -5,7 +5,7 @@ use Rattle.test_exports.specs.Evaluations.{sums_written}
 use Rattle.test_exports.proofs.evaluations.write_sums.Goals as goal
 
 pub shape_of-out : goal.shape_of-out
-shape_of-out c = c.put-7.auto.0 ∙ c.put-6.auto.0 ∙ c.put-5.auto.0 ∙ c.put-4.auto.0 ∙ c.put-3.auto.0 ∙ c.put-2.auto.0 ∙ c.put.auto.0
+shape_of-out c = c.put-7.auto.words ∙ c.put-6.auto.words ∙ c.put-5.auto.words ∙ c.put-4.auto.words ∙ c.put-3.auto.words ∙ c.put-2.auto.words ∙ c.put.auto.words
 
 pub returns : goal.returns
 unfolding sums_written

@@ -3,7 +3,7 @@ use Rattle.test_exports.proofs.KeptPaths.{found_at, found_nothing}
 use Rattle.test_exports.proofs.kept.curlewstand_cache_find.Goals as goal
 
 pub returns-in-At : goal.returns-in-At
-returns-in-At c = found_at c.order_of-at.ensures c.key_of-wanted.ensures _ _ c.find.ensures _ c.place-1.given.1
+returns-in-At c = found_at c.order_of-at.ensures c.key_of-wanted.ensures _ _ c.find.ensures _ c.in-At.is
 
 pub returns-in-Nothing : goal.returns-in-Nothing
-returns-in-Nothing c = found_nothing c.order_of-at.ensures c.key_of-wanted.ensures _ _ c.find.ensures _ c.enum_told-1.given.1
+returns-in-Nothing c = found_nothing c.order_of-at.ensures c.key_of-wanted.ensures _ _ c.find.ensures _ c.in-Nothing.is

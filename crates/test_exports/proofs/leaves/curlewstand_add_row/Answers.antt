@@ -8,7 +8,7 @@ use Rattle.test_exports.proofs.leaves.curlewstand_add_row.Goals as goal
 pub returns-in-Valid : goal.returns-in-Valid
 unfolding answer observation_of number_of added add_row
 returns-in-Valid c =
-    let found = sym (ap answer c.variance-1.given.1) ∙ c.row_variance.ensures in
+    let found = sym (ap answer c.in-Valid.is) ∙ c.row_variance.ensures in
     let row = c.scaled_row-row.ensures in (
       ap number_of found,
       rw (c.add_nll.ensures, c.add_score-next_score.ensures, c.add_information-next_information.ensures, row) (ap (added _ _ _ _) found),
@@ -17,5 +17,5 @@ returns-in-Valid c =
 pub returns-in-Invalid : goal.returns-in-Invalid
 unfolding answer observation_of number_of added add_row
 returns-in-Invalid c =
-    let found = sym (ap answer c.enum_told-1.given.1) ∙ c.row_variance.ensures in
+    let found = sym (ap answer c.in-Invalid.is) ∙ c.row_variance.ensures in
     (ap number_of found, ap (added _ _ _ _) found)

@@ -7,11 +7,11 @@ use Rattle.test_exports.proofs.leaves.curlewstand_inverse_positive.Goals as goal
 pub returns-in-Exists : goal.returns-in-Exists
 unfolding answer exists inverse_or det_or
 returns-in-Exists c =
-    let found = sym (ap (answer _) c.d-1.given.1) ∙ c.inverse_positive.ensures in
+    let found = sym (ap (answer _) c.in-Exists.is) ∙ c.inverse_positive.ensures in
     (ap exists found, (c.inverse-i.ensures ∙ ap (inverse_or _) found, ap (det_or _) found))
 
 pub returns-in-None : goal.returns-in-None
 unfolding answer exists inverse_or det_or
 returns-in-None c =
-    let found = sym (ap (answer _) c.enum_told-1.given.1) ∙ c.inverse_positive.ensures in
+    let found = sym (ap (answer _) c.in-None.is) ∙ c.inverse_positive.ensures in
     (ap exists found, (ap (inverse_or _) found, ap (det_or _) found))

@@ -8,17 +8,17 @@ use Rattle.test_exports.proofs.leaves.curlewstand_row_terms.Goals as goal
 pub returns-in-Terms : goal.returns-in-Terms
 unfolding answer observation_of number_of terms_or
 returns-in-Terms c =
-    let found = sym (ap answer c.t-1.given.1) ∙ c.row_terms.ensures in
+    let found = sym (ap answer c.in-Terms.is) ∙ c.row_terms.ensures in
     (ap number_of found, ap (terms_or _) found)
 
 pub returns-in-InvalidVariance : goal.returns-in-InvalidVariance
 unfolding answer observation_of number_of terms_or
 returns-in-InvalidVariance c =
-    let found = sym (ap answer c.enum_told-1.given.1) ∙ c.row_terms.ensures in
+    let found = sym (ap answer c.in-InvalidVariance.is) ∙ c.row_terms.ensures in
     (ap number_of found, ap (terms_or _) found)
 
 pub returns-in-Overflow : goal.returns-in-Overflow
 unfolding answer observation_of number_of terms_or
 returns-in-Overflow c =
-    let found = sym (ap answer c.enum_told-in-Overflow-1.given.1) ∙ c.row_terms.ensures in
+    let found = sym (ap answer c.in-Overflow.is) ∙ c.row_terms.ensures in
     (ap number_of found, ap (terms_or _) found)

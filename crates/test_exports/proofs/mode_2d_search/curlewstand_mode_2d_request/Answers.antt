@@ -6,15 +6,15 @@ use Rattle.test_exports.proofs.mode_2d_search.curlewstand_mode_2d_request.Goals 
 
 pub returns-in-Point : goal.returns-in-Point
 unfolding request_number point_or
-returns-in-Point c = request_given _ c.load.ensures c.settings_of-settings.ensures _ c.x-1.given.1 (sym c.p-1.given.1 ∙ c.request.ensures)
+returns-in-Point c = request_given _ c.load.ensures c.settings_of-settings.ensures _ c.in-Given.is (sym c.in-Point.is ∙ c.request.ensures)
 
 pub returns-in-Mode : goal.returns-in-Mode
 unfolding request_number point_or
-returns-in-Mode c = request_given _ c.load.ensures c.settings_of-settings.ensures _ c.x-1.given.1 (sym c.enum_told-1.given.1 ∙ c.request.ensures)
+returns-in-Mode c = request_given _ c.load.ensures c.settings_of-settings.ensures _ c.in-Given.is (sym c.in-Mode.is ∙ c.request.ensures)
 
 pub returns-in-Refused : goal.returns-in-Refused
 unfolding request_number point_or
-returns-in-Refused c = request_given _ c.load.ensures c.settings_of-settings.ensures _ c.x-1.given.1 (sym c.number-1.given.1 ∙ c.request.ensures)
+returns-in-Refused c = request_given _ c.load.ensures c.settings_of-settings.ensures _ c.in-Given.is (sym c.in-Refused.is ∙ c.request.ensures)
 
 pub returns-in-None : goal.returns-in-None
-returns-in-None c = request_none _ c.load.ensures c.enum_told-in-None-1.given.1 _ _
+returns-in-None c = request_none _ c.load.ensures c.in-None.is _ _

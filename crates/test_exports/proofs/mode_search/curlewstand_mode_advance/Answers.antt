@@ -8,11 +8,11 @@ use Rattle.test_exports.proofs.mode_search.curlewstand_mode_advance.Goals as goa
 pub returns-in-Given : goal.returns-in-Given
 unfolding answer through advanced number_of or_old
 returns-in-Given c =
-    let found = ap (through (next _ _)) (sym (ap answer c.x-1.given.1) ∙ c.load.ensures) in
+    let found = ap (through (next _ _)) (sym (ap answer c.in-Given.is) ∙ c.load.ensures) in
     (ap number_of found, c.save-next.ensures ∙ ap saved c.advance.ensures ∙ ap (or_old _) found)
 
 pub returns-in-None : goal.returns-in-None
 unfolding answer through advanced number_of or_old
 returns-in-None c =
-    let found = ap (through (next _ _)) (sym (ap answer c.enum_told-1.given.1) ∙ c.load.ensures) in
+    let found = ap (through (next _ _)) (sym (ap answer c.in-None.is) ∙ c.load.ensures) in
     (ap number_of found, ap (or_old _) found)

@@ -1,7 +1,6 @@
 -- `write_fitted` meets its contract: each turn by its law. Assumes nothing.
 use Rattle.std.proofs.Common.{rules, refl, ◌∙◌}
 use native.Mathlib.Nat.{sub-zero}
-use Rattle.float64.proofs.Laws.{free}
 use Rattle.work.specs.Work.{block, fitted_at}
 use Rattle.work.proofs.ResultsPaths.{fitted_end, fitted_step, fitted}
 use Rattle.work.proofs.results.write_fitted.Goals as goal
@@ -36,7 +35,7 @@ loop-i-preserved c =
       fitted_step _ _ _ _ _ _ c.loop-i-test.true c.block-population.ensures c.block-best.ensures c.read.ensures c.put.ensures c.read-in-loop-i.ensures
           c.put-in-loop-i.ensures
           ∙ so_far.0,
-      c.put-in-loop-i.auto.0 ∙ c.put.auto.0 ∙ so_far.1,
+      c.put-in-loop-i.auto.words ∙ c.put.auto.words ∙ so_far.1,
     )
 
 pub shape_of-results : goal.shape_of-results
@@ -44,9 +43,3 @@ shape_of-results c = c.loop-i.invariant.1
 
 pub returns : goal.returns
 returns c = fitted _ _ _ _ _ c.smaller-n.ensures c.fitted_at-at.ensures (fitted_end _ _ _ _ _ _ c.loop-i-test.false ∙ c.loop-i.invariant.0)
-
-pub read-requires-in-loop-i : goal.read-requires-in-loop-i
-read-requires-in-loop-i = free
-
-pub put-requires-in-loop-i : goal.put-requires-in-loop-i
-put-requires-in-loop-i = free

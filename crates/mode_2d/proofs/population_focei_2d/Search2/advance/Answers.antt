@@ -4,10 +4,10 @@ use Rattle.mode_2d.proofs.Paths.{advanced}
 use Rattle.mode_2d.proofs.population_focei_2d.Search2.advance.Goals as goal
 
 pub returns-in-FirstStart : goal.returns-in-FirstStart
-returns-in-FirstStart c = advanced _ _ _ c.turn_after.ensures c.enum_told-1.given.1 c.between.ensures
+returns-in-FirstStart c = advanced _ _ _ c.turn_after.ensures c.in-FirstStart.is c.between.ensures
 
 pub returns-in-Rounds : goal.returns-in-Rounds
-returns-in-Rounds c = advanced _ _ _ c.turn_after.ensures c.round-1.given.1 c.go_on.ensures
+returns-in-Rounds c = advanced _ _ _ c.turn_after.ensures c.in-Rounds.is c.go_on.ensures
 
 pub returns-in-Ended : goal.returns-in-Ended
-returns-in-Ended c = advanced _ _ _ c.turn_after.ensures c.enum_told-in-Ended-1.given.1 refl
+returns-in-Ended c = advanced _ _ _ c.turn_after.ensures c.in-Ended.is refl
