@@ -232,7 +232,7 @@ module _ (l : Lending) (I : Inner) (Q : Suits I l.setup.effects) (f : FitsSetup 
       }
 
   words_tell : (h : Held words) → Sound h → FitsState (state_of h)
-  words_tell h s = state_fits l.setup l.counts l.observations (lent l) a h s.goes (let w = s.stands.warm-fits in record { first = w.first; second = w.second }) s.fits
+  words_tell h s = state_fits l.setup l.counts l.observations (lent l) a h s.goes (let w = s.stands.warm_fits in record { first = w.first; second = w.second }) s.fits
 
   -- ---- one deed more
   record Stood (m : Lends) (xs : List (Act (M l))) : Type 0 where
