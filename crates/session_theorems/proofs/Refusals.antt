@@ -555,7 +555,7 @@ module _ (l : Lending) (x : Exported) where
 -- ---- the requests are never used up: of the numbers nothing is asked
 module _ (setup : Setup) (counts : List ℕ) where
   anything : (most c : ℕ) → Tells (λ n. Unit) (λ n place k. Unit) most c
-  anything most c = record { known = λ n a b. tt; ended = λ n i a. tt; limit = λ i l. tt; wild = λ i l. tt; mode = λ n i a b. tt; total = tt }
+  anything m c = record { known = λ n a b. tt; ended = λ n i a. tt; limit = λ i l. tt; wild = λ i l. tt; mode = λ n i a b. tt; total = tt }
 
   stands_so : length counts ≤ 4096 → (n : ℕ) (h : Held words) → is_placed setup.effects counts n h.whole.progress ≡ true
       → Going (λ n. Unit) (λ n place k. Unit) setup counts (length h.whole.work) h.whole.tally.calls.0 h.whole.tally.cached_rows.0 (anything _ _) fuel h
