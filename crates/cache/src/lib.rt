@@ -11,6 +11,7 @@
 // Here are the types, and how an entry is found; `entries` reads what was found, and `keeping` adds an entry.
 // Each public function is defined for all words and numbers.
 #![tactic(auto)]
+
 ghost use Rattle.std.specs.Prelude.{◌≡◌, ◌+◌, ◌-◌, ◌%◌, ◌<◌, ◌≤◌, length};
 ghost use Rattle.cache.specs.Cache.{half, part, hash, head_of, has_bit, is_room, is_same, is_at, walk, entry_place, copy_run, find};
 

@@ -16,7 +16,7 @@ use lib.Ieee.Nearest.{closest, nearest-ge}
 use lib.Ieee.Order.{drop, kept}
 use lib.Ieee.Positive.{den, den_pos}
 use lib.Ieee.Scale.{finite, round_same, grid, overflow, round_val, round_under}
-use Rattle.float64.proofs.Order.{P, M, plus, less, le→cross, cross→le, le_trans, neg_neg, neg_plus, neg_less, neg_den}
+use Rattle.float64.proofs.Order.{P, M, plus, less, le→cross, cross→le, neg_neg, neg_plus, neg_less, neg_den}
 use Rattle.float64.proofs.Rounding.{Rounded, add_rounded, mul_rounded, round_neg, value_plus, value_less, value_finite}
 
 -- how many of the smallest values are 1

@@ -2,6 +2,7 @@
 // alone, and the setup of one objective. `checks` has 1 to 5 in their order. Each function is defined for all
 // values.
 #![tactic(auto)]
+
 ghost use Rattle.std.specs.Prelude.{◌≡◌};
 ghost use Rattle.setup.specs.Admission.{is_beyond, is_no_variance, is_no_omega, is_no_override, is_no_tolerance, is_no_shape, with_parameters};
 

@@ -7,6 +7,7 @@
 // A reply is whole rows of words: time, side (0 pre, any other post), `width` values, then `width`
 // derivatives for each effect.
 #![tactic(auto)]
+
 ghost use Rattle.std.specs.Prelude.{◌≡◌};
 ghost use Rattle.subject.specs.Reply.{output_values, row_length};
 ghost use Rattle.subject.specs.Subject.{additive_sd, answer, individual, is_no_individual, individual_values, begin};

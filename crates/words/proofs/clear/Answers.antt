@@ -1,6 +1,5 @@
 -- `clear` meets its contract: the words before word i are 0. Assumes nothing.
 use Rattle.std.proofs.Common.{rules, refl, arith}
-use Prim.Native.Nat.{◌-◌}
 use lib.ListN.{length-set}
 use Rattle.words.proofs.Paths.{none_cleared, one_cleared, all_cleared}
 use Rattle.words.proofs.clear.Goals as goal

@@ -1,11 +1,11 @@
 -- `count_observations` meets its contract: each turn and each exit by its law. Assumes nothing.
 use Rattle.std.proofs.Common.{rules, refl, ◌∙◌, arith}
 use borrow.Author.Tests.{lt-ltb, le-ltb}
-use mathlib.Core.Logic.{⊎_elim}
 use Rattle.float64.specs.Pick.{yes, no}
 use Rattle.setup.specs.Admission.{count_observations}
 use Rattle.setup.proofs.Paths.{all_counted, counts_none, counts_too_many, counts_on}
 use Rattle.setup.proofs.checks.count_observations.Goals as goal
+use Rattle.setup.proofs.checks.count_observations.Goals.{then-largest-count, else-largest-count}
 
 pub loop-i-init : goal.loop-i-init
 loop-i-init c = (refl, search rules)
@@ -20,9 +20,15 @@ returns-then-total-count c = counts_too_many _ _ _ _ c.loop-i-test.true c.if-cou
 
 pub loop-i-preserved : goal.loop-i-preserved
 loop-i-preserved c =
-    let so_far = c.loop-i.invariant in
-    let largest = ⊎_elim (λ w. yes _ (lt-ltb _ _ w.0.taken) w.1) (λ w. no _ (le-ltb _ _ w.0.left) w.1) c.if-largest-count.branch in
-    (counts_on _ _ _ _ c.loop-i-test.true c.if-count-eq0.false c.if-total-count.false largest ∙ so_far.0, omega arith)
+    let so_far = c.loop-i.invariant in (
+      counts_on _ _ _ _ c.loop-i-test.true c.if-count-eq0.false c.if-total-count.false
+          (elim c.if-largest-count.branch [
+            | then-largest-count w ↦ yes _ (lt-ltb _ _ w.if-largest-count.true) w.largest-is
+            | else-largest-count w ↦ no _ (le-ltb _ _ w.if-largest-count.false) w.largest-is
+          ])
+          ∙ so_far.0,
+      omega arith,
+    )
 
 pub returns : goal.returns
 unfolding count_observations

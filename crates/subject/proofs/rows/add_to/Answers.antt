@@ -3,11 +3,12 @@ use Rattle.subject.proofs.RowsPaths.{row_says, row_missing, row_taken}
 use Rattle.subject.proofs.rows.add_to.Goals as goal
 
 pub prediction_row-row-requires : goal.prediction_row-row-requires
-prediction_row-row-requires c = row_says _ _ _ _ _ c.row_at.ensures c.in-Word.is
+prediction_row-row-requires c =
+    let asked = row_says _ _ _ _ _ c.row_at.ensures c.in-Word.is in
+    record { at_in_bounds = asked.0; output_lt_width = asked.1 }
 
 pub add_row_at-requires : goal.add_row_at-requires
 add_row_at-requires c =
-    
     let asked = row_says _ _ _ _ _ c.row_at.ensures c.in-Word.is in
     record { at_in_bounds = asked.0; output_lt_width = asked.1 }
 

@@ -5,13 +5,13 @@ use Rattle.subject.specs.Reply.{column}
 use Rattle.subject.proofs.rows.column.Goals as goal
 
 pub overflow_mul-width : goal.overflow_mul-width
-overflow_mul-width c = omega (arith, last_block c.args.width c.args.block c.requires.block_bound.0)
+overflow_mul-width c = omega (arith, last_block c.args.width c.args.block c.requires.block_bound)
 
 pub overflow_add-at-2 : goal.overflow_add-at-2
-overflow_add-at-2 c = omega (arith, last_block c.args.width c.args.block c.requires.block_bound.0)
+overflow_add-at-2 c = omega (arith, last_block c.args.width c.args.block c.requires.block_bound)
 
 pub overflow_add-at-3 : goal.overflow_add-at-3
-overflow_add-at-3 c = omega (arith, last_block c.args.width c.args.block c.requires.block_bound.0)
+overflow_add-at-3 c = omega (arith, last_block c.args.width c.args.block c.requires.block_bound)
 
 pub returns : goal.returns
 unfolding column

@@ -5,7 +5,7 @@ use Rattle.subject.proofs.rows.with_row.Goals as goal
 
 pub returns : goal.returns
 unfolding with_row
-returns c = rw (c.wrapping_add_usize.ensures, c.matrix_of.ensures, c.add_nll.ensures, c.add_information-information.ensures, c.array_of.ensures, c.add_score-score.ensures)
+returns c = rw (c.wrapping_add_usize.ensures.value, c.matrix_of.ensures, c.add_nll.ensures, c.add_information-information.ensures, c.array_of.ensures, c.add_score-score.ensures)
 
 pub bounds-score-0 : goal.bounds-score-0
 bounds-score-0 = at_0

@@ -4,4 +4,4 @@ use Rattle.subject.proofs.rows.with_terms.Goals as goal
 
 pub returns : goal.returns
 unfolding with_terms
-returns c = rw c.wrapping_add_usize.ensures
+returns c = rw c.wrapping_add_usize.ensures.value
