@@ -184,6 +184,7 @@ fn number_of(step: Step) -> u32
 }
 
 // Whether this is the number of a refusal that alters nothing: 1 to 5 or 19.
+#[tactic(auto, unfolding(crate::specs::Hosting::is_unaltered, float64::specs::Pick::pick))]
 fn is_unaltered(number: u32) -> bool
     ensures { result ≡ is_unaltered number }
 {
