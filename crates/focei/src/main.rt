@@ -1,11 +1,14 @@
 // Document 01's program: reads records from standard input and writes what `focei_fit::focei` makes of them.
-// Only reading and writing are outside the proof.
-use libc::{STDIN_FILENO, STDOUT_FILENO};
+// Only reading and writing are outside the proof: one that fails ends the program with its error.
+#![tactic(auto)]
 
-fn main() {
-    let mut input = [0u8; focei_fit::INPUT_BYTES];
-    let mut out = [0u8; focei_fit::LONGEST_TEXT];
-    let got = io::read_full(STDIN_FILENO, &mut input);
-    let length = focei_fit::focei(&input, got, &mut out);
-    io::write_all(STDOUT_FILENO, &out[..length]);
+use std::io;
+use std::io::Write;
+
+fn main(rt: HostRuntime) -> io::Result<()> {
+    let mut records = [0u8; focei_fit::INPUT_BYTES];
+    let mut text = [0u8; focei_fit::LONGEST_TEXT];
+    let got = input::read_full(&mut rt.stdin(), &mut records)?;
+    let length = focei_fit::focei(&records, got, &mut text);
+    rt.stdout().write_all(&text[..length])
 }

@@ -1,8 +1,7 @@
 -- The ways through the code: one law for each, over plain variables. Assumes nothing.
 use mathlib.Core.Path.{◌≡◌, refl, sym, ap, ◌∙◌}
-use mathlib.Core.Bool.{true, false}
-use mathlib.Core.List.{List, [], ◌∷◌, ◌++◌}
-use Prim.Native.Nat.{ℕ, zero, suc, ◌+◌, ◌-◌, ◌*◌, ◌/◌, ◌%◌, ◌≤◌, ◌<◌}
+use mathlib.Core.List.{List, [], ◌∷◌}
+use Prim.Native.Nat.{ℕ, suc, ◌+◌, ◌-◌, ◌/◌, ◌%◌, ◌≤◌, ◌<◌}
 use native.Mathlib.Nat.{add-zero, add_assoc}
 use native.Mathlib.Omega.{arith}
 use borrow.Author.Tests.{lt-ltb, le-ltb, eq-eqb, ne_eqb}
@@ -12,7 +11,7 @@ use lib.ListN.{length}
 use Rattle.float64.specs.Answer.{Answer}
 use Rattle.float64.specs.Arithmetic.{◌+ᶠ◌, ◌*ᶠ◌, word}
 use Rattle.float64.specs.Pick.{pick, yes, no}
-use Rattle.words.specs.Written.{Written, written, write}
+use Rattle.words.specs.Written.{Written, write}
 use Rattle.words.proofs.Front.{write_append}
 use Rattle.focei_records.specs.declared.Cohort.TheVariants.{Subjects, Refused}
 use Rattle.focei_records.specs.Records.{records, subject_at, reserved_at, float_at, answer, cohort_from, cohort, count_from, counts_from, counts, observation_at, observations_from, observations}

@@ -3,6 +3,7 @@
 // subjects, the observations in words, and the simulator over base and slope. Each public function is defined
 // for all bytes and numbers.
 #![tactic(auto)]
+
 ghost use Rattle.std.specs.Prelude.{◌≡◌, ◌+◌, ◌*◌, ◌/◌, ◌≤◌, ◌<◌, length};
 ghost use Rattle.words.specs.Written.{written, write};
 ghost use Rattle.focei_records.specs.Records.{half_at, word_at, subject_at, reserved_at, float_at, count_from, counts, observation_at};

@@ -423,16 +423,16 @@ module _ (R : Rules) (K : Claims R) (P : Proved R K) (M : Machine) (Y : View R M
   set_between : (w : M.Host) (s : M.State) (xs : List (Searched R)) → Between s xs → Between (set M w s) xs
   unfolding set
   set_between w s xs b = cases (λ (t : M.State). Between t xs) (M.awaits s) (λ e. b) (λ e. record {
-    sound = W.writes-sound w s b.sound;
+    sound = W.writes_sound w s b.sound;
     all = b.all;
-    chain = rw (W.writes-tally w s) b.chain;
-    awaiting = λ q. let i = W.writes-awaits w s in let z : ◌≡◌ {A = ℕ} 0 1 = cc in absurd (omega arith);
+    chain = rw (W.writes_tally w s) b.chain;
+    awaiting = λ q. let i = W.writes_awaits w s in let z : ◌≡◌ {A = ℕ} 0 1 = cc in absurd (omega arith);
     idle = λ q. b.idle e;
   })
 
   set_tally : (w : M.Host) (s : M.State) → Y.evaluations (set M w s) ≡ Y.evaluations s
   unfolding set
-  set_tally w s = cases (λ (t : M.State). Y.evaluations t ≡ Y.evaluations s) (M.awaits s) (λ e. refl) (λ e. W.writes-tally w s)
+  set_tally w s = cases (λ (t : M.State). Y.evaluations t ≡ Y.evaluations s) (M.awaits s) (λ e. refl) (λ e. W.writes_tally w s)
 
   runs : (s : M.State) (acts : List (Act M)) (xs : List (Searched R)) → Between s xs → Whole (Y.evaluations s) xs (run M s acts) (log R M Y s acts)
   unfolding run log read counts

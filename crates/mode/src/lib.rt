@@ -1,4 +1,5 @@
 // The search for a subject's conditional mode with one effect, as rules: what is asked next, and what an
 // evaluated point makes of the search. The module is the search of the source file of its name.
 #![tactic(auto)]
+
 pub mod population_focei;

@@ -2,6 +2,7 @@
 // after the other, and the tally, which is copied out before a call decides anything and written back after
 // it. Each public function is defined for all values and words.
 #![tactic(auto)]
+
 ghost use Rattle.std.specs.Prelude.{◌≡◌, ◌<◌, ◌-◌, length, take, drop};
 ghost use Rattle.subject.specs.Subject.{evaluating, add_observations};
 ghost use Rattle.words.specs.Words.{smaller};

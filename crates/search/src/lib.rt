@@ -3,6 +3,7 @@
 // search wants and what an evaluated point makes of it, `questions` the key of an evaluation and the question
 // for it, `objective` what a mode adds to the objective. Each function is defined for all values.
 #![tactic(auto)]
+
 ghost use Rattle.std.specs.Prelude.{◌≡◌};
 ghost use Rattle.search.specs.Subjects.{fit_with, fit2, fit_in, one_of, two_of, first_search, begin_subject, idle, refused_by, is_over};
 

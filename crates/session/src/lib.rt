@@ -3,6 +3,7 @@
 // is accepted is in `checks`. Of the observations there is what was found of them: how many there are, and
 // their check. Each function is defined for all values and words.
 #![tactic(auto)]
+
 ghost use Rattle.std.specs.Prelude.{◌≡◌, length};
 ghost use Rattle.session.specs.Calls.{lent_by, refused_as, start_of, first_state, shrinkage};
 ghost use Rattle.session.specs.Figures.{has_mode, has_finished, ceiling_of};

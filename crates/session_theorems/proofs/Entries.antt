@@ -98,7 +98,7 @@ module _ (S : Store) (setup : Setup) (counts : List ℕ) (observations : List Ob
     over : p.awaits ≡ true → (number : ℕ) → OfEvaluation number → (place : Place) → Goes c h (N.over S number place h)
     unfolding N.over B.idle B.with_search
     over t number b place = failed t refl b (record {
-      sound = still S setup counts observations I Q U h s (B.idle p) w.tally (zeros (length w.work)) w.warm w.results s.subject refl s.warm-fits (Q.pointed_idle p s.pointed)
+      sound = still S setup counts observations I Q U h s (B.idle p) w.tally (zeros (length w.work)) w.warm w.results s.subject refl s.warm_fits (Q.pointed_idle p s.pointed)
           (omega arith) s.limit (zeros_length (length w.work));
       idle = refl;
       tally = refl;
@@ -193,7 +193,7 @@ module _ (S : Store) (setup : Setup) (counts : List ℕ) (observations : List Ob
       passed = subst (λ (x : Pair). Passed x setup.effects) same_eta waits.passed
 
       eta_fits : FitsBoth eta
-      eta_fits = Q.points own r eta effects_are fits_bound s.warm-fits s.pointed e
+      eta_fits = Q.points own r eta effects_are fits_bound s.warm_fits s.pointed e
 
       long : AsLong v.work ended.work
       long = work_length trial words setup.width setup.effects setup.output_budget lists v.work
@@ -240,7 +240,7 @@ module _ (S : Store) (setup : Setup) (counts : List ℕ) (observations : List Ob
         goes : Goes (reply words) h (N.replied S counts own eta h ended.work (E.Running sums))
         unfolding N.replied receive takes
         goes = replied t
-            (subst (I.rules.Answers _) (sym given_is) (Q.answers own r eta sums effects_are (Q.domain setup h.parameters r refl bound s.omega_in s.shape_in s.warm-fits)
+            (subst (I.rules.Answers _) (sym given_is) (Q.answers own r eta sums effects_are (Q.domain setup h.parameters r refl bound s.omega_in s.shape_in s.warm_fits)
             e passed finite))
             (record {
               kept = record {
@@ -250,7 +250,7 @@ module _ (S : Store) (setup : Setup) (counts : List ℕ) (observations : List Ob
                   limit = s.limit;
                   omega_in = s.omega_in;
                   shape_in = s.shape_in;
-                  warm_fits = subst FitsBoth (sym alike.warm) s.warm-fits;
+                  warm_fits = subst FitsBoth (sym alike.warm) s.warm_fits;
                   pointed = Q.pointed_on own r eta sums effects_are fits_bound s.pointed;
                   count = suc s.count;
                   trust = trusted;

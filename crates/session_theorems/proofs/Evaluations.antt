@@ -261,7 +261,7 @@ module _ (setup : Setup) (counts : List ℕ) (observations : List Observation) (
   asks_of : (c : Call) (eta v : Pair) → (call (M setup counts observations) c h).answer ≡ Answers.Asked eta v → Values (call (M setup counts observations) c h).state.parameters.theta eta
       setup.effects v
   unfolding Good
-  asks_of c eta v e = subst (Good setup counts observations (call (M setup counts observations) c h).state) e (every c).good
+  asks_of c point v e = subst (Good setup counts observations (call (M setup counts observations) c h).state) e (every c).good
 
   set_keeps : (warm : List ℕ) (l : List Entry) → Keeping setup counts observations h l → Keeping setup counts observations (set (M setup counts observations) warm h) l
   unfolding set N.set_warm

@@ -167,7 +167,7 @@ module _ (setup : Setup) (counts : List ℕ) (observations : List Observation) (
 
   -- the point that is asked for
   point_fits : (eta : Pair) → B.wanted_by fit p ≡ Wants.Point eta → FitsPair eta
-  point_fits eta e = let f = Q.points fit p eta (fit_effects setup h.parameters) limit s.warm-fits s.pointed e in record { first = f.first; second = f.second }
+  point_fits eta e = let f = Q.points fit p eta (fit_effects setup h.parameters) limit s.warm_fits s.pointed e in record { first = f.first; second = f.second }
 
   FitsTurned : Turned → Type 0
   FitsTurned (On q) = FitsProgress q

@@ -156,14 +156,14 @@ module _ (l : Lending) where
   run_call : (s : Held words) (xs : List (Act (M l))) (c : Call) → run (M l) s (xs ++ (acts c ∷ [])) ≡ (call (M l) c (run (M l) s xs)).state
   unfolding run
   run_call s [] c = refl
-  run_call s (acts d ∷ xs) c = run_call _ xs c
-  run_call s (sets w ∷ xs) c = run_call _ xs c
+  run_call s (acts d ∷ xs) c = run_call (call (M l) d s).state xs c
+  run_call s (sets w ∷ xs) c = run_call (set (M l) w s) xs c
 
   run_set : (s : Held words) (xs : List (Act (M l))) (v : List ℕ) → run (M l) s (xs ++ (sets v ∷ [])) ≡ set (M l) v (run (M l) s xs)
   unfolding run
   run_set s [] v = refl
-  run_set s (acts d ∷ xs) v = run_set _ xs v
-  run_set s (sets w ∷ xs) v = run_set _ xs v
+  run_set s (acts d ∷ xs) v = run_set (call (M l) d s).state xs v
+  run_set s (sets w ∷ xs) v = run_set (set (M l) w s) xs v
 
 -- ---- the session, where setup let it in
 granted : (l : Lending) → FitsSetup l.setup → N.opens words l.setup l.counts l.observations (lent l) ≡ A.Accepted
@@ -232,7 +232,7 @@ module _ (l : Lending) (I : Inner) (Q : Suits I l.setup.effects) (f : FitsSetup 
       }
 
   words_tell : (h : Held words) → Sound h → FitsState (state_of h)
-  words_tell h s = state_fits l.setup l.counts l.observations (lent l) a h s.goes (let w = s.stands.warm-fits in record { first = w.first; second = w.second }) s.fits
+  words_tell h s = state_fits l.setup l.counts l.observations (lent l) a h s.goes (let w = s.stands.warm_fits in record { first = w.first; second = w.second }) s.fits
 
   -- ---- one deed more
   record Stood (m : Lends) (xs : List (Act (M l))) : Type 0 where

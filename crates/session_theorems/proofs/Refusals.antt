@@ -488,7 +488,7 @@ module _ (l : Lending) (x : Exported) where
       }
   refusals_of (asks k) = record { numbers = inl k.number; unaltered = λ v. absurd (apart _ k.number v); others = λ i. absurd (let a = k.number in let b = i.0 in omega (arith, a, b)) }
   refusals_of (finishes k) = record { numbers = inl k.number; unaltered = λ v. absurd (apart _ k.number v); others = λ i. absurd (let a = k.number in let b = i.0 in omega (arith, a, b)) }
-  refusals_of (refuses k) = record { numbers = inr (inr k.ending.number); unaltered = λ v. absurd (other _ k.ending.number v); others = λ i. (k.place, k.ending.carries, k.answer-is) }
+  refusals_of (refuses k) = record { numbers = inr (inr k.ending.number); unaltered = λ v. absurd (other _ k.ending.number v); others = λ i. (k.place, k.ending.carries, k.answer_is) }
 
   limits_of : Taken → SixOnlyAtTheLimit l x
   limits_of (stays n place u k e) =
@@ -538,24 +538,24 @@ module _ (l : Lending) (x : Exported) where
       }
   ends_of (asks k) = record {
     refusals = λ i. absurd (let a = k.number in let b = i.0 in omega (arith, a, b));
-    finished = λ i q. absurd (let z = kinds k.said k.kind k.answer-is i q in omega (arith, z));
+    finished = λ i q. absurd (let z = kinds k.said k.kind k.answer_is i q in omega (arith, z));
     asked = λ i q. k.awaits;
   }
   ends_of (finishes k) = record {
     refusals = λ i. absurd (let a = k.number in let b = i.0 in omega (arith, a, b));
-    finished = λ i q. (k.work-is, k.idle);
-    asked = λ i q. absurd (let z = kinds k.said k.kind k.answer-is i q in omega (arith, z));
+    finished = λ i q. (k.work_is, k.idle);
+    asked = λ i q. absurd (let z = kinds k.said k.kind k.answer_is i q in omega (arith, z));
   }
   ends_of (refuses k) = record {
-    refusals = λ i. (k.work-is, k.idle);
-    finished = λ i q. absurd (let z = refusal_kind o.told.done.number k.place k.answer-is i q in omega (arith, z));
-    asked = λ i q. absurd (let z = refusal_kind o.told.done.number k.place k.answer-is i q in omega (arith, z));
+    refusals = λ i. (k.work_is, k.idle);
+    finished = λ i q. absurd (let z = refusal_kind o.told.done.number k.place k.answer_is i q in omega (arith, z));
+    asked = λ i q. absurd (let z = refusal_kind o.told.done.number k.place k.answer_is i q in omega (arith, z));
   }
 
 -- ---- the requests are never used up: of the numbers nothing is asked
 module _ (setup : Setup) (counts : List ℕ) where
   anything : (most c : ℕ) → Tells (λ n. Unit) (λ n place k. Unit) most c
-  anything most c = record { known = λ n a b. tt; ended = λ n i a. tt; limit = λ i l. tt; wild = λ i l. tt; mode = λ n i a b. tt; total = tt }
+  anything m c = record { known = λ n a b. tt; ended = λ n i a. tt; limit = λ i l. tt; wild = λ i l. tt; mode = λ n i a b. tt; total = tt }
 
   stands_so : length counts ≤ 4096 → (n : ℕ) (h : Held words) → is_placed setup.effects counts n h.whole.progress ≡ true
       → Going (λ n. Unit) (λ n place k. Unit) setup counts (length h.whole.work) h.whole.tally.calls.0 h.whole.tally.cached_rows.0 (anything _ _) fuel h

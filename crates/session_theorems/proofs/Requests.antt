@@ -100,7 +100,7 @@ module _ (R : Rules) (K : Claims R) (P : Proved R K) (M : Machine) (Y : View R M
   unfolding call call_log
   answers s₀ so idle none_yet acts c i w =
       let s = run M s₀ acts in
-      let sound : Sound s = run_keeps M Sound (λ t h. after_turn R K M Y Sound t (W.turns t h (inside t h))) (λ d t h. after_entry R K M Y Sound d t h (W.enters d t h)) W.writes-sound acts s₀ so
+      let sound : Sound s = run_keeps M Sound (λ t h. after_turn R K M Y Sound t (W.turns t h (inside t h))) (λ d t h. after_entry R K M Y Sound d t h (W.enters d t h)) W.writes_sound acts s₀ so
       in
       let before = demand3 R K P M Y Sound W s₀ so idle none_yet acts in
       let after = demand3 R K P M Y Sound W s₀ so idle none_yet (one_more acts c) in

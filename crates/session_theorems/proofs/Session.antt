@@ -69,7 +69,7 @@ module _ (S : Store) (setup : Setup) (counts : List ℕ) (observations : List Ob
     limit = s.limit;
     omega_in = s.omega_in;
     shape_in = s.shape_in;
-    warm_fits = s.warm-fits;
+    warm_fits = s.warm_fits;
     pointed = s.pointed;
     count = s.count;
     trust = s.trust;

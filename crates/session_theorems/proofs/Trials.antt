@@ -56,7 +56,7 @@ module _ (R : Rules) where
     pub rows_are : trial.rows ≡ rows
 
   has_more : {ts : List (Trial R)} {c : R.Conditional} {rows : List ℕ} (t : Trial R) → Has ts c rows → Has (ts ++ (t ∷ [])) c rows
-  has_more t h = record { trial = h.trial; tried = Memᴰ.append_left (t ∷ []) h.tried; point_is = h.point-is; rows_are = h.rows_are }
+  has_more t h = record { trial = h.trial; tried = Memᴰ.append_left (t ∷ []) h.tried; point_is = h.point_is; rows_are = h.rows_are }
 
   has_last : (ts : List (Trial R)) (t : Trial R) (c : R.Conditional) (rows : List ℕ) → t.point ≡ c → t.rows ≡ rows → Has (ts ++ (t ∷ [])) c rows
   has_last ts t c rows p r = record { trial = t; tried = Memᴰ.append_right ts (Memᴰ.head refl); point_is = p; rows_are = r }

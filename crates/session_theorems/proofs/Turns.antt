@@ -140,7 +140,7 @@ module _ (S : Store) (setup : Setup) (counts : List ℕ) (observations : List Ob
     fits_bound = subst Fits (sym (fit_bound setup h.parameters)) bound
 
     domain : I.claims.Domain (I.settings_of fit p)
-    domain = Q.domain setup h.parameters p refl bound s.omega_in s.shape_in s.warm-fits
+    domain = Q.domain setup h.parameters p refl bound s.omega_in s.shape_in s.warm_fits
 
     wants_is : (v : Wanted) → B.wanted_by fit p ≡ v → wanted_at I.rules M Y h ≡ wants_of I v
     wants_is v e = sym (Q.wants fit p effects_are) ∙ ap (wants_of I) e
@@ -164,7 +164,7 @@ module _ (S : Store) (setup : Setup) (counts : List ℕ) (observations : List Ob
         (held S h.parameters (whole_of S q tally w.kept (zeros (length work)) warm results))
     over q tally work warm results same idle warmth pointed more most long = record {
       sound = still S setup counts observations I Q U h s q tally (zeros (length work)) warm results (subst (λ (i : ℕ). i < length counts) (sym same) s.subject) idle
-          (subst FitsBoth (sym warmth) s.warm-fits) pointed more most (zeros_length (length work) ∙ long);
+          (subst FitsBoth (sym warmth) s.warm_fits) pointed more most (zeros_length (length work) ∙ long);
       idle = idle;
       tally = refl;
     }
@@ -199,7 +199,7 @@ module _ (S : Store) (setup : Setup) (counts : List ℕ) (observations : List Ob
       point_is = wants_is (Wants.Point eta) e
 
       eta_fits : FitsBoth eta
-      eta_fits = Q.points fit p eta effects_are fits_bound s.warm-fits s.pointed e
+      eta_fits = Q.points fit p eta effects_are fits_bound s.warm_fits s.pointed e
 
       -- a kept evaluation
       module _ (r : Recalled) (q : recall_of S setup counts observations I Q U h eta ≡ some r) where
@@ -232,7 +232,7 @@ module _ (S : Store) (setup : Setup) (counts : List ℕ) (observations : List Ob
 
         stands_on : Stands (held S h.parameters (whole_of S after w.tally w.kept (move_rows rows (B.advance_by fit p eta sums).sources r.work) w.warm w.results))
         stands_on = still S setup counts observations I Q U h s after w.tally _ w.warm w.results (subst (λ (i : ℕ). i < length counts) (sym alike.subject) s.subject) alike.idle
-            (subst FitsBoth (sym alike.warm) s.warm-fits) (Q.pointed_on fit p eta sums effects_are fits_bound s.pointed) (omega arith) s.limit long
+            (subst FitsBoth (sym alike.warm) s.warm_fits) (Q.pointed_on fit p eta sums effects_are fits_bound s.pointed) (omega arith) s.limit long
 
         hits : Goes h (on (held S h.parameters (whole_of S after w.tally w.kept (move_rows rows (B.advance_by fit p eta sums).sources r.work) w.warm w.results)))
         hits = hit point_is (subst (I.rules.Answers _) (sym kept_is) answers) (record {
@@ -254,7 +254,7 @@ module _ (S : Store) (setup : Setup) (counts : List ℕ) (observations : List Ob
           limit = omega (arith, l);
           omega_in = s.omega_in;
           shape_in = s.shape_in;
-          warm_fits = s.warm-fits;
+          warm_fits = s.warm_fits;
           pointed = Q.pointed_wait p v s.pointed;
           count = s.count;
           trust = s.trust;

@@ -312,9 +312,9 @@ module _ (setup : Setup) (counts : List ℕ) where
 
     replied : (fit : Fit) (eta : Pair) (work : List ℕ) (e : Evaluation) → Enters (N.replied words counts fit eta h work e)
     unfolding Enters N.replied
-    replied fit eta work (E.Running sums) = record { warm = refl; results = refl }
-    replied fit eta work (E.Refused n) = over n _
-    replied fit eta work (E.RefusedAt n i) = over n _
+    replied f eta work (E.Running sums) = record { warm = refl; results = refl }
+    replied f eta work (E.Refused n) = over n _
+    replied f eta work (E.RefusedAt n i) = over n _
 
     at_wanted_lem : (n : ℕ) (go : Pair → Moved (Held words) Step) → ((eta : Pair) → Enters (go eta)) → (v : Wanted)
         → Enters (N.at_wanted words setup counts n (N.all_checked setup counts observations) h go v)

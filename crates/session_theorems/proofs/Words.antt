@@ -252,8 +252,8 @@ module _ (R : Rules) (K : Claims R) (M : Machine) (Y : View R M) (Sound : M.Stat
         leaves = rw F.spent.1 (subst (λ (i : ℕ). Stood R M Y X s i xs) (sym u.is.number) u.earlier, λ m q. let r = u.running in let z : ◌≡◌ {A = ℕ} 0 1 = cc in absurd (omega arith));
         waits = λ q. u;
       }
-      loops (suc n) o s x xs h u = turned (λ t. loop M.turn M.spent n t) (λ t. loop_log R M Y n t) (loops n) o s x xs u (W.turns s (F.sound s h) (F.inside s h)) (F.turns-hold s h)
-          (F.turns-keep s h) (F.turns-carry s h) (F.turns-close s h)
+      loops (suc n) o s x xs h u = turned (λ t. loop M.turn M.spent n t) (λ t. loop_log R M Y n t) (loops n) o s x xs u (W.turns s (F.sound s h) (F.inside s h)) (F.turns_hold s h)
+          (F.turns_keep s h) (F.turns_carry s h) (F.turns_close s h)
 
       -- ---- a call
       record Called (o : Objective R M Y) (s : M.State) (xs : List (Searched R)) (r : Outcome M) (l : List (Entry R)) : Type 0 where
@@ -331,8 +331,8 @@ module _ (R : Rules) (K : Claims R) (M : Machine) (Y : View R M) (Sound : M.Stat
       called : (c : M.Call) (s : M.State) (o : Objective R M Y) (xs : List (Searched R)) → E s → (M.awaits s ≡ true → Waiting o s xs) → Called (newer R M Y o c s) s xs (call M c s)
           (call_log R M Y c s)
       unfolding call call_log
-      called c s o xs h v = entered c s h o (newer R M Y o c s) (λ q. pick_yes _ _ _ q) (λ q. pick_no _ _ _ q) xs v (W.enters c s (F.sound s h)) (F.enters-hold c s h)
-          (F.enters_keep c s h) (F.enters-carry c s h) (F.enters-open c s h)
+      called c s o xs h v = entered c s h o (newer R M Y o c s) (λ q. pick_yes _ _ _ q) (λ q. pick_no _ _ _ q) xs v (W.enters c s (F.sound s h)) (F.enters_hold c s h)
+          (F.enters_keep c s h) (F.enters_carry c s h) (F.enters_open c s h)
 
       -- ---- any list of calls
       record Between (o : Objective R M Y) (s : M.State) (xs : List (Searched R)) : Type 0 where
@@ -342,7 +342,7 @@ module _ (R : Rules) (K : Claims R) (M : Machine) (Y : View R M) (Sound : M.Stat
       set_between : (w : M.Host) (o : Objective R M Y) (s : M.State) (xs : List (Searched R)) → Between o s xs → Between o (set M w s) xs
       unfolding set
       set_between w o s xs b = cases (λ (t : M.State). Between o t xs) (M.awaits s) (λ e. b)
-          (λ e. record { holds = F.writes-hold w s b.holds; waits = λ q. never e (sym (W.writes-awaits w s) ∙ q) })
+          (λ e. record { holds = F.writes_hold w s b.holds; waits = λ q. never e (sym (W.writes_awaits w s) ∙ q) })
 
       runs : (s : M.State) (acts : List (Act M)) (o : Objective R M Y) (xs : List (Searched R)) → Between o s xs → Between (under_way R M Y o s acts) (run M s acts) (read R xs (log R M Y s acts))
       unfolding run log read under_way

@@ -176,7 +176,7 @@ module _ (setup : Setup) (counts : List ℕ) (observations : List Observation) (
     effects_are = fit_effects setup h.parameters
 
     domain : I.claims.Domain (I.settings_of fit p)
-    domain = Q.domain setup h.parameters p refl bound s.omega_in s.shape_in s.warm-fits
+    domain = Q.domain setup h.parameters p refl bound s.omega_in s.shape_in s.warm_fits
 
     first_is : p.first ≡ before counts j
     first_is = g.place.first
@@ -287,7 +287,7 @@ module _ (setup : Setup) (counts : List ℕ) (observations : List Observation) (
         found = X.ends fit p effects_are domain wants x.trials (rows_in rows w.work) i.carries
 
         abbrev trials : Trials setup counts observations I L x best
-        trials = record { zero = found.0.trial; mode = found.1.trial; at_zero = found.0.nth; is_zero = found.0.holds; tried = found.1.tried; is = found.1.point-is }
+        trials = record { zero = found.0.trial; mode = found.1.trial; at_zero = found.0.nth; is_zero = found.0.holds; tried = found.1.tried; is = found.1.point_is }
 
         count_is : get_or counts x.subject 0 ≡ rows
         count_is = ap (λ (n : ℕ). get_or counts n 0) i.number ∙ sym rows_are

@@ -37,8 +37,8 @@ fine (suc n) g [] e k = tt
 fine (suc n) g (c ∷ h) e k = (λ l. k.0, fine n (push g c) h (let l = length_push g c in omega arith) k.1)
 
 -- ---- the search is that of the rules
-led_search : (s : Settings) (h : List Conditional) (x : State) → (Histories.ledFrom (step s) x h).search ≡ Histories.ledFrom (R.advance s) x.search (map bare h)
-unfolding Histories.ledFrom
+led_search : (s : Settings) (h : List Conditional) (x : State) → (Histories.led_from (step s) x h).search ≡ Histories.led_from (R.advance s) x.search (map bare h)
+unfolding Histories.led_from
 led_search s [] x = refl
 led_search s (c ∷ h) x = led_search s h (step s x c)
 
@@ -55,7 +55,7 @@ unfolding Answered
 steps s g c h w = (asked_said s g c.eta w.0.asked, subst (λ x. FollowsFrom s x.search (map bare h)) (sym (led_push (step s) begin g c)) w.1)
 
 pub one_effect : OneEffect
-unfolding Histories.ledFrom
+unfolding Histories.led_from
 one_effect s h n =
     let f : AllFine Fine [] h = fine 17 [] h refl n in
     record {

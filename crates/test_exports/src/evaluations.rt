@@ -39,8 +39,7 @@ pub struct Begun {
 
 // Writes the individual values and answers 0 where they are finite and above 0; else answers 7, and nothing
 // is written (`subject::individual_values`).
-#[unsafe(no_mangle)]
-pub extern "C" fn curlewstand_individual_values(
+pub fn curlewstand_individual_values(
     theta: &[f64; 2],
     eta: &[f64; 2],
     effects: u32,
@@ -136,8 +135,7 @@ fn told(evaluation: Evaluation, out: &mut [u64]) -> u32
 // A subject's evaluation, from a reply to its sums. The rows are written to the trial block of the work
 // words. Answers 0 and writes the seven words of the sums to `out`; or answers document 01's number and
 // writes to word 7 of `out` one more than the number of the observation, 0 where it is of none.
-#[unsafe(no_mangle)]
-pub extern "C" fn curlewstand_evaluate(
+pub fn curlewstand_evaluate(
     observations: &[Observation],
     question: Question,
     reply: &[u64],
@@ -176,8 +174,7 @@ fn told_check(check: Check, place: &mut [u64]) -> u32
 
 // Document 01's check 4 of every observation; `counts` are the subjects' numbers of observations. Answers 0;
 // or 4, with the subject and the observation's number within it written to `place`.
-#[unsafe(no_mangle)]
-pub extern "C" fn curlewstand_check_observations(
+pub fn curlewstand_check_observations(
     observations: &[Observation],
     width: u32,
     counts: &[u64],

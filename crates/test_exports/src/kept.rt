@@ -46,8 +46,7 @@ fn order_of(words: [u64; 4]) -> CacheOrder
 }
 
 // Whether an evaluation with this key is kept; if so its slot is written (`cache::find`).
-#[unsafe(no_mangle)]
-pub extern "C" fn curlewstand_cache_find(
+pub fn curlewstand_cache_find(
     words: &[u64],
     k: usize,
     order: &[u64; 4],
@@ -71,13 +70,7 @@ pub extern "C" fn curlewstand_cache_find(
 
 // Writes the terms of the kept evaluation in a slot; all 0 where K is out of range
 // (`cache::entries::terms_of`).
-#[unsafe(no_mangle)]
-pub extern "C" fn curlewstand_cache_terms(
-    words: &[u64],
-    k: usize,
-    slot: usize,
-    terms: &mut [u64; 7],
-)
+pub fn curlewstand_cache_terms(words: &[u64], k: usize, slot: usize, terms: &mut [u64; 7])
     ensures { terms.new ≡ term_words (terms_of words.now k slot) }
 {
     let t = cache::entries::terms_of(words, k, slot);
@@ -86,8 +79,7 @@ pub extern "C" fn curlewstand_cache_terms(
 
 // Copies the first n rows of the kept evaluation in a slot to `out`, from word `to` on, where they fit and
 // all rows are lent (`cache::entries::copy_rows`).
-#[unsafe(no_mangle)]
-pub extern "C" fn curlewstand_cache_copy_rows(
+pub fn curlewstand_cache_copy_rows(
     words: &[u64],
     k: usize,
     slot: usize,
@@ -102,8 +94,7 @@ pub extern "C" fn curlewstand_cache_copy_rows(
 
 // Keeps an evaluation with its n rows, which stand in `rows` from word `from` on, and moves the positions; or
 // leaves words and positions as they are (`cache::keeping::insert`).
-#[unsafe(no_mangle)]
-pub extern "C" fn curlewstand_cache_insert(
+pub fn curlewstand_cache_insert(
     words: &mut [u64],
     k: usize,
     order: &mut [u64; 4],

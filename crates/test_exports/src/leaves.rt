@@ -11,8 +11,7 @@ use likelihood::population_focei_2d::RowVariance;
 use matrix::InversePositive;
 
 // The determinant of a matrix (`matrix::determinant`).
-#[unsafe(no_mangle)]
-pub extern "C" fn curlewstand_determinant(matrix: &[[f64; 2]; 2]) -> f64
+pub fn curlewstand_determinant(matrix: &[[f64; 2]; 2]) -> f64
     ensures { result ≡ determinant matrix.now }
 {
     let m = *matrix;
@@ -21,8 +20,7 @@ pub extern "C" fn curlewstand_determinant(matrix: &[[f64; 2]; 2]) -> f64
 
 // Answers whether a matrix has an inverse, and writes it and the determinant where it has; else nothing is
 // written (`matrix::inverse_positive`).
-#[unsafe(no_mangle)]
-pub extern "C" fn curlewstand_inverse_positive(
+pub fn curlewstand_inverse_positive(
     matrix: &[[f64; 2]; 2],
     inverse: &mut [[f64; 2]; 2],
     det: &mut f64,
@@ -44,8 +42,7 @@ pub extern "C" fn curlewstand_inverse_positive(
 }
 
 // Writes a matrix times a vector (`matrix::product`).
-#[unsafe(no_mangle)]
-pub extern "C" fn curlewstand_product(matrix: &[[f64; 2]; 2], vector: &[f64; 2], res: &mut [f64; 2])
+pub fn curlewstand_product(matrix: &[[f64; 2]; 2], vector: &[f64; 2], res: &mut [f64; 2])
     ensures { res.new ≡ product matrix.now vector.now }
 {
     let m = *matrix;
@@ -55,8 +52,7 @@ pub extern "C" fn curlewstand_product(matrix: &[[f64; 2]; 2], vector: &[f64; 2],
 }
 
 // The sum of the products of two vectors' entries (`matrix::dot`).
-#[unsafe(no_mangle)]
-pub extern "C" fn curlewstand_dot(left: &[f64; 2], right: &[f64; 2]) -> f64
+pub fn curlewstand_dot(left: &[f64; 2], right: &[f64; 2]) -> f64
     ensures { result ≡ dot left.now right.now }
 {
     let l = *left;
@@ -66,8 +62,7 @@ pub extern "C" fn curlewstand_dot(left: &[f64; 2], right: &[f64; 2]) -> f64
 
 // Writes nll, score and information of a row of a fit with one effect to `terms` and answers 0; or answers
 // document 01's number, 11 or 12, and nothing is written (`likelihood::population_focei::row_terms`).
-#[unsafe(no_mangle)]
-pub extern "C" fn curlewstand_row_terms(
+pub fn curlewstand_row_terms(
     value: f64,
     proportional: f64,
     prediction: f64,
@@ -98,8 +93,7 @@ pub extern "C" fn curlewstand_row_terms(
 
 // Adds a row of a fit with two effects to its subject's sums and answers 0; or answers 11, and the sums stay
 // as they were.
-#[unsafe(no_mangle)]
-pub extern "C" fn curlewstand_add_row(
+pub fn curlewstand_add_row(
     value: f64,
     additive: f64,
     proportional: f64,

@@ -47,8 +47,7 @@ fn load(words: [u64; 25]) -> Loaded2
 }
 
 // Writes the words of a search with two effects that has not asked for anything.
-#[unsafe(no_mangle)]
-pub extern "C" fn curlewstand_mode_2d_start(search: &mut [u64; 25])
+pub fn curlewstand_mode_2d_start(search: &mut [u64; 25])
     ensures { search.new ≡ saved start }
 {
     let words = state_words::two_effects::save(Search2::start());
@@ -57,8 +56,7 @@ pub extern "C" fn curlewstand_mode_2d_start(search: &mut [u64; 25])
 
 // What the search asks for next: 0, with the point written; 1 for a mode, the search's best point; document
 // 01's number for a refusal, 13, 14 or 16; or 19 where the words are no search. Only 0 writes anything.
-#[unsafe(no_mangle)]
-pub extern "C" fn curlewstand_mode_2d_request(
+pub fn curlewstand_mode_2d_request(
     eta_bound: f64,
     precision: &[[f64; 2]; 2],
     warm: &[f64; 2],
@@ -88,8 +86,7 @@ pub extern "C" fn curlewstand_mode_2d_request(
 
 // Writes the words of the search with one more evaluated point, and answers 0; or answers 19 where the
 // words are no search, and nothing is written.
-#[unsafe(no_mangle)]
-pub extern "C" fn curlewstand_mode_2d_advance(
+pub fn curlewstand_mode_2d_advance(
     eta_bound: f64,
     precision: &[[f64; 2]; 2],
     warm: &[f64; 2],

@@ -10,8 +10,7 @@ use mode::population_focei::{Conditional, Request, Search, Settings};
 use state_words::one_effect::Loaded;
 
 // The tolerance of eta within which a mode is settled (`mode::population_focei::eta_tolerance`).
-#[unsafe(no_mangle)]
-pub extern "C" fn curlewstand_eta_tolerance(gradient_tolerance: f64) -> f64
+pub fn curlewstand_eta_tolerance(gradient_tolerance: f64) -> f64
     ensures { result ≡ eta_tolerance gradient_tolerance }
 {
     mode::population_focei::eta_tolerance(gradient_tolerance)
@@ -24,8 +23,7 @@ fn load(words: [u64; 20]) -> Loaded
 }
 
 // Writes the words of a search that has not asked for anything.
-#[unsafe(no_mangle)]
-pub extern "C" fn curlewstand_mode_start(search: &mut [u64; 20])
+pub fn curlewstand_mode_start(search: &mut [u64; 20])
     ensures { search.new ≡ saved start }
 {
     let words = state_words::one_effect::save(Search::start());
@@ -34,8 +32,7 @@ pub extern "C" fn curlewstand_mode_start(search: &mut [u64; 20])
 
 // What the search asks for next: 0, with the point written; 1 for a mode, the search's best point; document
 // 01's number for a refusal, 13, 14 or 15; or 19 where the words are no search. Only 0 writes anything.
-#[unsafe(no_mangle)]
-pub extern "C" fn curlewstand_mode_request(
+pub fn curlewstand_mode_request(
     eta_bound: f64,
     omega: f64,
     tolerance: f64,
@@ -69,8 +66,7 @@ pub extern "C" fn curlewstand_mode_request(
 
 // Writes the words of the search with one more evaluated point, and answers 0; or answers 19 where the
 // words are no search, and nothing is written.
-#[unsafe(no_mangle)]
-pub extern "C" fn curlewstand_mode_advance(
+pub fn curlewstand_mode_advance(
     eta_bound: f64,
     omega: f64,
     tolerance: f64,

@@ -1,11 +1,14 @@
 // Replays recorded inputs of the leaves. Standard input holds a line for each: an operation's two digits and
 // eight words in hexadecimal. For each line the answer is written in the same layout, so that what this
 // program writes can be compared with the answers that the Rust original gave, crates/test_leaves/stdout.
+#![tactic(auto)]
+
 mod answers;
 
 ghost use Rattle.std.specs.Prelude.{◌+◌, ◌≤◌, ◌<◌};
 
-use libc::{STDIN_FILENO, STDOUT_FILENO};
+use std::io;
+use std::io::{Read, Write};
 
 // The value of a digit, decimal or hexadecimal in lower case; 0 for any other byte.
 fn digit(glyph: u8) -> u64
@@ -88,28 +91,29 @@ fn put_words(line: &mut [u8; 139], words: [u64; 8]) {
     put_word(line, 122, words[7]);
 }
 
-fn write_line(line: &[u8; 139]) -> bool {
-    io::write_all(STDOUT_FILENO, line)
-}
-
 // Reads a line and writes its answer. False at the end of the input.
-fn replay_line() -> bool {
+fn replay_line(reader: &mut impl Read, writer: &mut impl Write) -> io::Result<bool> {
     let mut line = [0u8; 139];
-    let got = io::read_full(STDIN_FILENO, &mut line);
+    let got = input::read_full(reader, &mut line)?;
     if got < 139 {
-        return false;
+        return Ok(false);
     }
     let operation = digit(line[0]) * 10 + digit(line[1]);
     let words = words_of(&line);
     put_words(&mut line, answers::answer(operation, words));
-    write_line(&line)
+    writer.write_all(&line)?;
+    Ok(true)
 }
 
-// The loop must be seen to end, and nothing says that an input does: so it counts down, from a number that no
-// run uses up.
-fn main() {
-    let mut turns = u64::MAX;
-    while turns > 0 && replay_line() {
-        turns -= 1;
+// The loop must be seen to end, and nothing says that an input does: so it counts turns, to a number that no run
+// reaches. A read or a write that fails ends the program with its error.
+fn main(rt: HostRuntime) -> io::Result<()> {
+    let mut stdin = rt.stdin();
+    let mut stdout = rt.stdout();
+    for _ in 0..u64::MAX {
+        if !replay_line(&mut stdin, &mut stdout)? {
+            break;
+        }
     }
+    Ok(())
 }

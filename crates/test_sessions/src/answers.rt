@@ -1,9 +1,10 @@
 // The answers of a script's calls: ten words each, little-endian, to standard output.
 ghost use Rattle.std.specs.Prelude.{◌+◌, ◌≤◌};
 
-use libc::STDOUT_FILENO;
 use matrix::Pair;
 use search::{Place, Step, Tally};
+use std::io;
+use std::io::Write;
 
 // The answer of a call: its kind (0 asked, 1 finished or opened, 2 refused), and the four words that it
 // carries.
@@ -98,8 +99,15 @@ fn put_word(bytes: &mut [u8; 80], at: usize, word: u64)
 }
 
 // Writes the ten words of a call: its answer, the tally, the digests of the warm starts and of the results,
-// and what is seen of the other words.
-pub fn write(answer: Answer, tally: Tally, warm: u64, results: u64, seen: u64) {
+// and what is seen of the other words. A write that fails ends it with its error.
+pub fn write(
+    writer: &mut impl Write,
+    answer: Answer,
+    tally: Tally,
+    warm: u64,
+    results: u64,
+    seen: u64,
+) -> io::Result<()> {
     let mut bytes = [0u8; 80];
     put_word(&mut bytes, 0, answer.kind);
     put_word(&mut bytes, 8, answer.a);
@@ -111,9 +119,5 @@ pub fn write(answer: Answer, tally: Tally, warm: u64, results: u64, seen: u64) {
     put_word(&mut bytes, 56, warm);
     put_word(&mut bytes, 64, results);
     put_word(&mut bytes, 72, seen);
-    write_bytes(&bytes);
-}
-
-fn write_bytes(bytes: &[u8; 80]) {
-    io::write_all(STDOUT_FILENO, bytes);
+    writer.write_all(&bytes)
 }

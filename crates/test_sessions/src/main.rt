@@ -14,6 +14,8 @@
 //               (calls, cached rows)
 //
 // Each act from 0 to 3 is answered with ten words (answers.rt).
+#![tactic(auto)]
+
 mod answers;
 mod digests;
 mod reading;
@@ -25,6 +27,8 @@ use program_calls::OBSERVATION_WORDS;
 use search::{CachedRows, Calls, Tally};
 use session::{Begun, Called, Opening, State};
 use setup::{Parameters, Setup};
+use std::io;
+use std::io::{Read, Write};
 
 // What every word of the program's own holds before a session.
 const UNTOUCHED: u64 = 7777777777777777;
@@ -75,40 +79,44 @@ struct Given {
     tally: Tally,
 }
 
-fn read_lengths(left: &mut u64) -> Lengths {
-    let cache = reading::number(reading::next(left));
-    let work = reading::number(reading::next(left));
-    let warm = reading::number(reading::next(left));
-    let results = reading::number(reading::next(left));
-    Lengths {
+fn read_lengths(reader: &mut impl Read, left: &mut u64) -> io::Result<Lengths> {
+    let cache = reading::number(reading::next(reader, left)?);
+    let work = reading::number(reading::next(reader, left)?);
+    let warm = reading::number(reading::next(reader, left)?);
+    let results = reading::number(reading::next(reader, left)?);
+    Ok(Lengths {
         cache,
         work,
         warm,
         results,
-    }
+    })
 }
 
 // So many words, and their number.
-fn read_words(words: &mut [u64], left: &mut u64) -> usize {
-    let n = reading::number(reading::next(left));
-    reading::fill(words, n, left);
-    n
+fn read_words(reader: &mut impl Read, words: &mut [u64], left: &mut u64) -> io::Result<usize> {
+    let n = reading::number(reading::next(reader, left)?);
+    reading::fill(reader, words, n, left)?;
+    Ok(n)
 }
 
 // The words of the observations; so many observations.
-fn read_observations(observations: &mut [u64], left: &mut u64) -> usize {
-    let n = reading::at_most(reading::number(reading::next(left)), OBSERVATIONS);
-    reading::fill(observations, OBSERVATION_WORDS * n, left);
-    n
+fn read_observations(
+    reader: &mut impl Read,
+    observations: &mut [u64],
+    left: &mut u64,
+) -> io::Result<usize> {
+    let n = reading::at_most(reading::number(reading::next(reader, left)?), OBSERVATIONS);
+    reading::fill(reader, observations, OBSERVATION_WORDS * n, left)?;
+    Ok(n)
 }
 
-fn read_tally(left: &mut u64) -> Tally {
-    let calls = reading::small(reading::next(left));
-    let cached_rows = reading::number(reading::next(left));
-    Tally {
+fn read_tally(reader: &mut impl Read, left: &mut u64) -> io::Result<Tally> {
+    let calls = reading::small(reading::next(reader, left)?);
+    let cached_rows = reading::number(reading::next(reader, left)?);
+    Ok(Tally {
         calls: Calls(calls),
         cached_rows: CachedRows(cached_rows),
-    }
+    })
 }
 
 // ---- calls
@@ -307,6 +315,7 @@ fn seen(cache: &[u64], work: &[u64], is_changed: bool) -> u64 {
 
 // A call over what is lent, and its answer.
 fn call(
+    writer: &mut impl Write,
     kind: u64,
     host: Host,
     observations: &[u64],
@@ -316,7 +325,7 @@ fn call(
     work: &mut [u64],
     warm: &mut [u64],
     results: &mut [u64],
-) -> Given {
+) -> io::Result<Given> {
     let before = digests::mark(work, digests::mark(cache, 0));
     let given = dispatched(
         kind,
@@ -333,17 +342,19 @@ fn call(
     let answer = given.answer;
     let tally = given.tally;
     answers::write(
+        writer,
         answer,
         tally,
         digests::digest(warm),
         digests::digest(results),
         seen(cache, work, before != after),
-    );
-    given
+    )?;
+    Ok(given)
 }
 
 // A call over as many of the program's own words as are lent.
 fn lend(
+    writer: &mut impl Write,
     kind: u64,
     host: Host,
     observations: &[u64],
@@ -353,13 +364,14 @@ fn lend(
     work: &mut [u64],
     warm: &mut [u64],
     results: &mut [u64],
-) -> Host {
+) -> io::Result<Host> {
     let lengths = host.lengths;
     let cache_end = reading::at_most(lengths.cache, cache.len());
     let work_end = reading::at_most(lengths.work, work.len());
     let warm_end = reading::at_most(lengths.warm, warm.len());
     let results_end = reading::at_most(lengths.results, results.len());
     let given = call(
+        writer,
         kind,
         host,
         observations,
@@ -369,36 +381,37 @@ fn lend(
         &mut work[0..work_end],
         &mut warm[0..warm_end],
         &mut results[0..results_end],
-    );
+    )?;
     let mut next = host;
     let state = given.state;
     let tally = given.tally;
     next.state = state;
     next.tally = tally;
-    next
+    Ok(next)
 }
 
 // ---- an act's own words
 
 // What is read and is no word of the program's own. An act of any other number has none.
-fn read_values(kind: u64, host: Host, left: &mut u64) -> Host {
+fn read_values(reader: &mut impl Read, kind: u64, host: Host, left: &mut u64) -> io::Result<Host> {
     let mut next = host;
     if kind == 1 {
-        next.parameters = reading::parameters(left);
+        next.parameters = reading::parameters(reader, left)?;
     }
     if kind == 5 {
-        next.lengths = read_lengths(left);
+        next.lengths = read_lengths(reader, left)?;
     }
     if kind == 6 {
-        next.setup = reading::setup(left);
+        next.setup = reading::setup(reader, left)?;
     }
     if kind == 9 {
-        next.tally = read_tally(left);
+        next.tally = read_tally(reader, left)?;
     }
-    next
+    Ok(next)
 }
 
 fn read_act(
+    reader: &mut impl Read,
     kind: u64,
     host: Host,
     left: &mut u64,
@@ -406,29 +419,30 @@ fn read_act(
     counts: &mut [u64],
     words: &mut [u64],
     warm: &mut [u64],
-) -> Host {
+) -> io::Result<Host> {
     let mut next = host;
     if kind == 2 {
-        next.replied = read_words(words, left);
-        return next;
+        next.replied = read_words(reader, words, left)?;
+        return Ok(next);
     }
     if kind == 4 {
-        read_words(warm, left);
-        return next;
+        read_words(reader, warm, left)?;
+        return Ok(next);
     }
     if kind == 7 {
-        next.subjects = read_words(counts, left);
-        return next;
+        next.subjects = read_words(reader, counts, left)?;
+        return Ok(next);
     }
     if kind == 8 {
-        next.observations = read_observations(observations, left);
-        return next;
+        next.observations = read_observations(reader, observations, left)?;
+        return Ok(next);
     }
-    read_values(kind, next, left)
+    read_values(reader, kind, next, left)
 }
 
 // The next act, over the program's own words.
 fn act_on(
+    writer: &mut impl Write,
     kind: u64,
     host: Host,
     observations: &[u64],
@@ -438,15 +452,16 @@ fn act_on(
     work: &mut [u64],
     warm: &mut [u64],
     results: &mut [u64],
-) -> Host {
+) -> io::Result<Host> {
     if 3 < kind {
-        return host;
+        return Ok(host);
     }
     let end = OBSERVATION_WORDS
         * reading::at_most(host.observations, observations.len() / OBSERVATION_WORDS);
     let subjects = reading::at_most(host.subjects, counts.len());
     let replied = reading::at_most(host.replied, words.len());
     lend(
+        writer,
         kind,
         host,
         &observations[0..end],
@@ -462,6 +477,8 @@ fn act_on(
 // ---- a session
 
 fn act(
+    reader: &mut impl Read,
+    writer: &mut impl Write,
     host: Host,
     left: &mut u64,
     observations: &mut [u64; OBSERVATIONS],
@@ -471,10 +488,11 @@ fn act(
     work: &mut [u64; WORK],
     warm: &mut [u64; WARM],
     results: &mut [u64; RESULTS],
-) -> Host {
-    let kind = reading::next(left);
-    let read = read_act(kind, host, left, observations, counts, words, warm);
+) -> io::Result<Host> {
+    let kind = reading::next(reader, left)?;
+    let read = read_act(reader, kind, host, left, observations, counts, words, warm)?;
     act_on(
+        writer,
         kind,
         read,
         observations,
@@ -487,14 +505,19 @@ fn act(
     )
 }
 
-fn begin(left: &mut u64, observations: &mut [u64], counts: &mut [u64]) -> Host {
-    let setup = reading::setup(left);
-    let lengths = read_lengths(left);
-    let subjects = read_words(counts, left);
-    let number = read_observations(observations, left);
+fn begin(
+    reader: &mut impl Read,
+    left: &mut u64,
+    observations: &mut [u64],
+    counts: &mut [u64],
+) -> io::Result<Host> {
+    let setup = reading::setup(reader, left)?;
+    let lengths = read_lengths(reader, left)?;
+    let subjects = read_words(reader, counts, left)?;
+    let number = read_observations(reader, observations, left)?;
     let state = session::first_state(setup);
     let parameters = state.parameters;
-    Host {
+    Ok(Host {
         setup,
         state,
         tally: Tally {
@@ -506,15 +529,15 @@ fn begin(left: &mut u64, observations: &mut [u64], counts: &mut [u64]) -> Host {
         observations: number,
         parameters,
         replied: 0,
-    }
+    })
 }
 
 // Runs the next session of the script. False at the end of the input.
-fn replay_session() -> bool {
+fn replay_session(reader: &mut impl Read, writer: &mut impl Write) -> io::Result<bool> {
     let mut left = 1;
-    let n = reading::next(&mut left);
+    let n = reading::next(reader, &mut left)?;
     if n == 0 {
-        return false;
+        return Ok(false);
     }
     left = n;
     let mut observations = [UNTOUCHED; OBSERVATIONS];
@@ -524,11 +547,13 @@ fn replay_session() -> bool {
     let mut work = [UNTOUCHED; WORK];
     let mut warm = [UNTOUCHED; WARM];
     let mut results = [UNTOUCHED; RESULTS];
-    let mut host = begin(&mut left, &mut observations, &mut counts);
+    let mut host = begin(reader, &mut left, &mut observations, &mut counts)?;
     let mut turns = u64::MAX;
     while turns > 0 && left > 0 {
         turns -= 1;
         host = act(
+            reader,
+            writer,
             host,
             &mut left,
             &mut observations,
@@ -538,16 +563,20 @@ fn replay_session() -> bool {
             &mut work,
             &mut warm,
             &mut results,
-        );
+        )?;
     }
-    true
+    Ok(true)
 }
 
-// The loops must be seen to end, and nothing says that an input does: so they count down, from a number that
-// no run uses up.
-fn main() {
-    let mut turns = u64::MAX;
-    while turns > 0 && replay_session() {
-        turns -= 1;
+// The loops must be seen to end, and nothing says that an input does: so they count turns, to a number that no
+// run reaches. A read or a write that fails ends the program with its error.
+fn main(rt: HostRuntime) -> io::Result<()> {
+    let mut stdin = rt.stdin();
+    let mut stdout = rt.stdout();
+    for _ in 0..u64::MAX {
+        if !replay_session(&mut stdin, &mut stdout)? {
+            break;
+        }
     }
+    Ok(())
 }

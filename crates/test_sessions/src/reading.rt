@@ -1,10 +1,11 @@
 // The words of a script from standard input, 64 bits each, little-endian. `left` is the number of those
-// that the session has left.
+// that the session has left. A read that fails ends a function with its error.
 ghost use Rattle.std.specs.Prelude.{◌<◌, ◌≤◌};
 
-use libc::STDIN_FILENO;
 use matrix::Pair;
 use setup::{Parameters, Setup};
+use std::io;
+use std::io::Read;
 use subject::AdditiveSd;
 
 fn wide(byte: u8) -> u64
@@ -44,58 +45,59 @@ fn word_of(bytes: &[u8; 8]) -> u64 {
 }
 
 // The next word of the script; 0 beyond the last. Where the input ends, none is left.
-pub fn next(left: &mut u64) -> u64 {
+pub fn next(reader: &mut impl Read, left: &mut u64) -> io::Result<u64> {
     if *left == 0 {
-        return 0;
+        return Ok(0);
     }
     let mut bytes = [0u8; 8];
-    if io::read_full(STDIN_FILENO, &mut bytes) < 8 {
+    if input::read_full(reader, &mut bytes)? < 8 {
         *left = 0;
-        return 0;
+        return Ok(0);
     }
     *left -= 1;
-    word_of(&bytes)
+    Ok(word_of(&bytes))
 }
 
-fn float(left: &mut u64) -> f64 {
-    float64::from_word(next(left))
+fn float(reader: &mut impl Read, left: &mut u64) -> io::Result<f64> {
+    Ok(float64::from_word(next(reader, left)?))
 }
 
 // Reads the next n words of the script to the first n of these. Words that have no room here are passed over.
-pub fn fill(words: &mut [u64], n: usize, left: &mut u64) {
+pub fn fill(reader: &mut impl Read, words: &mut [u64], n: usize, left: &mut u64) -> io::Result<()> {
     let end = at_most(n, number(*left));
     let mut i = 0;
     while i < end {
-        let word = next(left);
+        let word = next(reader, left)?;
         words::put(words, i, word);
         i += 1;
     }
+    Ok(())
 }
 
-fn additive_sd(left: &mut u64) -> AdditiveSd {
-    let has_additive = next(left);
-    let additive = float(left);
+fn additive_sd(reader: &mut impl Read, left: &mut u64) -> io::Result<AdditiveSd> {
+    let has_additive = next(reader, left)?;
+    let additive = float(reader, left)?;
     if has_additive == 0 {
-        return AdditiveSd::Own;
+        return Ok(AdditiveSd::Own);
     }
-    AdditiveSd::Override(additive)
+    Ok(AdditiveSd::Override(additive))
 }
 
 // Reads a setup, thirteen words of the script.
-pub fn setup(left: &mut u64) -> Setup {
-    let effects = small(next(left));
-    let omega00 = float(left);
-    let omega01 = float(left);
-    let omega10 = float(left);
-    let omega11 = float(left);
-    let eta_bound = float(left);
-    let gradient_tolerance = float(left);
-    let width = small(next(left));
-    let k = number(next(left));
-    let additive_sd = additive_sd(left);
-    let output_budget = small(next(left));
-    let max_evaluations = small(next(left));
-    Setup {
+pub fn setup(reader: &mut impl Read, left: &mut u64) -> io::Result<Setup> {
+    let effects = small(next(reader, left)?);
+    let omega00 = float(reader, left)?;
+    let omega01 = float(reader, left)?;
+    let omega10 = float(reader, left)?;
+    let omega11 = float(reader, left)?;
+    let eta_bound = float(reader, left)?;
+    let gradient_tolerance = float(reader, left)?;
+    let width = small(next(reader, left)?);
+    let k = number(next(reader, left)?);
+    let additive_sd = additive_sd(reader, left)?;
+    let output_budget = small(next(reader, left)?);
+    let max_evaluations = small(next(reader, left)?);
+    Ok(Setup {
         effects,
         omega00,
         omega01,
@@ -108,18 +110,18 @@ pub fn setup(left: &mut u64) -> Setup {
         additive_sd,
         output_budget,
         max_evaluations,
-    }
+    })
 }
 
 // Reads the parameters of an objective, five words of the script.
-pub fn parameters(left: &mut u64) -> Parameters {
-    let first = float(left);
-    let second = float(left);
-    let omega = float(left);
-    let additive_sd = additive_sd(left);
-    Parameters {
+pub fn parameters(reader: &mut impl Read, left: &mut u64) -> io::Result<Parameters> {
+    let first = float(reader, left)?;
+    let second = float(reader, left)?;
+    let omega = float(reader, left)?;
+    let additive_sd = additive_sd(reader, left)?;
+    Ok(Parameters {
         theta: Pair { first, second },
         omega,
         additive_sd,
-    }
+    })
 }

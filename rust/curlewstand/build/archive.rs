@@ -57,7 +57,8 @@ fn make(library: &str) -> Result<PathBuf, String> {
             top.display()
         ));
     }
-    for source in &sources {
+    let parts = parts(&top.join("crates")).map_err(|why| format!("crates: {why}"))?;
+    for source in sources[1..].iter().chain(&parts) {
         println!("cargo::rerun-if-changed={}", source.display());
     }
     let began = Instant::now();
@@ -73,6 +74,18 @@ fn make(library: &str) -> Result<PathBuf, String> {
         println!("cargo::warning=lib{library}.a was proved and built, in {seconds} s");
     }
     Ok(top.join("target/staticlib"))
+}
+
+/// What the crates are made from. Beside it rt keeps its work, in `out`, which a run
+/// of `./library` changes.
+fn parts(crates: &Path) -> std::io::Result<Vec<PathBuf>> {
+    let mut parts = Vec::new();
+    for entry in crates.read_dir()? {
+        let folder = entry?.path();
+        let all = ["src", "specs", "proofs"].map(|name| folder.join(name));
+        parts.extend(all.into_iter().filter(|part| part.exists()));
+    }
+    Ok(parts)
 }
 
 /// Runs `./library`. What it says is shown on the terminal as it comes, if there is

@@ -23,7 +23,7 @@ pub fn program(name: &str) -> PathBuf {
     let path = directory.join(name);
     assert!(
         path.exists(),
-        "{} is missing: build it with `rt check {name}` first, or name its directory in CURLEWSTAND_BIN_DIR",
+        "{} is missing: .ci/run puts it there; or build it with `rt run` in crates/{name}, and name crates/{name}/out in CURLEWSTAND_BIN_DIR",
         path.display()
     );
     path

@@ -19,4 +19,4 @@ returns c =
     (held_of a.at.state a.at.tally a.cache.now a.work.now a.warm.now a.results.now) a.input.now a.individual
     c.settings-setup.ensures
     c.rows_of-rows.ensures
-    (whole_reply a.input.now a.reply.now a.at.state.progress.first c.rows_of-rows.result a.individual.first c.pre.0 c.pre.1 c.reply-n.ensures) c.reply.ensures
+    (whole_reply a.input.now a.reply.now a.at.state.progress.first c.rows_of-rows.result a.individual.first c.requires.0 c.requires.1 c.reply-n.ensures) c.reply.ensures

@@ -10,4 +10,4 @@ slice_bounds-write_text-end c = let least = c.smaller-read.ensures in sym (lengt
 pub returns : goal.returns
 returns c =
     let a = c.args in
-record { input_len = search rules; out_after = prints a.input.now a.out.now a.got (omega arith) c.smaller-read.ensures c.write_text.ensures }
+    record { input_len = search rules; out_after = prints a.input.now a.out.now a.got (omega arith) c.smaller-read.ensures c.write_text.ensures }

@@ -30,8 +30,7 @@ slice_bounds-fit-end-2 c =
     c.args.subjects) (replicate 256 0) c.counts-n.ensures))
 
 pub fit-requires : goal.fit-requires
-fit-requires c =
-    (
+fit-requires c = (
   c.requires.0,
   omega arith,
   few_counts c.args.input.now c.args.subjects (whole_counts c.args.input.now (replicate 256 0) c.args.subjects c.requires.1 (length-replicate {A = ℕ} 256 0)
@@ -40,7 +39,7 @@ fit-requires c =
 
 pub returns : goal.returns
 returns c =
-    let a = c.args in lends a.input.now a.subjects (written 0 a.out.now) (whole_counts a.input.now (replicate 256 0) a.subjects c.pre.1
-    (length-replicate {A = ℕ} 256 0) c.counts-n.ensures) (whole_observations a.input.now (replicate 1280 0) c.pre.0 (length-replicate {A = ℕ} 1280 0)
+    let a = c.args in lends a.input.now a.subjects (written 0 a.out.now) (whole_counts a.input.now (replicate 256 0) a.subjects c.requires.1
+    (length-replicate {A = ℕ} 256 0) c.counts-n.ensures) (whole_observations a.input.now (replicate 1280 0) c.requires.0 (length-replicate {A = ℕ} 1280 0)
     c.observations-m.ensures)
     c.fit.ensures

@@ -8,8 +8,7 @@ pub loop-i-init : goal.loop-i-init
 loop-i-init c = (simp sub-zero, refl)
 
 pub loop-i-preserved : goal.loop-i-preserved
-loop-i-preserved c =
-    (
+loop-i-preserved c = (
   observations_step _ _ _ _ c.loop-i-test.true c.observation-end.ensures ∙ c.loop-i.invariant.0,
   c.observation-end.auto.out ∙ c.loop-i.invariant.1,
 )

@@ -13,8 +13,7 @@ pub returns-then-records-i : goal.returns-then-records-i
 returns-then-records-i c = reply_all _ _ _ _ _ (reply_short _ _ _ _ _ c.loop-left-test.true c.if-records-i.true ∙ c.loop-left.invariant.0)
 
 pub loop-left-preserved : goal.loop-left-preserved
-loop-left-preserved c =
-    (
+loop-left-preserved c = (
   reply_step _ _ _ _ _ c.loop-left-test.true c.if-records-i.false c.row-end.ensures ∙ c.loop-left.invariant.0,
   c.row-end.auto.out ∙ c.loop-left.invariant.1,
 )

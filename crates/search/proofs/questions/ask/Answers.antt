@@ -1,9 +1,10 @@
 -- `ask` meets its contract: each exit by its law. Assumes nothing.
-use Rattle.search.proofs.QuestionsPaths.{room_to_count, none_left, valid_values, invalid_values}
+use Rattle.std.proofs.Common.{arith}
+use Rattle.search.proofs.QuestionsPaths.{none_left, valid_values, invalid_values}
 use Rattle.search.proofs.questions.ask.Goals as goal
 
 pub counted-raised-requires : goal.counted-raised-requires
-counted-raised-requires c = room_to_count c.if-tally-fit.true c.struct_known-2-1.given.1.1.1.1.1.1.1.1.1.0
+counted-raised-requires c = omega arith
 
 pub returns-in-Valid : goal.returns-in-Valid
 returns-in-Valid c = valid_values _ _ _ _ c.if-tally-fit.true c.counted-raised.ensures c.individual_values.ensures c.in-Valid.is c.awaiting.ensures

@@ -6,11 +6,11 @@ pub returns : goal.returns
 unfolding sums_of
 returns c =
     rw (
-  c.from_word.ensures,
-  c.from_word-2.ensures,
-  c.from_word-3.ensures,
-  c.from_word-4.ensures,
-  c.from_word-5.ensures,
-  c.from_word-6.ensures,
-  c.from_word-7.ensures,
-)
+      c.from_word.ensures,
+      c.from_word-2.ensures,
+      c.from_word-3.ensures,
+      c.from_word-4.ensures,
+      c.from_word-5.ensures,
+      c.from_word-6.ensures,
+      c.from_word-7.ensures,
+    )

@@ -1,0 +1,10 @@
+-- `curlewstand_reply` meets its contract: what its parts answered, put together.
+use Rattle.curlewstand_calls.proofs.Paths.{all_replied}
+use Rattle.curlewstand_calls.proofs.curlewstand_reply.Goals as goal
+
+pub returns : goal.returns
+returns c =
+    let a = c.args in
+    rw (c.keep_tally.ensures, ← c.tally_now-before.ensures.0)
+    (all_replied _ a.counts.now a.observations.now c.tally_now-before.result a.state.now a.answer.now a.cache.now a.work.now a.warm.now a.results.now
+    a.reply.now c.check_lent-check.ensures c.reply_checked-taken.ensures)

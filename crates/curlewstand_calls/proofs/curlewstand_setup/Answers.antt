@@ -1,0 +1,10 @@
+-- `curlewstand_setup` meets its contract: what its parts answered, put together.
+use Rattle.host_calls.proofs.Whole.{setup_over_lem}
+use Rattle.curlewstand_calls.proofs.curlewstand_setup.Goals as goal
+
+pub returns : goal.returns
+returns c =
+    let a = c.args in
+    rw (c.keep_tally.ensures, ← c.tally_now-before.ensures.0)
+    (setup_over_lem _ a.counts.now a.observations.now c.tally_now-before.result a.state.now a.answer.now a.cache.now a.work.now a.warm.now a.results.now
+    c.check_lent-check.ensures c.open-opened.ensures)

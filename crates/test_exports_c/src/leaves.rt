@@ -1,0 +1,101 @@
+// Matrices and rows: the leaves of the calculation over numbers and lent arrays.
+ghost use Rattle.std.specs.Prelude.{◌≡◌};
+ghost use Rattle.float64.specs.Answer.{number_of};
+ghost use Rattle.matrix.specs.Matrix.{determinant, inverse_positive, product, dot};
+ghost use Rattle.likelihood.specs.RowTerms.{row_terms};
+ghost use Rattle.likelihood.specs.Row2.{row_variance};
+ghost use Rattle.test_exports.specs.Leaves.{exists, inverse_or, det_or, observation_of, terms_or, sums, add_row};
+
+// The determinant of a matrix (`matrix::determinant`).
+#[unsafe(no_mangle)]
+pub extern "C" fn curlewstand_determinant(matrix: &[[f64; 2]; 2]) -> f64
+    ensures { result ≡ determinant matrix.now }
+{
+    test_exports::leaves::curlewstand_determinant(matrix)
+}
+
+// Answers whether a matrix has an inverse, and writes it and the determinant where it has; else nothing is
+// written (`matrix::inverse_positive`).
+#[unsafe(no_mangle)]
+pub extern "C" fn curlewstand_inverse_positive(
+    matrix: &[[f64; 2]; 2],
+    inverse: &mut [[f64; 2]; 2],
+    det: &mut f64,
+) -> bool
+    ensures value { result ≡ exists (inverse_positive matrix.now) }
+    ensures inverse_after { inverse.new ≡ inverse_or inverse.old (inverse_positive matrix.now) }
+    ensures det_after { det.new ≡ det_or det.old (inverse_positive matrix.now) }
+{
+    test_exports::leaves::curlewstand_inverse_positive(matrix, inverse, det)
+}
+
+// Writes a matrix times a vector (`matrix::product`).
+#[unsafe(no_mangle)]
+pub extern "C" fn curlewstand_product(matrix: &[[f64; 2]; 2], vector: &[f64; 2], res: &mut [f64; 2])
+    ensures { res.new ≡ product matrix.now vector.now }
+{
+    test_exports::leaves::curlewstand_product(matrix, vector, res);
+}
+
+// The sum of the products of two vectors' entries (`matrix::dot`).
+#[unsafe(no_mangle)]
+pub extern "C" fn curlewstand_dot(left: &[f64; 2], right: &[f64; 2]) -> f64
+    ensures { result ≡ dot left.now right.now }
+{
+    test_exports::leaves::curlewstand_dot(left, right)
+}
+
+// Writes nll, score and information of a row of a fit with one effect to `terms` and answers 0; or answers
+// document 01's number, 11 or 12, and nothing is written (`likelihood::population_focei::row_terms`).
+#[unsafe(no_mangle)]
+pub extern "C" fn curlewstand_row_terms(
+    value: f64,
+    proportional: f64,
+    prediction: f64,
+    f_eta: f64,
+    additive: f64,
+    terms: &mut [f64; 3],
+) -> u32
+    ensures value { result ≡ number_of (row_terms (observation_of value additive proportional) prediction f_eta additive) }
+    ensures terms_after { terms.new
+        ≡ terms_or terms.old (row_terms (observation_of value additive proportional) prediction f_eta additive) }
+{
+    test_exports::leaves::curlewstand_row_terms(
+        value,
+        proportional,
+        prediction,
+        f_eta,
+        additive,
+        terms,
+    )
+}
+
+// Adds a row of a fit with two effects to its subject's sums and answers 0; or answers 11, and the sums stay
+// as they were.
+#[unsafe(no_mangle)]
+pub extern "C" fn curlewstand_add_row(
+    value: f64,
+    additive: f64,
+    proportional: f64,
+    prediction: f64,
+    f_eta: &[f64; 2],
+    nll: &mut f64,
+    score: &mut [f64; 2],
+    information: &mut [[f64; 2]; 2],
+) -> u32
+    ensures value { result ≡ number_of (row_variance (observation_of value additive proportional) prediction f_eta.now) }
+    ensures information_after { sums nll.new score.new information.new
+        ≡ add_row (observation_of value additive proportional) prediction f_eta.now
+        (sums nll.old score.old information.old) }
+{
+    test_exports::leaves::curlewstand_add_row(
+        value,
+        additive,
+        proportional,
+        prediction,
+        f_eta,
+        nll,
+        score,
+        information,
+    )
+}
