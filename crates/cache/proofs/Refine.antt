@@ -4,7 +4,7 @@
 --     insert-none       an evaluation of more rows than the room changes nothing
 --     insert-bounded    the positions say at most k rows afterwards, whatever the words
 --     keys-once, rows-kept, rows-most    no key twice; next_row - first_row is the number of rows in the list, at most k
-use Rattle.std.proofs.Common.{◌≡◌, ℕ, zero, suc, ◌+◌, ◌-◌, ◌*◌, ◌<◌, ◌≤◌, Bool, true, false, T, eqb, ltb, ◌⊎◌, List, [], ◌∷◌, ◌++◌, length, get_or, sym, refl, ap, ◌∙◌, subst, ⊎_elim, arith, le-ltb, lt-ltb, ne_eqb}
+use Rattle.std.proofs.Common.{◌≡◌, ℕ, zero, suc, ◌+◌, ◌-◌, ◌*◌, ◌<◌, ◌≤◌, Bool, true, false, T, eqb, ltb, List, [], ◌∷◌, ◌++◌, length, get_or, sym, refl, ap, ◌∙◌, subst, ⊎_elim, arith, le-ltb, lt-ltb, ne_eqb}
 use mathlib.Core.Option.{none, some}
 use Rattle.float64.specs.Pick.{yes, no, cases, pick_yes, pick_no}
 use Rattle.cache.specs.declared.CacheKey.{CacheKey}

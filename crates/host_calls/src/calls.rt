@@ -12,6 +12,7 @@ use subject::Check;
 
 // Setup: opens a session where enough words are lent for its state and 1 to 5 pass, and writes the state and
 // the answer.
+#[tactic(auto, unfolding(crate::specs::Hosting::open_with, float64::specs::Pick::pick))]
 pub fn open(
     setup: SessionSetup,
     tally: Tally,

@@ -30,6 +30,7 @@ fn shrinkage_in(at: State, subjects: usize) -> Shrinkage
 // The shrinkage of the objective with one effect that the latest call has finished, from the counts, the state
 // and the answer as that call left them. There is none where the answer is not of an end, where the words are
 // no state, or where the state is not that of a finished objective of so many subjects.
+#[tactic(auto, unfolding(crate::specs::Figures::shrinkage_from, crate::specs::Figures::told, crate::specs::Figures::shrinkage_of, state_words::specs::SessionWords::answer, float64::specs::Pick::pick))]
 pub fn shrinkage_from(counts: &[u64], state: &[u64], answer: &[u64]) -> Shrinkage
     ensures { told result ≡ shrinkage_from counts.now state.now answer.now }
 {

@@ -8,6 +8,7 @@
 // the objective (0 for setup) and zeros; 2 for a refusal, then its number, 0 for no place, 1 for a subject
 // and 2 for an observation, the subject and the observation.
 #![tactic(auto)]
+
 ghost use Rattle.std.specs.Prelude.{◌≡◌};
 ghost use Rattle.search.specs.declared.Place.TheVariants.{Nowhere};
 ghost use Rattle.host_calls.specs.Hosting.{setup_of, parameters_of, setup_from, setup_bits, parameters_from, parameter_bits};
@@ -183,6 +184,7 @@ fn number_of(step: Step) -> u32
 }
 
 // Whether this is the number of a refusal that alters nothing: 1 to 5 or 19.
+#[tactic(auto, unfolding(crate::specs::Hosting::is_unaltered, float64::specs::Pick::pick))]
 fn is_unaltered(number: u32) -> bool
     ensures { result ≡ is_unaltered number }
 {

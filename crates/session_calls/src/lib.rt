@@ -4,6 +4,7 @@
 // value here, and of the observations there is what was found of them: how many there are, and their check.
 // Each function is defined for all values and words.
 #![tactic(auto)]
+
 ghost use Rattle.std.specs.Prelude.{◌≡◌, length};
 ghost use Rattle.words.specs.Words.{zeros};
 ghost use Rattle.population.specs.Kept.{cache_of, words};

@@ -6,6 +6,8 @@
 // 18 how many effects the search has, 1 or 2; 19 its twenty words (`one_effect`) and five zeros, which are not
 //    looked at again, or its twenty-five (`two_effects`).
 // A float is its word, and a bool is 1 or 0. Each public function is defined for all words and states.
+#![tactic(auto)]
+
 ghost use Rattle.std.specs.Prelude.{◌≡◌, ◌+◌, ◌≤◌, ◌<◌, length};
 ghost use Rattle.state_words.specs.SessionWords.{state_size, additive_at, order_at, parameters_at, progress_at, state_at};
 ghost use Rattle.state_words.specs.SessionWords.{with_search, loaded_state, answer, flag, objective_words, progress_words, order_words};

@@ -78,6 +78,7 @@ fn words_of(c: Conditional) -> [u64; 4]
 
 // The search that twenty words stand for. They are no search where the stage is above 3, the count does not
 // fit in a u32, or the fall is above 1.
+#[tactic(auto, unfolding(crate::specs::SearchWords::loaded_lent, crate::specs::SearchWords::answer, crate::specs::SearchWords::search_of, float64::specs::Pick::pick))]
 fn load_lent(words: &[u64]) -> Loaded
     requires { search_size ≤ length words.now }
     ensures { answer result ≡ loaded_lent words.now }

@@ -20,6 +20,7 @@ pub enum Loaded2 {
 }
 
 // Whether a word is no stage's. A search refuses with 13, 14 and 16 alone.
+#[tactic(auto, unfolding(crate::specs::SearchWords2::is_no_stage, float64::specs::Pick::pick))]
 fn is_no_stage(word: u64) -> bool
     ensures { result ≡ is_no_stage word }
 {

@@ -5,8 +5,7 @@ use Rattle.host_calls.specs.declared.AnswerWords.{AnswerWords}
 use Rattle.host_calls.proofs.no_state.Goals as goal
 
 pub returns : goal.returns
-returns c =
-    (
+returns c = (
   refl,
   c.write_answer.ensures ∙ ap (λ (a : AnswerWords). answered a c.args.answer.now)
       c.place_words.ensures,

@@ -4,8 +4,7 @@ use Rattle.host_calls.proofs.Paths.{setup_made, setup_handed}
 use Rattle.host_calls.proofs.setup_of.Goals as goal
 
 pub returns : goal.returns
-returns c =
-    (
+returns c = (
   setup_made _ c.additive_sd-additive_sd.ensures,
   setup_handed _ (record {
     o00 = search rules;

@@ -17,12 +17,12 @@ returns-in-Accepted c =
     (objective_starts c.args.setup c.args.counts.now c.args.observations c.args.check c.args.parameters c.args.state c.args.tally
     c.args.cache.now c.args.work.now c.args.warm.now c.args.results.now (own_fit c.args.setup c.args.parameters
     c.with_parameters-own.ensures c.fit_of-fit.ensures)
-    c.start_of_lem.ensures c.run.ensures)
+    c.start_of-here.ensures c.run.ensures)
 
 pub returns-in-Refused : goal.returns-in-Refused
 returns-in-Refused c =
     let h = held_of c.args.state c.args.tally c.args.cache.now c.args.work.now c.args.warm.now c.args.results.now in
-    refused_called c.args.state c.args.tally _ _ c.args.cache.now c.args.work.now c.args.warm.now c.args.results.now c.IsRefused-as.ensures
+    refused_called c.args.state c.args.tally _ _ c.args.cache.now c.args.work.now c.args.warm.now c.args.results.now c.refused_as.ensures
     (keeps_out (λ x. run c.args.setup c.args.counts.now x) h (on (begun words c.args.setup c.args.counts.now c.args.parameters h.whole))
     (objective_enters c.args.setup c.args.counts.now c.args.observations c.args.check c.args.parameters c.args.state c.args.tally
     c.args.cache.now c.args.work.now c.args.warm.now c.args.results.now c.lent_by-lent.ensures c.admit_objective.ensures)

@@ -3,8 +3,7 @@ use Rattle.session_calls.proofs.Paths.{ended_made}
 use Rattle.session_calls.proofs.ended_as.Goals as goal
 
 pub returns : goal.returns
-returns c =
-    (
+returns c = (
   ended_made c.args.state c.args.tally c.args.number c.args.place
       c.refused-halted.ensures,
   c.clear.ensures,

@@ -12,7 +12,7 @@ returns-in-Accepted c =
 pub returns-in-Refused : goal.returns-in-Refused
 returns-in-Refused c =
     let h = held_of c.args.state c.args.tally c.args.cache.now c.args.work.now c.args.warm.now c.args.results.now in
-    refused_called c.args.state c.args.tally _ _ c.args.cache.now c.args.work.now c.args.warm.now c.args.results.now c.IsRefused-as.ensures
+    refused_called c.args.state c.args.tally _ _ c.args.cache.now c.args.work.now c.args.warm.now c.args.results.now c.refused_as.ensures
     (keeps_out _ h _ refl c.in-Refused.is ∙ finish_enters c.args.counts.now c.args.admitted.awaited c.args.evaluation h)
 
 pub returns-in-Unsound : goal.returns-in-Unsound
