@@ -1,7 +1,10 @@
 -- The ways through the code: one law for each, over plain variables. Assumes nothing.
 use mathlib.Core.Path.{◌≡◌, sym, ap, ◌∙◌}
 use Prim.Native.Nat.{ℕ, ◌≤◌, ◌<◌}
+use native.Mathlib.Omega.{arith}
 use borrow.Author.Tests.{lt-ltb, le-ltb, eq-eqb, ne_eqb}
+use mir.Val.{Fits}
+use mir.Syntax.{w32}
 use lib.Ieee.{Float, binary64, to_bits}
 use Rattle.float64.specs.Pick.{yes, no}
 use Rattle.matrix.specs.declared.Pair.{Pair}
@@ -50,6 +53,10 @@ module _ (fit : Fit) (subject : ℕ) (eta : Pair) where
   pub key_one : {z : CacheKey} → (fit.effects ≡ 2 → ⊥) → z ≡ key1 fit subject eta → z ≡ key_of fit subject eta
   unfolding key_of
   key_one h q = no _ (ne_eqb _ _ h) q
+
+-- ---- an evaluation is counted only below the most that there may be, which is a u32
+pub room_to_count : {calls most : ℕ} → calls < most → Fits w32 most → calls < 4294967295
+room_to_count h f = omega arith
 
 -- ---- question 6, and 7: raised is the tally with the evaluation, r what `individual_values` answered
 module _ (fit : Fit) (progress : Progress) (tally : Tally) (eta : Pair) where
