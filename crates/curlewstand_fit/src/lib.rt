@@ -2,6 +2,7 @@
 // prints. It is defined for every input, of any length. What is lent for the text must overlap nothing of the
 // records.
 #![tactic(auto)]
+
 ghost use Rattle.std.specs.Prelude.{◌≡◌};
 ghost use Rattle.words.specs.Written.{written};
 ghost use Rattle.curlewstand_fit.specs.Fit.{fit_over};
@@ -9,6 +10,7 @@ ghost use Rattle.curlewstand_fit.specs.Fit.{fit_over};
 // Writes the text to the front of what is lent for it, and gives its length; the rest stays as it was. Where
 // there is no room for the longest text it gives 0, which is the length of no text, and nothing is written.
 #[unsafe(no_mangle)]
+#[tactic(auto, using(crate::proofs::Fitted::no_room, crate::proofs::Fitted::with_room))]
 pub extern "C" fn curlewstand_fit(records: &[u8], text: &mut [u8]) -> usize
     ensures { written result text.new ≡ fit_over records.now text.old }
 {
