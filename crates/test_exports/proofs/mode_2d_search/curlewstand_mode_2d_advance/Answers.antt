@@ -11,5 +11,5 @@ returns-in-Given c =
 pub returns-in-None : goal.returns-in-None
 returns-in-None c =
     let e = advance_none _ c.load.ensures c.in-None.is (settings_of c.args.eta_bound c.args.precision.now c.args.warm.now)
-        (point_of c.args.eta.now c.args.nll c.args.score.now c.args.information.now) c.args.search.now in
+    (point_of c.args.eta.now c.args.nll c.args.score.now c.args.information.now) c.args.search.now in
     record { value = e.0; search_after = e.1 }
