@@ -1,5 +1,5 @@
 -- What eviction does to the list that the words stand for. Assumes nothing.
-use Rattle.std.proofs.Common.{◌≡◌, ℕ, zero, suc, ◌+◌, ◌-◌, ◌*◌, ◌<◌, ◌≤◌, ltb, ◌⊎◌, List, sym, refl, ⊎_elim, arith, ltb-false, le-ltb, lt-ltb}
+use Rattle.std.proofs.Common.{◌≡◌, ℕ, zero, suc, ◌+◌, ◌-◌, ◌*◌, ◌<◌, ◌≤◌, ltb, List, sym, refl, ⊎_elim, arith, ltb-false, le-ltb, lt-ltb}
 use Rattle.float64.specs.Pick.{yes, no, cases}
 use Rattle.cache.specs.declared.CacheOrder.{CacheOrder}
 use Rattle.cache.specs.Cache.{count_of, raised, order, evict}

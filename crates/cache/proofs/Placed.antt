@@ -1,5 +1,5 @@
 -- What one more entry does to the list that the words stand for. Assumes nothing.
-use Rattle.std.proofs.Common.{◌≡◌, ℕ, zero, suc, ◌+◌, ◌-◌, ◌*◌, ◌/◌, ◌%◌, ◌<◌, ◌≤◌, true, false, eqb, ◌⊎◌, List, [], ◌∷◌, ◌++◌, length, get_or, set, sym, refl, ap, ◌∙◌, subst, ⊎_elim, add-zero, mod-lt, mod-eq_of_lt, zero-add, arith, lit<, length-set, get_or-set_other, get_or-set_same, eqb-true}
+use Rattle.std.proofs.Common.{◌≡◌, ℕ, zero, suc, ◌+◌, ◌*◌, ◌/◌, ◌%◌, ◌<◌, ◌≤◌, true, false, eqb, List, [], ◌∷◌, ◌++◌, length, get_or, set, sym, refl, ap, ◌∙◌, subst, ⊎_elim, add-zero, mod-lt, mod-eq_of_lt, zero-add, arith, lit<, length-set, get_or-set_other, get_or-set_same, eqb-true}
 use native.Mathlib.Nat.{div-eq_of_lt, add-mul-mod_self_right, add-mul-div_right}
 use borrow.Author.Tests.{eqb-false}
 use Rattle.cache.specs.declared.CacheKey.{CacheKey}

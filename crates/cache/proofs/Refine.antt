@@ -1,10 +1,10 @@
 -- The words stand for a list, as long as only `insert` writes. Assumes nothing.
 --     empty_stands      words whose heads are zero, with the positions 1 1 0 0, stand for the empty list
---     insert-stands     insert drops the oldest until the new rows fit, and appends
---     insert-none       an evaluation of more rows than the room changes nothing
---     insert-bounded    the positions say at most k rows afterwards, whatever the words
---     keys-once, rows-kept, rows-most    no key twice; next_row - first_row is the number of rows in the list, at most k
-use Rattle.std.proofs.Common.{◌≡◌, ℕ, zero, suc, ◌+◌, ◌-◌, ◌*◌, ◌<◌, ◌≤◌, Bool, true, false, T, eqb, ltb, ◌⊎◌, List, [], ◌∷◌, ◌++◌, length, get_or, sym, refl, ap, ◌∙◌, subst, ⊎_elim, arith, le-ltb, lt-ltb, ne_eqb}
+--     insert_stands     insert drops the oldest until the new rows fit, and appends
+--     insert_none       an evaluation of more rows than the room changes nothing
+--     insert_bounded    the positions say at most k rows afterwards, whatever the words
+--     keys_once, rows_kept, rows_most    no key twice; next_row - first_row is the number of rows in the list, at most k
+use Rattle.std.proofs.Common.{◌≡◌, ℕ, zero, suc, ◌+◌, ◌-◌, ◌*◌, ◌<◌, ◌≤◌, Bool, true, false, T, eqb, ltb, List, [], ◌∷◌, ◌++◌, length, get_or, sym, refl, ap, ◌∙◌, subst, ⊎_elim, arith, le-ltb, lt-ltb, ne_eqb}
 use mathlib.Core.Option.{none, some}
 use Rattle.float64.specs.Pick.{yes, no, cases, pick_yes, pick_no}
 use Rattle.cache.specs.declared.CacheKey.{CacheKey}

@@ -1,8 +1,8 @@
 -- Any number of evaluations, each looked up and kept where it is not found: what the words do is what the list does. Assumes nothing.
---     kept-after    from words that stand for l, after any list of evaluations the words stand for the list after them
---     terms-at, copied_at, copied-else    what is read of a slot is its entry's, and nothing else is touched
+--     kept_after_lem from words that stand for l, after any list of evaluations the words stand for the list after them
+--     terms_at_lem, copied_at, copied_else    what is read of a slot is its entry's, and nothing else is touched
 use Rattle.std.proofs.Common.{◌≡◌, ℕ, zero, suc, ◌+◌, ◌-◌, ◌*◌, ◌<◌, ◌≤◌, ltb, ◌⊎◌, List, [], ◌∷◌, ◌++◌, length, get_or, set, sym, refl, ap, ◌∙◌, subst, inl, inr, ⊎_elim, add-zero, arith, length-set, get_or-set_other, get_or-set_same, ltb-false, ltb-true, le-ltb}
-use mathlib.Core.Option.{Option, none, some}
+use mathlib.Core.Option.{Option, none}
 use Rattle.float64.specs.Pick.{cases, pick_yes, pick_no}
 use Rattle.cache.specs.declared.Found.{Found}
 use Rattle.cache.specs.declared.Found.TheVariants.{At, Nothing}

@@ -8,6 +8,7 @@
 // out, the observations are gone through, and the tally is written back. `figures` has what a host is told
 // besides.
 #![tactic(auto)]
+
 ghost use Rattle.std.specs.Prelude.{◌≡◌};
 ghost use Rattle.session.specs.Session.{all_checked, objective, reply as replies, failure};
 ghost use Rattle.host_calls.specs.Hosting.{setup_of, parameters_of, out, setup_over, call_over, done_with};

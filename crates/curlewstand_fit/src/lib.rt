@@ -2,6 +2,7 @@
 // prints. It is defined for every input, of any length. What is lent for the text must overlap nothing of the
 // records.
 #![tactic(auto)]
+
 ghost use Rattle.std.specs.Prelude.{◌≡◌};
 ghost use Rattle.words.specs.Written.{written};
 ghost use Rattle.curlewstand_fit.specs.Fit.{fit_over};

@@ -6,6 +6,7 @@
 // that it answers and writes. What is lent to be written must overlap nothing else that is lent to the same
 // call.
 #![tactic(auto)]
+
 ghost use Rattle.std.specs.Prelude.{◌≡◌};
 ghost use Rattle.subject.specs.Observations.{check_observations};
 ghost use Rattle.host_calls.specs.Hosting.{setup_of, out, done_with};

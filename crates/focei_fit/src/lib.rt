@@ -1,6 +1,7 @@
 // Document 01's program as one function, from the bytes of its records to the bytes that it prints: theta 1,
 // omega 1, eta_bound 4, tolerance 1e-4, 10,000 evaluations, K 64, output budget 10,000, width 1, one effect.
 #![tactic(auto)]
+
 ghost use Rattle.std.specs.Prelude.{◌≡◌, ◌≤◌, length, take};
 ghost use Rattle.session.specs.Calls.{called, held_of};
 ghost use Rattle.words.specs.Written.{written, write};

@@ -4,6 +4,7 @@
 // nothing is written and the place stays, so that what does not fit is cut off. Each public function is
 // defined for all values and words.
 #![tactic(auto)]
+
 ghost use Rattle.std.specs.Prelude.{◌≡◌, [], ◌∷◌, ◌<◌, ◌*◌, ◌≤◌};
 ghost use Rattle.work.specs.Work.{result_words};
 ghost use Rattle.words.specs.Written.{written, write};

@@ -19,7 +19,7 @@ use Rattle.search.specs.declared.Place.TheVariants.{Nowhere}
 use Rattle.search.specs.declared.Step.{Step}
 use Rattle.search.specs.declared.Step.TheVariants.{Asked, Finished, Refused}
 use Rattle.search.specs.declared.Tally.{Tally}
-use Rattle.machine.specs.Machine.{Machine, call, Act, calls, sets, run}
+use Rattle.machine.specs.Machine.{Machine, call, Act, calls, sets, set, run}
 use Rattle.population.specs.Kept.{words}
 use Rattle.session.specs.Calls.{lent_by, opening, opened_by}
 use Rattle.session.specs.Session.{Held, Call, objective, reply as rows, no_tally, all_checked, session, opened}
@@ -42,8 +42,8 @@ module _ (M : Machine) where
   run_more : (s : M.State) (acts : List (Act M)) (c : M.Call) → run M s (acts ++ (calls c ∷ [])) ≡ (call M c (run M s acts)).state
   unfolding run
   run_more s [] c = refl
-  run_more s (calls d ∷ acts) c = run_more _ acts c
-  run_more s (sets w ∷ acts) c = run_more _ acts c
+  run_more s (calls d ∷ acts) c = run_more (call M d s).state acts c
+  run_more s (sets w ∷ acts) c = run_more (set M w s) acts c
 
 -- ---- an answer that is printed otherwise
 unfoldable Other : Step → Type 0

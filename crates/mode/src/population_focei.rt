@@ -314,6 +314,7 @@ impl Search {
     }
 
     // The search with one more evaluated point. A search that has no point left to ask for stays as it is.
+    #[tactic(auto, using(crate::proofs::Paths::on_secant, crate::proofs::Paths::on_last_secant))]
     pub fn advance(self, s: Settings, c: Conditional) -> Search
         ensures { result ≡ advance s self c }
     {

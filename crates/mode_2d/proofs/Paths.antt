@@ -4,8 +4,9 @@ use mathlib.Core.Bool.{Bool, true, false}
 use mathlib.Core.List.{List}
 use Prim.Native.Nat.{ℕ, suc, ◌+◌, ◌-◌, ◌<◌, ◌≤◌}
 use native.Mathlib.Omega.{arith}
+use borrow.Author.Tests.{lt-ltb, le-ltb}
 use lib.Ieee.{Float}
-use Rattle.float64.specs.Pick.{pick, yes_of, no_of}
+use Rattle.float64.specs.Pick.{pick, yes, no, yes_of, no_of}
 use Rattle.matrix.specs.Matrix.{Inverse, inverse, answer, inverse_positive}
 use Rattle.matrix.specs.declared.InversePositive.{InversePositive}
 use Rattle.matrix.specs.declared.InversePositive.TheVariants.{Exists, None}
@@ -22,7 +23,7 @@ use Rattle.mode_2d.specs.declared.population_focei_2d.Turn.{Turn}
 use Rattle.mode_2d.specs.declared.population_focei_2d.Onward.{Onward}
 use Rattle.mode_2d.specs.declared.population_focei_2d.Onward.TheVariants.{NoInverse}
 use Rattle.mode_2d.specs.Rules.{nought, of, curvature, step_by, is_passed_over, next_reduction, start_point, request_at, request, advance}
-use Rattle.mode_2d.specs.Turns.{turn_at, turn_after, tried, descended_by, descended, proceeded, gone_on_by, gone_on}
+use Rattle.mode_2d.specs.Turns.{over, beginning, taking, turn_at, turn_after, tried, descended_by, descended, proceeded, gone_on_by, gone_on}
 use Rattle.mode_2d.proofs.Turns.{then, turned}
 
 -- ---- the loop's turn at a reduction; b is what `is_passed_over` answered, a the loop's answer
@@ -109,3 +110,12 @@ module _ (s : Settings2) (x : Search2) where
     -- and what it makes of the search: z is the search afterwards, t what `turn_after` answered
     pub advanced : {t variant : Turn} {z : Search2} → t ≡ turn_after s x c → t ≡ variant → z ≡ then s x c variant → z ≡ advance s x c
     advanced e v q = q ∙ ap (then s x c) (sym v ∙ e) ∙ turned s x c x.stage
+
+-- ---- after a trial that is taken
+pub round_follows : (s : Settings2) (x : Search2) (c : Conditional2) {z : Turn} → x.round < 47 → z ≡ beginning s (x.round + 1) c → z ≡ taking s x c
+unfolding taking
+round_follows s x c n q = yes _ (lt-ltb _ _ n) q
+
+pub no_round_follows : (s : Settings2) (x : Search2) (c : Conditional2) {z : Turn} → 47 ≤ x.round → z ≡ over c → z ≡ taking s x c
+unfolding taking
+no_round_follows s x c n q = no _ (le-ltb _ _ n) q

@@ -446,6 +446,7 @@ fn begin_round(s: Settings2, round: u32, c: Conditional2) -> Turn
 }
 
 // A trial that is taken: the next round begins there, unless this was the last of 48.
+#[tactic(auto, using(crate::proofs::Paths::round_follows, crate::proofs::Paths::no_round_follows))]
 fn take(s: Settings2, x: Search2, c: Conditional2) -> Turn
     ensures { result ≡ taking s x c }
 {

@@ -22,7 +22,7 @@ use Rattle.search.specs.declared.Halted.{Halted}
 use Rattle.search.specs.declared.Wanted.{Wanted}
 use Rattle.search.specs.declared.Wanted.TheVariants as Wants
 use Rattle.population.specs.Kept.{words}
-use Rattle.population.specs.Population.{rows_of, Worked, worked, next_subject, Ended, ended, closing, at_mode, is_over, turned, moved, turn, spent, whole, ran, raised}
+use Rattle.population.specs.Population.{rows_of, Worked, worked, next_subject, Ended, ended, closing, at_mode, is_over, moved, turn, spent, whole, ran, raised}
 use Rattle.population.specs.declared.Turned.{Turned}
 use Rattle.population.specs.declared.Turned.TheVariants.{On, Halt}
 use Rattle.population.specs.Through.{as_with, through_from, taken}

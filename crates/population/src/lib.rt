@@ -4,6 +4,7 @@
 // with a mode; `kept_points` takes a search through kept evaluations, `answers` keeps a reply, and `steps`
 // has the loop over the requests. Each function is defined for all values and words.
 #![tactic(auto)]
+
 ghost use Rattle.std.specs.Prelude.{◌≡◌};
 ghost use Rattle.population.specs.Population.{rows_of, warm_of, warm_stored, worked, next_subject, ended, at_mode};
 

@@ -1,6 +1,6 @@
 -- Observations in words, five each: output, row, value, additive and proportional deviation, the floats by their bits; and the calls of a
 -- session over them.
-use Rattle.std.specs.Prelude.{List, [], ◌∷◌, ℕ, zero, suc, ◌+◌, ◌-◌, ◌*◌, ◌/◌, length, get_or}
+use Rattle.std.specs.Prelude.{List, [], ◌∷◌, ℕ, zero, suc, ◌+◌, ◌*◌, ◌/◌, length, get_or}
 use Rattle.float64.specs.Arithmetic.{word}
 use Rattle.likelihood.specs.declared.population_focei.Observation.{Observation}
 use Rattle.setup.specs.declared.Setup.{Setup}

@@ -3,6 +3,7 @@
 // observation is five words: output, row, value, additive and proportional deviation, the floats by their
 // bits. The tally goes by value. Each function is defined for all values and words.
 #![tactic(auto)]
+
 ghost use Rattle.std.specs.Prelude.{◌≡◌, ◌-◌, length, take, drop, get_or};
 ghost use Rattle.float64.specs.Arithmetic.{word};
 ghost use Rattle.subject.specs.Observations.{first_check, check_observations};

@@ -36,15 +36,13 @@ use Rattle.subject.specs.declared.Sums.{Sums}
 use Rattle.setup.specs.Admission.{omega_of, with_parameters}
 use Rattle.setup.specs.declared.Setup.{Setup}
 use Rattle.setup.specs.declared.Parameters.{Parameters}
-use Rattle.search.specs.declared.Calls.{Calls}
-use Rattle.search.specs.declared.CachedRows.{CachedRows}
 use Rattle.search.specs.declared.Tally.{Tally}
 use Rattle.search.specs.declared.Fit.{Fit}
 use Rattle.search.specs.declared.SubjectSearch.{SubjectSearch}
 use Rattle.search.specs.declared.SubjectSearch.TheVariants as With
 use Rattle.search.specs.declared.Progress.{Progress}
 use Rattle.search.specs.declared.Place.{Place}
-use Rattle.search.specs.declared.Place.TheVariants.{Nowhere, Subject, Observation}
+use Rattle.search.specs.declared.Place.TheVariants.{Nowhere, Subject}
 use Rattle.search.specs.declared.Step.{Step}
 use Rattle.search.specs.declared.Step.TheVariants.{Asked, Finished, Refused}
 use Rattle.search.specs.declared.Halted.{Halted}

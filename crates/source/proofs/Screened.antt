@@ -10,7 +10,7 @@ use lib.Dec.{T, ltb, eqb}
 use lib.IntN.{pos}
 use lib.Ieee.{Float, binary64, of_bits, of_int, lt, le, neg, is_nan}
 use borrow.Author.Tests.{lt-ltb, le-ltb, eqb-true, eqb-false}
-use Rattle.float64.specs.Arithmetic.{◌+ᶠ◌, ◌-ᶠ◌, ◌*ᶠ◌, ◌/ᶠ◌, word, one}
+use Rattle.float64.specs.Arithmetic.{◌+ᶠ◌, ◌*ᶠ◌, ◌/ᶠ◌, word}
 use Rattle.float64.specs.Float64.{abs}
 use Rattle.float64.specs.Pick.{pick, pick_yes, pick_no}
 use Rattle.float64.proofs.Order.{num?, lt→le, of_true}

@@ -1,5 +1,5 @@
 -- What the exported evaluations answer and write.
-use Rattle.std.specs.Prelude.{ℕ, ◌+◌, ◌-◌, List, length, take, drop, slice_set, to_bits, Float}
+use Rattle.std.specs.Prelude.{ℕ, ◌-◌, List, length, take, drop, slice_set, to_bits, Float}
 use Rattle.std.specs.Float.{binary64}
 use Rattle.float64.specs.Answer.{Answer, through}
 use Rattle.matrix.specs.Matrix.{pair, at}
@@ -8,7 +8,6 @@ use Rattle.likelihood.specs.declared.population_focei.Observation.{Observation}
 use Rattle.subject.specs.Observations.{Verdict, verdict, first_check, check_observations}
 use Rattle.subject.specs.Observations.Verdict.{passes, fails, fails_at}
 use Rattle.subject.specs.Subject.{additive_sd, begin, next, evaluating, add_observations, finish}
-use Rattle.subject.specs.declared.Trial.{Trial}
 use Rattle.subject.specs.declared.Sums.{Sums}
 use Rattle.subject.specs.declared.Evaluation.{Evaluation}
 use Rattle.subject.specs.declared.Evaluation.TheVariants.{Running, Refused, RefusedAt}

@@ -1,21 +1,19 @@
 -- The ways through the code: one law for each, over plain variables. Assumes nothing.
-use mathlib.Core.Path.{◌≡◌, refl, sym, ap, ◌∙◌}
+use mathlib.Core.Path.{◌≡◌, refl, ap, ◌∙◌}
 use mathlib.Core.Bool.{Bool, true, false}
-use mathlib.Core.List.{List, [], ◌∷◌, ◌++◌}
-use Prim.Native.Nat.{ℕ, zero, suc, ◌+◌, ◌-◌, ◌*◌, ◌≤◌, ◌<◌}
+use mathlib.Core.List.{List}
+use Prim.Native.Nat.{ℕ, suc, ◌+◌, ◌-◌, ◌*◌, ◌≤◌, ◌<◌}
 use native.Mathlib.Nat.{mul-le-mul}
-use native.Mathlib.Numerals.{add-one}
 use native.Mathlib.Omega.{arith}
 use borrow.Author.Tests.{eq-eqb, ne_eqb}
 use lib.Dec.{eqb}
-use lib.ListN.{get_or, set, take, length}
-use lib.Seq.{take_all, take-suc-set}
+use lib.ListN.{get_or, set}
 use lib.Ieee.{Float, eq}
 use Rattle.float64.specs.Arithmetic.{word}
 use Rattle.float64.specs.Pick.{yes, no, yes_of, no_of}
 use Rattle.cache.specs.Cache.{row_words}
 use Rattle.work.specs.declared.Sources.{Sources}
-use Rattle.words.specs.Words.{smaller, zeros}
+use Rattle.words.specs.Words.{smaller}
 use Rattle.work.specs.Work.{most_rows, rows_length, block, copy_words, copy_block, move_rows, is_same_row, same_from, is_same_grid}
 
 -- ---- what is left of n turns after i

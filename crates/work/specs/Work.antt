@@ -1,6 +1,6 @@
 -- The work words, four blocks of a subject's rows, and the results. Beyond 4,096 subjects and 100,000 rows, which no session has, the
 -- largest numbers stand in.
-use Rattle.std.specs.Prelude.{Bool, true, false, List, [], ◌∷◌, ℕ, zero, suc, ◌+◌, ◌-◌, ◌*◌, eqb, get_or, set, Float}
+use Rattle.std.specs.Prelude.{Bool, true, false, List, ℕ, zero, suc, ◌+◌, ◌*◌, eqb, get_or, set, Float}
 use Rattle.std.specs.Float.{binary64}
 use Rattle.std.specs.Float.Ieee.{to_bits, eq}
 use Rattle.float64.specs.Arithmetic.{word}

@@ -6,6 +6,7 @@
 // Each public function is defined for all words and numbers: beyond the end a word reads as 0, and nothing is
 // written there.
 #![tactic(auto)]
+
 ghost use Rattle.std.specs.Prelude.{◌≡◌, ◌+◌, ◌*◌, ◌≤◌, ◌<◌, length};
 ghost use Rattle.words.specs.Words.{smaller, zeros};
 ghost use Rattle.work.specs.Work.{rows_length, block, copy_words, copy_block, move_rows, is_same_row, is_same_grid};

@@ -5,8 +5,7 @@ use Rattle.std.proofs.Common.{◌∙◌}
 use Rattle.focei_fit.proofs.fit.Goals as goal
 
 pub run-last-requires : goal.run-last-requires
-run-last-requires c =
-    (
+run-last-requires c = (
   c.requires.0,
   c.requires.1,
 )

@@ -30,8 +30,7 @@ slice_bounds-fit-end-2 c =
     c.args.subjects) (replicate 256 0) c.counts-n.ensures))
 
 pub fit-requires : goal.fit-requires
-fit-requires c =
-    (
+fit-requires c = (
   c.requires.0,
   omega arith,
   few_counts c.args.input.now c.args.subjects (whole_counts c.args.input.now (replicate 256 0) c.args.subjects c.requires.1 (length-replicate {A = ℕ} 256 0)

@@ -53,17 +53,17 @@ returns-in-Refused c =
 
 pub loop-left-preserved : goal.loop-left-preserved
 loop-left-preserved c =
-    let a = c.args in let l = c.loop-left in let kept = c.answer-at.auto.input in (
-  play_asked a.input.now a.counts.now a.observations.now l.left (called l.at l.cache l.work l.warm l.results)
-      c.loop-left-test.true
-      c.in-Asked.is
-      c.answer-at.ensures ∙ l.inv.0,
-  kept.1.1.1.1.1.0 ∙ l.inv.1,
-  kept.1.1.1.1.1.1.0 ∙ l.inv.2,
-  kept.1.1.1.1.1.1.1.0 ∙ l.inv.3,
-  kept.1.1.1.1.1.1.1.1.0 ∙ l.inv.4,
-  kept.1.1.1.1.1.1.1.1.1.0 ∙ l.inv.5,
-)
+    let a = c.args in let l = c.loop-left in let kept = c.answer-at.auto in (
+      play_asked a.input.now a.counts.now a.observations.now l.left (called l.at l.cache l.work l.warm l.results)
+          c.loop-left-test.true
+          c.in-Asked.is
+          c.answer-at.ensures ∙ l.invariant.0,
+      kept.reply ∙ l.invariant.1,
+      kept.cache ∙ l.invariant.2,
+      kept.work ∙ l.invariant.3,
+      kept.warm ∙ l.invariant.4,
+      kept.results ∙ l.invariant.5,
+    )
 
 pub shape_of-reply : goal.shape_of-reply
 shape_of-reply c = c.loop-left.invariant.1

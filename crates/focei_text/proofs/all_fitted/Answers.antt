@@ -19,11 +19,11 @@ overflow_add-word c = let low = few_rows _ _ c.rows_of-rows.ensures in search ru
 pub loop-subject-preserved : goal.loop-subject-preserved
 loop-subject-preserved c =
     let low = few_rows _ _ c.rows_of-rows.ensures in (
-  all_step _ _ _ _ _ _ c.loop-subject-test.true
-      c.rows_of-rows.ensures c.fitted_lines-end.ensures ∙ c.loop-subject.invariant.0,
-  c.fitted_lines-end.auto.out ∙ c.loop-subject.invariant.1,
-  omega arith,
-)
+      all_step _ _ _ _ _ _ c.loop-subject-test.true
+          c.rows_of-rows.ensures c.fitted_lines-end.ensures ∙ c.loop-subject.invariant.0,
+      c.fitted_lines-end.auto.out ∙ c.loop-subject.invariant.1,
+      omega arith,
+    )
 
 pub shape_of-out : goal.shape_of-out
 shape_of-out c = c.loop-subject.invariant.1

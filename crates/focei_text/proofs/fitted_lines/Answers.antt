@@ -8,8 +8,7 @@ pub loop-i-init : goal.loop-i-init
 loop-i-init c = (simp sub-zero, refl, omega arith)
 
 pub loop-i-preserved : goal.loop-i-preserved
-loop-i-preserved c =
-    (
+loop-i-preserved c = (
   fitted_step _ _ _ _ _ _ c.loop-i-test.true c.read-population.ensures
       c.read-individual.ensures c.fitted_line-end.ensures ∙ c.loop-i.invariant.0,
   c.fitted_line-end.auto.out ∙ c.loop-i.invariant.1,

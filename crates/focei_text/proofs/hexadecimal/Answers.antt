@@ -10,8 +10,7 @@ pub byte-end-requires : goal.byte-end-requires
 byte-end-requires c = tt
 
 pub loop-left-preserved : goal.loop-left-preserved
-loop-left-preserved c =
-    (
+loop-left-preserved c = (
   hex_step _ _ _ c.loop-left-test.true c.glyph.ensures c.byte-end.ensures ∙ c.loop-left.invariant.0,
   c.byte-end.auto.out ∙ c.loop-left.invariant.1,
   omega arith,

@@ -8,8 +8,7 @@ pub loop-subject-init : goal.loop-subject-init
 loop-subject-init c = (simp sub-zero, refl)
 
 pub loop-subject-preserved : goal.loop-subject-preserved
-loop-subject-preserved c =
-    (
+loop-subject-preserved c = (
   subjects_step _ _ _ _ c.loop-subject-test.true c.read.ensures c.subject_line-end.ensures ∙ c.loop-subject.invariant.0,
   c.subject_line-end.auto.out ∙ c.loop-subject.invariant.1,
 )

@@ -8,10 +8,10 @@ pub returns-in-Given : goal.returns-in-Given
 unfolding told number_of or_old
 returns-in-Given c =
     let found = sym (ap told c.in-Given.is) ∙ c.shrinkage_from.ensures in
-    (ap number_of found, ap (or_old _) found)
+    record { value = ap number_of found; shrinkage_after = ap (or_old _) found }
 
 pub returns-in-None : goal.returns-in-None
 unfolding told number_of or_old
 returns-in-None c =
     let found = sym (ap told c.in-None.is) ∙ c.shrinkage_from.ensures in
-    (ap number_of found, ap (or_old _) found)
+    record { value = ap number_of found; shrinkage_after = ap (or_old _) found }

@@ -1,7 +1,6 @@
 -- `requests` meets its contract: each turn and each exit by its law. Assumes nothing.
 use Rattle.std.proofs.Common.{refl, ◌∙◌, arith}
 use Rattle.population.specs.Kept.{cache_of}
-use Rattle.population.specs.Population.{turn}
 use Rattle.population.proofs.Passing.{ends_from}
 use Rattle.population.proofs.StepsPaths.{requests_spent, requests_on, requests_halt}
 use Rattle.population.proofs.steps.requests.Goals as goal

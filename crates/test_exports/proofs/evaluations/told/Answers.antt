@@ -9,4 +9,4 @@ pub returns-in-Refused : goal.returns-in-Refused
 returns-in-Refused c = refusal_told _ _ c.finish.ensures c.in-Refused.is c.put.ensures
 
 pub returns-in-RefusedAt : goal.returns-in-RefusedAt
-returns-in-RefusedAt c = refusal_at_told _ _ c.finish.ensures c.in-RefusedAt.is c.wrapping_add_u64.ensures c.put-in-RefusedAt.ensures
+returns-in-RefusedAt c = refusal_at_told _ _ c.finish.ensures c.in-RefusedAt.is c.wrapping_add_u64.ensures.value c.put-in-RefusedAt.ensures

@@ -9,13 +9,14 @@ pub returns-in-Valid : goal.returns-in-Valid
 unfolding answer observation_of number_of added add_row
 returns-in-Valid c =
     let found = sym (ap answer c.in-Valid.is) ∙ c.row_variance.ensures in
-    let row = c.scaled_row-row.ensures in (
-      ap number_of found,
-      rw (c.add_nll.ensures, c.add_score-next_score.ensures, c.add_information-next_information.ensures, row) (ap (added _ _ _ _) found),
-    )
+    let row = c.scaled_row-row.ensures in
+    record {
+      value = ap number_of found;
+      information_after = rw (c.add_nll.ensures, c.add_score-next_score.ensures, c.add_information-next_information.ensures, row) (ap (added _ _ _ _) found);
+    }
 
 pub returns-in-Invalid : goal.returns-in-Invalid
 unfolding answer observation_of number_of added add_row
 returns-in-Invalid c =
     let found = sym (ap answer c.in-Invalid.is) ∙ c.row_variance.ensures in
-    (ap number_of found, ap (added _ _ _ _) found)
+    record { value = ap number_of found; information_after = ap (added _ _ _ _) found }

@@ -8,10 +8,10 @@ pub returns-in-Exists : goal.returns-in-Exists
 unfolding answer exists inverse_or det_or
 returns-in-Exists c =
     let found = sym (ap (answer _) c.in-Exists.is) ∙ c.inverse_positive.ensures in
-    (ap exists found, (c.inverse-i.ensures ∙ ap (inverse_or _) found, ap (det_or _) found))
+    record { value = ap exists found; inverse_after = c.inverse-i.ensures ∙ ap (inverse_or _) found; det_after = ap (det_or _) found }
 
 pub returns-in-None : goal.returns-in-None
 unfolding answer exists inverse_or det_or
 returns-in-None c =
     let found = sym (ap (answer _) c.in-None.is) ∙ c.inverse_positive.ensures in
-    (ap exists found, (ap (inverse_or _) found, ap (det_or _) found))
+    record { value = ap exists found; inverse_after = ap (inverse_or _) found; det_after = ap (det_or _) found }

@@ -9,16 +9,16 @@ pub returns-in-Terms : goal.returns-in-Terms
 unfolding answer observation_of number_of terms_or
 returns-in-Terms c =
     let found = sym (ap answer c.in-Terms.is) ∙ c.row_terms.ensures in
-    (ap number_of found, ap (terms_or _) found)
+    record { value = ap number_of found; terms_after = ap (terms_or _) found }
 
 pub returns-in-InvalidVariance : goal.returns-in-InvalidVariance
 unfolding answer observation_of number_of terms_or
 returns-in-InvalidVariance c =
     let found = sym (ap answer c.in-InvalidVariance.is) ∙ c.row_terms.ensures in
-    (ap number_of found, ap (terms_or _) found)
+    record { value = ap number_of found; terms_after = ap (terms_or _) found }
 
 pub returns-in-Overflow : goal.returns-in-Overflow
 unfolding answer observation_of number_of terms_or
 returns-in-Overflow c =
     let found = sym (ap answer c.in-Overflow.is) ∙ c.row_terms.ensures in
-    (ap number_of found, ap (terms_or _) found)
+    record { value = ap number_of found; terms_after = ap (terms_or _) found }

@@ -1,9 +1,15 @@
 -- `curlewstand_mode_2d_advance` meets its contract: each exit by its law. Assumes nothing.
+use Rattle.test_exports.specs.Mode2d.{settings_of, point_of}
 use Rattle.test_exports.proofs.Paths.{advance_given, advance_none}
 use Rattle.test_exports.proofs.mode_2d_search.curlewstand_mode_2d_advance.Goals as goal
 
 pub returns-in-Given : goal.returns-in-Given
-returns-in-Given c = advance_given _ c.load.ensures c.settings_of-settings.ensures _ c.point_of-c.ensures c.in-Given.is c.advance.ensures c.save-next.ensures
+returns-in-Given c =
+    let e = advance_given _ c.load.ensures c.settings_of-settings.ensures c.args.search.now c.point_of-c.ensures c.in-Given.is c.advance.ensures c.save-next.ensures in
+    record { value = e.0; search_after = e.1 }
 
 pub returns-in-None : goal.returns-in-None
-returns-in-None c = advance_none _ c.load.ensures c.in-None.is _ _ _
+returns-in-None c =
+    let e = advance_none _ c.load.ensures c.in-None.is (settings_of c.args.eta_bound c.args.precision.now c.args.warm.now)
+    (point_of c.args.eta.now c.args.nll c.args.score.now c.args.information.now) c.args.search.now in
+    record { value = e.0; search_after = e.1 }

@@ -9,10 +9,10 @@ pub returns-in-Given : goal.returns-in-Given
 unfolding answer through advanced number_of or_old
 returns-in-Given c =
     let found = ap (through (next _ _)) (sym (ap answer c.in-Given.is) ∙ c.load.ensures) in
-    (ap number_of found, c.save-next.ensures ∙ ap saved c.advance.ensures ∙ ap (or_old _) found)
+    record { value = ap number_of found; search_after = c.save-next.ensures ∙ ap saved c.advance.ensures ∙ ap (or_old _) found }
 
 pub returns-in-None : goal.returns-in-None
 unfolding answer through advanced number_of or_old
 returns-in-None c =
     let found = ap (through (next _ _)) (sym (ap answer c.in-None.is) ∙ c.load.ensures) in
-    (ap number_of found, ap (or_old _) found)
+    record { value = ap number_of found; search_after = ap (or_old _) found }

@@ -11,24 +11,24 @@ unfolding answer through requested request_number point_or
 returns-in-Point c =
     let found = ap (through (request _)) (sym (ap answer c.in-Given.is) ∙ c.load.ensures) in
     let told = ap given (sym c.in-Point.is ∙ c.request.ensures) ∙ found in
-    (ap request_number told, ap (point_or _) told)
+    record { value = ap request_number told; point_after = ap (point_or _) told }
 
 pub returns-in-Mode : goal.returns-in-Mode
 unfolding answer through requested request_number point_or
 returns-in-Mode c =
     let found = ap (through (request _)) (sym (ap answer c.in-Given.is) ∙ c.load.ensures) in
     let told = ap given (sym c.in-Mode.is ∙ c.request.ensures) ∙ found in
-    (ap request_number told, ap (point_or _) told)
+    record { value = ap request_number told; point_after = ap (point_or _) told }
 
 pub returns-in-Refused : goal.returns-in-Refused
 unfolding answer through requested request_number point_or
 returns-in-Refused c =
     let found = ap (through (request _)) (sym (ap answer c.in-Given.is) ∙ c.load.ensures) in
     let told = ap given (sym c.in-Refused.is ∙ c.request.ensures) ∙ found in
-    (ap request_number told, ap (point_or _) told)
+    record { value = ap request_number told; point_after = ap (point_or _) told }
 
 pub returns-in-None : goal.returns-in-None
 unfolding answer through requested request_number point_or
 returns-in-None c =
     let found = ap (through (request _)) (sym (ap answer c.in-None.is) ∙ c.load.ensures) in
-    (ap request_number found, ap (point_or _) found)
+    record { value = ap request_number found; point_after = ap (point_or _) found }

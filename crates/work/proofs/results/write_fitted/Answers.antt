@@ -30,8 +30,7 @@ overflow_add-best c = search rules
 
 pub loop-i-preserved : goal.loop-i-preserved
 loop-i-preserved c =
-    let so_far = c.loop-i.invariant in
-    (
+    let so_far = c.loop-i.invariant in (
       fitted_step _ _ _ _ _ _ c.loop-i-test.true c.block-population.ensures c.block-best.ensures c.read.ensures c.put.ensures c.read-in-loop-i.ensures
           c.put-in-loop-i.ensures
           ∙ so_far.0,
