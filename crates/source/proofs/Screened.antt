@@ -25,7 +25,7 @@ use Rattle.mode_theorems.specs.Histories.{led_from}
 use Rattle.search.specs.Subjects.{sources1, sources_at, grid_sources}
 use Rattle.mode_theorems.proofs.Screen.{side, true_of, next, stays, stays_under, Bad, stays_bad, keeps_first}
 use Rattle.mode_theorems.proofs.Screen as S
-use Rattle.source.specs.Run.{Run, done, ask, stop, ◌>>=◌, ◌>>◌, if◌then◌else◌, err, Flow, turn, rounds, for, refused}
+use Rattle.source.specs.Run.{Run, done, ask, stop, ◌>>=◌, ◌>>◌, when◌then◌else◌, err, Flow, turn, rounds, for, refused}
 use Rattle.source.specs.Run as Runs
 use Rattle.source.specs.Source.{Conditional, at, nowhere, Pair, windows_from, windows, filter, any, first_of, mode}
 use Rattle.source.specs.Claim.{bare, from, moved, State, step, begin, led, told_by, told}
