@@ -325,14 +325,14 @@ static inline const char *curlewstand_sentence(uint32_t number) {
     case 3: return "the bound of eta, the tolerance, the width, the kept rows or the override is out of range";
     case 4: return "an observation has no such output, a value that is not finite, or no valid deviation";
     case 5: return "too little memory is lent";
-    case 6: return "no evaluation is left of those that the session may take";
+    case 6: return "no evaluation is left of those that the session may ask for";
     case 7: return "an individual value theta·exp(eta) is not finite and above 0";
     case 8: return "the simulator failed, or its reply is not whole rows";
     case 9: return "the reply has more values and derivatives than the output budget";
     case 10: return "the reply lacks the observation's row";
     case 11: return "the variance is not finite and above 0, or the prediction or its sensitivity is not finite";
     case 12: return "terms or sums of the likelihood are not finite";
-    case 13: return "no mode is found within the bound of eta: with one effect the score does not rise through zero on the grid, with two a search is unresolved (norm above 1e-3) or reaches the bound";
+    case 13: return "the subject's mode is not within the bound of eta";
     case 14: return "the subject has several modes";
     case 15: return "the search for the subject's mode has not settled";
     case 16: return "the curvature at the subject's mode, or on the way there, is not positive";

@@ -16,10 +16,15 @@ compile() { # SOURCE ARCHIVE PROGRAM
     gcc -std=c11 -Wall -Wextra -Werror -Iinclude "$1" "$2" -lm -o "$made/$3"
 }
 
-for source in tests/session.c tests/two_effects.c tests/fit.c examples/host.c; do
+# the calls by themselves, for which a host needs no other library
+gcc -std=c11 -Wall -Wextra -Werror -Iinclude tests/session.c "$archive" -o "$made/session" \
+    || fail "tests/session.c does not compile against the header"
+"$made/session" || fail "tests/session.c found a fault"
+
+for source in tests/session_struct.c tests/two_effects.c tests/fit.c examples/host.c; do
     compile "$source" "$archive" "$(basename "$source" .c)" || fail "$source does not compile against the header"
 done
-"$made/session" || fail "tests/session.c found a fault"
+"$made/session_struct" || fail "tests/session_struct.c found a fault"
 "$made/two_effects" || fail "tests/two_effects.c found a fault"
 "$made/fit" examples/cohort.bin examples/cohort.out || fail "tests/fit.c found a fault"
 "$made/host" >"$made/host.out" || fail "examples/host.c did not end well"

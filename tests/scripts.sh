@@ -203,7 +203,7 @@ run: focei proved, 7 s (2 of 2)' ] || fail "progress is not told"
     ends 1 './run examples/cohort.bin'
     prints 'R 13 0 -'
     says '^run: focei proved, [0-9]* s (2 of 2)$'
-    says '^run: refused with 13: no mode is found within the bound'
+    says "^run: refused with 13: the subject's mode is not within the bound"
     ! grep -q 'ground proved' "$err" || fail "an unchanged crate is told"
     echo 'O text of focei' >crates/focei/src/main.rt
     ends 4 './run examples/cohort.bin'

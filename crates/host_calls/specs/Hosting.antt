@@ -17,9 +17,9 @@ use Rattle.search.specs.declared.Place.TheVariants as At
 use Rattle.search.specs.declared.Step.{Step}
 use Rattle.search.specs.declared.Step.TheVariants as Says
 use Rattle.search.specs.declared.Tally.{Tally}
-use Rattle.machine.specs.Machine.{Ran, ran, call}
+use Rattle.machine.specs.Machine.{Ran, call}
 use Rattle.population.specs.Kept.{words}
-use Rattle.session.specs.Calls.{held_of, called, state_of, entered, Setting, opened_by, unadmitted, admit_reply, finish_reply}
+use Rattle.session.specs.Calls.{held_of, state_of, entered, Setting, opened_by, unadmitted, admit_reply, finish_reply}
 use Rattle.session.specs.Session.{Held, Call, all_checked, enter_objective, enter_failure, session}
 use Rattle.session.specs.declared.Admitted.{Admitted}
 use Rattle.session.specs.declared.Awaited.{Awaited}

@@ -14,7 +14,7 @@ use Rattle.machine.specs.Claim.{Demand3}
 use Rattle.machine.specs.Lawful.{Kept, Advances, Over, Begins, Turn, Enters, Lawful}
 use Rattle.machine.specs.Lawful.Enters.{same, begins, replied, failed}
 use Rattle.machine.specs.Lawful.Turn.{hit, short, wild, miss, next, barred, last, fails}
-use Rattle.machine.specs.Log.{Entry, End, not_yet, in_mode, in_refusal, stop, Every, none, more, Searched, history, OfEvaluation, told, begun, latest, note, read, searches, counts, Through}
+use Rattle.machine.specs.Log.{Entry, End, not_yet, in_mode, in_refusal, stop, Every, none, more, Searched, history, OfEvaluation, told, begun, latest, note, read, counts, Through}
 use Rattle.machine.specs.Log.{Chain, Ended, Waits, Holds}
 use Rattle.machine.specs.Log.Event.{Began, Ask, Count, Got, Mode, Refused}
 use Rattle.machine.specs.Machine.{halt, Machine, Outcome, Move, requests, onward, loop, call, Act, calls, sets, set, run}

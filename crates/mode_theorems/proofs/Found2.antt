@@ -23,7 +23,7 @@ use Rattle.mode_2d.specs.Rules.{request_at, request, advance_at, advance, betwee
 use Rattle.mode_theorems.specs.Histories.{led_from, Answered}
 use Rattle.mode_theorems.specs.Terms2 as W
 use Rattle.mode_theorems.specs.Terms2.{etas, joint, NoHigher}
-use Rattle.mode_theorems.specs.History2.{FollowsFrom, Follows, after_from, after, is_start, starts_from, starts, with_candidate, candidates_from, candidates}
+use Rattle.mode_theorems.specs.History2.{FollowsFrom, Follows, after_from, after, is_start, starts_from, with_candidate, candidates_from, candidates}
 use Rattle.mode_theorems.specs.Claim2.{Divided, PassAfter, Pass, Found2, Unresolved, Several, NoInverse, TwoSearch, Bounded}
 use Rattle.mode_theorems.proofs.Words2.{start_points_from, starts_are, resolved_is, unresolved_is, far_is, near_is, better_is, flat_is}
 use Rattle.mode_theorems.proofs.Count2.{is_mode, mode-true, is_point, point_true, point_of, at_most_6343}

@@ -68,7 +68,7 @@ to_mode_lem =
 pub comes_to_mode : Comes origin to_mode_lem Mode
 unfolding of_bits round sum is_nan lt le eq neg add sub mul div abs max clamp pick matrixSum determinant product dot inverse has_nonfinite_entry inverse_positive max_abs is_same prior_score joint penalised_score norm
     curvature step_by scale reduced trial_point decrease is_passed_over next_reduction is_taken start_point is_unresolved is_far better between trying finish try_from descend_by descend begin_round take leave
-    request_at advance_at start led_from Answered finite
+    request_at advance_at start led_from Answered
 comes_to_mode = record {
   follows = (
     ok tt tt tt tt tt,
@@ -93,7 +93,7 @@ to_bound_lem = flat origin ∷ point (of four nought) (of (neg eight) nought) no
 pub comes_to_13 : Comes (of four nought) to_bound_lem (Refused 13)
 unfolding of_bits round sum is_nan lt le eq neg add sub mul div abs max clamp pick matrixSum determinant product dot inverse has_nonfinite_entry inverse_positive max_abs is_same prior_score joint penalised_score norm
     curvature step_by scale reduced trial_point decrease is_passed_over next_reduction is_taken start_point is_unresolved is_far better between trying finish try_from descend_by descend begin_round take leave
-    request_at advance_at start led_from Answered finite
+    request_at advance_at start led_from Answered
 comes_to_13 = record { follows = (ok tt tt tt tt tt, (ok tt tt tt tt tt, tt)); asks = refl }
 
 -- ---- the warm start is a candidate, and so is zero: 14
@@ -103,7 +103,7 @@ to_two = flat origin ∷ point (of two nought) (of (neg two) nought) nought ∷ 
 pub comes_to_14 : Comes (of two nought) to_two (Refused 14)
 unfolding of_bits round sum is_nan lt le eq neg add sub mul div abs max clamp pick matrixSum determinant product dot inverse has_nonfinite_entry inverse_positive max_abs is_same prior_score joint penalised_score norm
     curvature step_by scale reduced trial_point decrease is_passed_over next_reduction is_taken start_point is_unresolved is_far better between trying finish try_from descend_by descend begin_round take leave
-    request_at advance_at start led_from Answered finite
+    request_at advance_at start led_from Answered
 comes_to_14 = record { follows = (ok tt tt tt tt tt, (ok tt tt tt tt tt, (ok tt tt tt tt tt, tt))); asks = refl }
 
 -- ---- an information that undoes the precision: 16
@@ -113,5 +113,5 @@ to_flat = flat origin ∷ point origin (of one nought) (neg one) ∷ []
 pub comes_to_16 : Comes origin to_flat (Refused 16)
 unfolding of_bits round sum is_nan lt le eq neg add sub mul div abs max clamp pick matrixSum determinant product dot inverse has_nonfinite_entry inverse_positive max_abs is_same prior_score joint penalised_score norm
     curvature step_by scale reduced trial_point decrease is_passed_over next_reduction is_taken start_point is_unresolved is_far better between trying finish try_from descend_by descend begin_round take leave
-    request_at advance_at start led_from Answered finite
+    request_at advance_at start led_from Answered
 comes_to_16 = record { follows = (ok tt tt tt tt tt, (ok tt tt tt tt tt, tt)); asks = refl }

@@ -26,7 +26,6 @@ use Rattle.search.specs.Subjects.{fit_in, fit_of, wanted_by, idle, begin_subject
 use Rattle.search.specs.declared.Fit.{Fit}
 use Rattle.search.specs.declared.Place.{Place}
 use Rattle.search.specs.declared.Place.TheVariants as At
-use Rattle.search.specs.declared.Progress.{Progress}
 use Rattle.search.specs.declared.Tally.{Tally}
 use Rattle.search.specs.declared.Step.{Step}
 use Rattle.search.specs.declared.Step.TheVariants.{Refused}
@@ -38,7 +37,6 @@ use Rattle.population.specs.Population.{rows_of, warm_of, whole_of, turn, spent}
 use Rattle.session.specs.Session.{Held, held, fuel, is_standing, when_admitted, opened, replied, turn_held}
 use Rattle.session.specs.declared.State.{State}
 use Rattle.session.specs.declared.Called.{Called}
-use Rattle.session.specs.declared.Opening.{Opening}
 use Rattle.session.specs.declared.Opening.TheVariants as Opens
 use Rattle.session.specs.declared.Begun.{Begun}
 use Rattle.session.specs.declared.Awaited.{Awaited}

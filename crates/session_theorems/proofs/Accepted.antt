@@ -10,7 +10,6 @@ use borrow.Author.Tests.{ltb-true, ltb-false, eqb-true}
 use lib.Dec.{ltb, eqb}
 use lib.ListN.{get_or, length}
 use Rattle.float64.specs.Pick.{cases}
-use Rattle.matrix.specs.Matrix.{some}
 use Rattle.subject.specs.declared.Check.{Check}
 use Rattle.subject.specs.declared.Check.TheVariants.{Sound, Unsound}
 use Rattle.work.specs.Work.{most_rows}

@@ -3,7 +3,7 @@ use mathlib.Core.Path.{◌≡◌, refl, sym, subst, ◌∙◌}
 use mathlib.Core.Bool.{false}
 use mathlib.Core.List.{List}
 use mathlib.Core.Option.{Option, none, some}
-use Prim.Native.Nat.{ℕ, zero, suc, ◌-◌, ◌*◌}
+use Prim.Native.Nat.{ℕ, zero, suc}
 use native.Mathlib.Omega.{arith}
 use borrow.Author.Tests.{eq-eqb}
 use lib.Dec.{T, eqb}
@@ -28,7 +28,6 @@ use Rattle.search.specs.declared.Closed.{Closed}
 use Rattle.search.specs.declared.Closed.TheVariants.{Positive, NotPositive}
 use Rattle.search.specs.declared.Fit.{Fit}
 use Rattle.search.specs.declared.Halted.{Halted}
-use Rattle.search.specs.declared.Mode.{Mode}
 use Rattle.search.specs.declared.Place.{Place}
 use Rattle.search.specs.declared.Place.TheVariants as At
 use Rattle.search.specs.declared.Progress.{Progress}
@@ -45,7 +44,7 @@ use Rattle.population.specs.declared.Turned.{Turned}
 use Rattle.population.specs.declared.Turned.TheVariants.{On, Halt}
 use Rattle.session.specs.Session as N
 use Rattle.session.specs.Session.{Held, Call, objective, reply, failure}
-use Rattle.session_theorems.specs.Evaluations.{M, second}
+use Rattle.session_theorems.specs.Evaluations.{M}
 
 -- ---- an objective's fit has its own theta and deviation
 pub record Given (parameters : Parameters) (fit : Fit) : Type 0 where

@@ -10,7 +10,6 @@ use lib.Ieee.Bits.{of_bits-fits, of_bits-to_bits}
 use lib.Ieee.Fits.{add-fits}
 use Rattle.float64.specs.Answer.{Answer, given, refused, through}
 use Rattle.float64.specs.Pick.{both, cases}
-use Rattle.matrix.specs.Matrix.{at}
 use Rattle.likelihood.specs.Row2.{add_nll, add_score, add_information}
 use Rattle.likelihood.specs.declared.population_focei.Observation.{Observation}
 use Rattle.likelihood.specs.declared.population_focei.RowTerms.{RowTerms}

@@ -2,8 +2,8 @@
 use mathlib.Core.Path.{◌≡◌, refl, sym, ap, subst, ◌∙◌}
 use mathlib.Core.Bool.{Bool, true, false}
 use mathlib.Core.List.{List, [], ◌∷◌, ◌++◌}
-use mathlib.Core.Logic.{◌⊎◌, ⊎_elim}
-use mathlib.Core.Option.{none, some}
+use mathlib.Core.Logic.{⊎_elim}
+use mathlib.Core.Option.{none}
 use Prim.Native.Nat.{ℕ, ◌+◌, ◌-◌, ◌*◌, ◌≤◌, ◌<◌}
 use native.Mathlib.Omega.{arith}
 use borrow.Author.Tests.{ltb-true, ltb-false}
@@ -38,12 +38,12 @@ use Rattle.search.specs.declared.Step.TheVariants as Answers
 use Rattle.search.proofs.Fits.{fit_effects, fit_k}
 use Rattle.machine.specs.Machine.{call, set, Act, run}
 use Rattle.population.specs.Kept.{words, order_rows}
-use Rattle.population.specs.Population.{rows_of, answered, receive, take as takes}
+use Rattle.population.specs.Population.{rows_of, receive, take as takes}
 use Rattle.session.specs.Session as N
 use Rattle.session.specs.Session.{Held, Call, objective, reply, failure}
 use Rattle.session_theorems.specs.Inner.{Inner, inner1, inner2, point_wanted}
 use Rattle.session_theorems.specs.LetIn.{LetIn, wanted_point}
-use Rattle.session_theorems.specs.Evaluations.{has_override, override, M, Keeping, second, kept_of, with_reply, kept_by, Evaluates, EveryEvaluation}
+use Rattle.session_theorems.specs.Evaluations.{has_override, override, M, Keeping, kept_of, with_reply, kept_by, Evaluates, EveryEvaluation}
 use Rattle.session_theorems.proofs.Accepted.{Accepts, rows_within, accepts}
 use Rattle.session_theorems.proofs.Blocks.{words_same}
 use Rattle.session_theorems.proofs.Entries.{block_end}

@@ -17,7 +17,7 @@ use Rattle.session.specs.Session.{all_checked, opened}
 use Rattle.session.specs.declared.Opening.{Opening}
 use Rattle.session.specs.declared.Opening.TheVariants as Opens
 use Rattle.session.specs.declared.State.{State}
-use Rattle.session_theorems.specs.Setup.{Opens, EverySetup}
+use Rattle.session_theorems.specs.Setup.{EverySetup}
 
 is_opened : Opening → Bool
 is_opened (Opens.Opened s) = true

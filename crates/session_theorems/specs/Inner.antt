@@ -1,5 +1,5 @@
 -- How a session's state is read as a search of the rules, with one effect and with two.
-use Rattle.std.specs.Prelude.{◌≡◌, ◌⊎◌, List, [], ◌∷◌, ℕ, ◌*◌, length, take, drop, Float}
+use Rattle.std.specs.Prelude.{◌≡◌, ◌⊎◌, List, [], ℕ, ◌*◌, length, take, drop, Float}
 use Rattle.std.proofs.Math.Option.{Option, none, some}
 use Rattle.float64.specs.Arithmetic.{◌+ᶠ◌, ◌/ᶠ◌, word}
 use Rattle.matrix.specs.declared.Pair.{Pair}

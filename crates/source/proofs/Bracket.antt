@@ -2,7 +2,7 @@
 use mathlib.Core.Path.{◌≡◌, refl, sym, ap, ◌∙◌, subst}
 use mathlib.Core.Logic.{inl, inr}
 use mathlib.Core.Bool.{Bool, true, false, not, ◌&&◌, ◌||◌}
-use mathlib.Core.List.{List, [], ◌∷◌}
+use mathlib.Core.List.{List}
 use Prim.Native.Nat.{ℕ, zero, suc, ◌+◌, ◌≤◌, ◌<◌}
 use native.Mathlib.Omega.{arith}
 use lib.Ieee.{Float, lt, le}
@@ -18,7 +18,7 @@ use Rattle.mode.specs.declared.population_focei.Request.{Request}
 use Rattle.mode.specs.declared.population_focei.Request.TheVariants.{Point, Mode, Refused}
 use Rattle.mode.specs.Rules as R
 use Rattle.search.specs.Subjects.{sources1, sources_at, bracket_sources}
-use Rattle.source.specs.Run.{Run, done, ask, stop, ◌>>=◌, ◌>>◌, if◌then◌else◌, err, Flow, next, break, turn, rounds, for, asks, found, refused}
+use Rattle.source.specs.Run.{Run, done, ask, stop, ◌>>=◌, ◌>>◌, err, Flow, next, break, turn, rounds, for, asks, found, refused}
 use Rattle.source.specs.Source.{Conditional, «1e-1», Bracket, narrow}
 use Rattle.source.specs.Claim.{bare, Blocks, from, moved, State, step, begin, led, told_by, told_at, told, view}
 use Rattle.source.proofs.Tells.{push, or_not, or_pick, led_push, Tells}

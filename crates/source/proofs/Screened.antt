@@ -10,7 +10,7 @@ use lib.Dec.{T, ltb, eqb}
 use lib.IntN.{pos}
 use lib.Ieee.{Float, binary64, of_bits, of_int, lt, le, neg, is_nan}
 use borrow.Author.Tests.{lt-ltb, le-ltb, eqb-true, eqb-false}
-use Rattle.float64.specs.Arithmetic.{◌+ᶠ◌, ◌-ᶠ◌, ◌*ᶠ◌, ◌/ᶠ◌, word, one}
+use Rattle.float64.specs.Arithmetic.{◌+ᶠ◌, ◌*ᶠ◌, ◌/ᶠ◌, word}
 use Rattle.float64.specs.Float64.{abs}
 use Rattle.float64.specs.Pick.{pick, pick_yes, pick_no}
 use Rattle.float64.proofs.Order.{num?, lt→le, of_true}
@@ -25,7 +25,7 @@ use Rattle.mode_theorems.specs.Histories.{led_from}
 use Rattle.search.specs.Subjects.{sources1, sources_at, grid_sources}
 use Rattle.mode_theorems.proofs.Screen.{side, true_of, next, stays, stays_under, Bad, stays_bad, keeps_first}
 use Rattle.mode_theorems.proofs.Screen as S
-use Rattle.source.specs.Run.{Run, done, ask, stop, ◌>>=◌, ◌>>◌, if◌then◌else◌, err, Flow, turn, rounds, for, refused}
+use Rattle.source.specs.Run.{Run, done, ask, stop, ◌>>=◌, ◌>>◌, when◌then◌else◌, err, Flow, turn, rounds, for, refused}
 use Rattle.source.specs.Run as Runs
 use Rattle.source.specs.Source.{Conditional, at, nowhere, Pair, windows_from, windows, filter, any, first_of, mode}
 use Rattle.source.specs.Claim.{bare, from, moved, State, step, begin, led, told_by, told}

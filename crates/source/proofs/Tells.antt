@@ -7,7 +7,7 @@ use Prim.Native.Nat.{◌+◌}
 use lib.ListN.{length, length-append}
 use Rattle.float64.specs.Pick.{pick}
 use Rattle.mode_theorems.specs.Histories.{led_from}
-use Rattle.source.specs.Run.{Run, done, ask, stop, ◌>>=◌, play, Asked, AskedAt, Said, asks, found, refused, said}
+use Rattle.source.specs.Run.{Run, done, ask, stop, play, Asked, AskedAt, Said, asks, found, refused, said}
 
 abbrev pub push : {A : Type 0} → List A → A → List A
 push l a = l ++ (a ∷ [])

@@ -20,9 +20,9 @@ stop n >>= f = stop n
 abbrev pub ◌>>◌ : {P C B : Type 0} → Run P C (Unit {0}) → Run P C B → Run P C B
 ◌>>◌ r q = ◌>>=◌ r (λ u. q)
 
-infix 10 if◌then◌else◌
-abbrev pub if◌then◌else◌ : {X : Type 0} → Bool → X → X → X
-if◌then◌else◌ b x y = pick b x y
+infix 10 when◌then◌else◌
+abbrev pub when◌then◌else◌ : {X : Type 0} → Bool → X → X → X
+when◌then◌else◌ b x y = pick b x y
 
 -- if b { return Err(n) }
 abbrev pub err : {P C : Type 0} → Bool → ℕ → Run P C (Unit {0})

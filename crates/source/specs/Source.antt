@@ -6,7 +6,7 @@ use Rattle.std.specs.Float.Ieee.{of_int, lt, le, neg}
 use Rattle.float64.specs.Arithmetic.{◌+ᶠ◌, ◌-ᶠ◌, ◌*ᶠ◌, ◌/ᶠ◌, word, half, one}
 use Rattle.float64.specs.Float64.{abs, clamp}
 use Rattle.mode.specs.declared.population_focei.Settings.{Settings}
-use Rattle.source.specs.Run.{Run, done, ask, ◌>>=◌, ◌>>◌, if◌then◌else◌, err, next, break, for}
+use Rattle.source.specs.Run.{Run, done, ask, ◌>>=◌, ◌>>◌, when◌then◌else◌, err, next, break, for}
 
 -- struct Conditional; its rows as words: prediction, time and side of each
 pub record Conditional : Type 0 where
@@ -39,7 +39,7 @@ windows (a ∷ t) = windows_from a t
 
 unfoldable pub filter : {A : Type 0} → (A → Bool) → List A → List A
 filter p [] = []
-filter p (a ∷ t) = if p a then a ∷ filter p t else filter p t
+filter p (a ∷ t) = when p a then a ∷ filter p t else filter p t
 
 unfoldable pub any : {A : Type 0} → (A → Bool) → List A → Bool
 any p [] = false
@@ -62,9 +62,9 @@ Bracket = Conditional × Conditional × Conditional
 -- if trial.score > 0. { right = trial } else { left = trial }; if trial.score.abs() < best.score.abs() { best = trial }
 abbrev pub narrow : Conditional → Conditional → Conditional → Conditional → Bracket
 narrow left right best trial = (
-  if lt (word 0) trial.score then left else trial,
-  if lt (word 0) trial.score then trial else right,
-  if lt (abs trial.score) (abs best.score) then trial else best,
+  when lt (word 0) trial.score then left else trial,
+  when lt (word 0) trial.score then trial else right,
+  when lt (abs trial.score) (abs best.score) then trial else best,
 )
 
 -- ---- the search: the mode, and the population's rows
@@ -83,25 +83,25 @@ mode s = do
   err (not (eqb (length upward) 1) || any (λ pair. lt (word 0) pair.0.score && le pair.1.score (word 0)) (windows grid)) 14
   let left = (first_of upward).0
   let right = (first_of upward).1
-  let best = if lt (abs left.score) (abs right.score) then left else right
+  let best = when lt (abs left.score) (abs right.score) then left else right
   let tolerance = s.tolerance
   let settled : Conditional → Float → Bool = λ value width.
       le width tolerance || le (abs value.score /ᶠ (one /ᶠ omega +ᶠ value.information)) tolerance
   let warm = s.warm
-  (left, right, best) ← if lt left.eta warm && lt warm right.eta then (do
+  (left, right, best) ← when lt left.eta warm && lt warm right.eta then (do
     trial ← evaluate warm
     done (narrow left right best trial))
       else done (left, right, best)
   (left, right, best) ← for 16 (left, right, best) λ i (left, right, best).
-      if settled best (right.eta -ᶠ left.eta) then done (break (left, right, best)) else (do
+      when settled best (right.eta -ᶠ left.eta) then done (break (left, right, best)) else (do
         let width = right.eta -ᶠ left.eta
         let eta = clamp (left.eta -ᶠ left.score *ᶠ width /ᶠ (right.score -ᶠ left.score))
             (left.eta +ᶠ «1e-1» *ᶠ width) (right.eta -ᶠ «1e-1» *ᶠ width)
         trial ← evaluate eta
         done (next (narrow left right best trial)))
-  (left, right, best) ← if settled best (right.eta -ᶠ left.eta) then done (left, right, best) else
+  (left, right, best) ← when settled best (right.eta -ᶠ left.eta) then done (left, right, best) else
       for 48 (left, right, best) λ i (left, right, best).
-      if settled best (right.eta -ᶠ left.eta) then done (break (left, right, best)) else (do
+      when settled best (right.eta -ᶠ left.eta) then done (break (left, right, best)) else (do
         trial ← evaluate (half *ᶠ (left.eta +ᶠ right.eta))
         done (next (narrow left right best trial)))
   err (not (settled best (right.eta -ᶠ left.eta))) 15

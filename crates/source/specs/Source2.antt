@@ -9,7 +9,7 @@ use Rattle.matrix.specs.Matrix.{pair, at, array_of, product, dot, Inverse, inver
 use Rattle.matrix.specs.declared.Pair.{Pair}
 use Rattle.mode_2d.specs.declared.population_focei_2d.Settings2.{Settings2}
 use Rattle.mode_2d.specs.declared.population_focei_2d.Conditional2.{Conditional2}
-use Rattle.source.specs.Run.{Run, done, ask, stop, ◌>>=◌, ◌>>◌, if◌then◌else◌, err, next, break, for, each}
+use Rattle.source.specs.Run.{Run, done, ask, stop, ◌>>=◌, ◌>>◌, when◌then◌else◌, err, next, break, for, each}
 
 -- ---- a point is a pair of floats; as an array it is a list
 abbrev pub of : Float → Float → Pair
@@ -75,7 +75,7 @@ mode_from_seed s initial = do
   current ← for 48 current λ i current. do
     let prior_score = product (precision s) (vector current.eta)
     let score = pair (current.score.first +ᶠ at prior_score 0) (current.score.second +ᶠ at prior_score 1)
-    if le (max (abs (at score 0)) (abs (at score 1))) «1e-5» then done (break current) else (do
+    when le (max (abs (at score 0)) (abs (at score 1))) «1e-5» then done (break current) else (do
       let information = pair
           (pair (s.precision.m00 +ᶠ current.information.m00) (s.precision.m01 +ᶠ current.information.m01))
           (pair (s.precision.m10 +ᶠ current.information.m10) (s.precision.m11 +ᶠ current.information.m11))
@@ -86,11 +86,11 @@ mode_from_seed s initial = do
         let scale = scale_of reduction
         let trial_eta = of (clamp (current.eta.first -ᶠ scale *ᶠ at direction 0) (neg limit) limit)
             (clamp (current.eta.second -ᶠ scale *ᶠ at direction 1) (neg limit) limit)
-        if eq trial_eta.first current.eta.first && eq trial_eta.second current.eta.second then done (next accepted) else (do
+        when eq trial_eta.first current.eta.first && eq trial_eta.second current.eta.second then done (next accepted) else (do
           let decrease = dot score (pair (current.eta.first -ᶠ trial_eta.first) (current.eta.second -ᶠ trial_eta.second))
-          if le decrease (word 0) then done (next accepted) else (do
+          when le decrease (word 0) then done (next accepted) else (do
             trial ← subject trial_eta
-            if le (joint s trial) (joint_current -ᶠ «1e-4» *ᶠ decrease) then done (break (some trial)) else done (next accepted)))
+            when le (joint s trial) (joint_current -ᶠ «1e-4» *ᶠ decrease) then done (break (some trial)) else done (next accepted)))
       elim accepted [ some trial ↦ done (next trial) | none ↦ done (break current) ])
   let prior_score = product (precision s) (vector current.eta)
   let norm = max (abs (current.score.first +ᶠ at prior_score 0)) (abs (current.score.second +ᶠ at prior_score 1))
@@ -112,5 +112,5 @@ mode s = do
           (max (abs (candidate.eta.first -ᶠ previous.eta.first)) (abs (candidate.eta.second -ᶠ previous.eta.second)))) 14
       | none ↦ done tt
     ]
-    done (next (if is_none_or best (λ value. lt (joint s candidate) (joint s value)) then some candidate else best))
+    done (next (when is_none_or best (λ value. lt (joint s candidate) (joint s value)) then some candidate else best))
   done (unwrap best, population)

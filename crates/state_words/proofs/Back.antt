@@ -3,15 +3,15 @@
 use mathlib.Core.Path.{◌≡◌, refl, sym, ap, ◌∙◌}
 use mathlib.Core.Bool.{Bool, true, false}
 use mathlib.Core.List.{List, [], ◌∷◌, ◌++◌}
-use Prim.Native.Nat.{ℕ, zero, suc, ◌+◌, ◌-◌, ◌≤◌}
+use Prim.Native.Nat.{ℕ, suc, ◌+◌, ◌-◌, ◌≤◌}
 use native.Mathlib.Nat.{not-suc-le-zero, le_of_suc-le-suc}
 use native.Mathlib.Omega.{arith}
 use borrow.Author.Tests.{le-ltb, ne_eqb}
 use lib.Dec.{T, ltb, eqb}
-use lib.ListN.{get_or, set, length, length-append, drop}
-use lib.Ieee.{Float, binary64, fits, of_bits, to_bits}
+use lib.ListN.{set, length, length-append, drop}
+use lib.Ieee.{Float, binary64, fits}
 use lib.Ieee.Bits.{of_bits-to_bits}
-use Rattle.float64.specs.Answer.{Answer, given, refused, through}
+use Rattle.float64.specs.Answer.{Answer, given, through}
 use Rattle.float64.specs.Arithmetic.{word}
 use Rattle.float64.specs.Pick.{pick, no}
 use Rattle.matrix.specs.declared.Matrix.{Matrix}

@@ -1,6 +1,6 @@
 -- The ways through the code: one law for each, over plain variables. Assumes nothing.
 use mathlib.Core.Path.{◌≡◌, refl, sym, ap, subst, ◌∙◌}
-use mathlib.Core.Bool.{Bool, true, false}
+use mathlib.Core.Bool.{Bool, false}
 use mathlib.Core.List.{List, [], ◌∷◌, ◌++◌}
 use Prim.Native.Nat.{ℕ, zero, suc, ◌+◌, ◌-◌, ◌≤◌, ◌<◌}
 use native.Mathlib.Nat.{not-suc-le-zero, le_of_suc-le-suc, add-zero}
@@ -19,15 +19,12 @@ use Rattle.state_words.specs.declared.one_effect.Loaded.TheVariants as Loads
 use Rattle.state_words.specs.SearchWords2 as two
 use Rattle.state_words.specs.declared.two_effects.Loaded2.{Loaded2}
 use Rattle.state_words.specs.declared.two_effects.Loaded2.TheVariants as Loads2
-use Rattle.cache.specs.declared.CacheOrder.{CacheOrder}
-use Rattle.subject.specs.declared.AdditiveSd.{AdditiveSd}
 use Rattle.subject.specs.declared.AdditiveSd.TheVariants.{Own, Override}
 use Rattle.setup.specs.declared.Parameters.{Parameters}
 use Rattle.search.specs.Subjects.{has_additive, additive_word}
 use Rattle.search.specs.declared.SubjectSearch.{SubjectSearch}
 use Rattle.search.specs.declared.SubjectSearch.TheVariants.{One, Two}
 use Rattle.session.specs.declared.State.{State}
-use Rattle.state_words.specs.declared.LoadedState.{LoadedState}
 use Rattle.state_words.specs.declared.LoadedState.TheVariants.{Given, None}
 use Rattle.state_words.specs.SessionWords.{at, bits, flag, state_at, loaded_search, with_search, answer, objective_words, progress_words, order_words, search_words, state_words, put_from}
 use Rattle.state_words.specs.SessionWords.{saved_state}

@@ -37,12 +37,12 @@ pub marked : Marked
 unfolding everything observation_of row_variance
 marked =
     record {
-      additive-row = refl;
-      proportional-row = refl;
+      additive_row = refl;
+      proportional_row = refl;
       no_variance = λ value f-eta. refl;
-      infinite-prediction = infinite_row;
+      infinite_prediction = infinite_row;
       no_variance_2 = λ value f-eta. refl;
-      infinite-prediction-2 = infinite_row_2;
+      infinite_prediction_2 = infinite_row_2;
       inverse = refl;
       singular = refl;
       exp_zero = refl;

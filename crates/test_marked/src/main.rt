@@ -2,6 +2,7 @@
 // check is proved before it is run: from the contract of the function that it calls, and from the table in
 // specs/Marked.antt.
 #![tactic(auto)]
+
 ghost use Rattle.std.specs.Prelude.{◌≡◌, ◌<◌};
 ghost use Rattle.mode.specs.Rules.{grid_point};
 ghost use Rattle.test_marked.specs.Marked.{four};

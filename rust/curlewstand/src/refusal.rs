@@ -1,5 +1,14 @@
 //! Why a call was refused: document 01's number, the reason as a type, the place, a
 //! sentence for a modeller, and what to do.
+//!
+//!     use curlewstand::{Place, Reason, Refusal};
+//!
+//!     let refusal = Refusal { number: 13, place: Place::Subject(4) };
+//!     assert_eq!(refusal.reason(), Some(Reason::NoMode));
+//!     assert_eq!(
+//!         refusal.to_string(),
+//!         "13, subject 4: the subject's mode is not within the bound of eta"
+//!     );
 
 use std::error::Error;
 use std::fmt;
@@ -161,7 +170,7 @@ const TOLD: [Told; 20] = [
     told(
         Reason::NoEvaluationLeft,
         SUBJECT,
-        "no evaluation is left of those that the session may take",
+        "no evaluation is left of those that the session may ask for",
         "raise max_evaluations: the ceiling times subjects is enough for one objective, and kept evaluations cost none",
     ),
     told(
@@ -203,9 +212,10 @@ const TOLD: [Told; 20] = [
     told(
         Reason::NoMode,
         SUBJECT,
-        "no mode is found within the bound of eta: with one effect the score does not rise through zero on the grid, \
-         with two a search is unresolved (norm above 1e-3) or reaches the bound",
-        "look at the subject's data beside the typical prediction; raise eta_bound, or let the outer fit pass over this trial",
+        "the subject's mode is not within the bound of eta",
+        "with one effect the score does not rise through zero on the grid, with two a search is unresolved (norm \
+         above 1e-3) or reaches the bound: look at the subject's data beside the typical prediction; raise \
+         eta_bound, or let the outer fit pass over this trial",
     ),
     told(
         Reason::SeveralModes,
@@ -320,6 +330,10 @@ impl Reason {
 ///     let refusal = Refusal { number: 14, place: Place::Subject(4) };
 ///     assert_eq!(refusal.reason(), Some(Reason::SeveralModes));
 ///     assert_eq!(refusal.to_string(), "14, subject 4: the subject has several modes");
+///
+///     let refusal = Refusal { number: 6, place: Place::Subject(3) };
+///     let text = "6, subject 3: no evaluation is left of those that the session may ask for";
+///     assert_eq!(refusal.to_string(), text);
 #[derive(Clone, Copy, Debug, PartialEq, Eq)]
 pub struct Refusal {
     /// Document 01's number, 1 to 20.

@@ -158,8 +158,11 @@ impl Rows {
     ///
     ///     # use curlewstand::{Rows, Shape, Side};
     ///     let mut rows = Rows::new(Shape { width: 1, effects: 1 });
-    ///     rows.push(0., Side::Post, &[(2., [1.])]).unwrap();
-    ///     assert_eq!(rows.words(), [0, 1, 2f64.to_bits(), 1f64.to_bits()]);
+    ///     rows.push(0.5, Side::Post, &[(2., [1.])]).unwrap();
+    ///     assert_eq!(rows.words(), [0.5f64.to_bits(), 1, 2f64.to_bits(), 1f64.to_bits()]);
+    ///     // two outputs, where there is one
+    ///     assert!(rows.push(0.5, Side::Pre, &[(2., [1.]), (3., [1.])]).is_err());
+    ///     assert_eq!(rows.words().len(), rows.shape().row_words());
     pub fn words(&self) -> &[u64] {
         &self.words
     }

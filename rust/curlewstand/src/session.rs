@@ -88,7 +88,25 @@ impl Error for NotSet {}
 
 /// A session, which owns all that it lends to the core: objectives of a population fit,
 /// with the simulator and the outer fit in the host's hands. [The crate's page](crate)
-/// has an example.
+/// has an example, and here is a smaller one.
+///
+///     use curlewstand::*;
+///
+///     // two subjects, measured once each with deviation 1
+///     let measured = |value| {
+///         vec![Observation { output: 0, row: 0, value, additive: 1., proportional: 0. }]
+///     };
+///     let setup = Setup::one_effect(1000);
+///     let mut session = Session::new(setup, &[measured(1.2), measured(0.7)]).unwrap();
+///
+///     // the model predicts the individual value itself, at time 0 before a dose
+///     let objective = session.objective(OneEffect::new(1., 1.), |question, rows| {
+///         rows.push(0., Side::Pre, &[(question.individual[0], [1.])])
+///     });
+///     assert!((objective.unwrap() - 1.42751).abs() < 1e-5);
+///     assert!(u64::from(session.tally().calls) <= session.booked());
+///     let etas: Vec<f64> = session.estimates().map(|e| e.eta[0]).collect();
+///     assert!(etas[0] > 0. && etas[1] < 0.);
 ///
 /// # One model
 ///

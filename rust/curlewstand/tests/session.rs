@@ -53,6 +53,7 @@ fn two_effects_of_two_subjects() {
     assert_eq!(session.booked(), 2 * 6343);
     let value = session.objective(PARAMETERS_2D, both_values).unwrap();
     assert!(session.ledger().taken() <= session.booked());
+    assert!(u64::from(session.tally().calls) <= session.booked());
     assert_eq!(session.shrinkage(), None);
     assert_eq!((session.estimates().len(), session.fitted().len()), (2, 2));
     for (subject, estimate) in session.estimates().enumerate() {
@@ -287,6 +288,21 @@ fn any_nan_is_any_other() {
         });
         assert_eq!(timeless, unfinished(17, Place::Subject(0)));
     }
+}
+
+/// Each objective says its own override, or that it has none.
+#[test]
+fn an_override_is_the_objectives_own() {
+    let objective = |additive: Option<f64>| {
+        let parameters = OneEffect {
+            additive,
+            ..PARAMETERS
+        };
+        let mut session = Session::new(one_effect(1000), &[measured(1.2)]).unwrap();
+        session.objective(parameters, first_value).unwrap()
+    };
+    assert_eq!(objective(Some(1.)), objective(None));
+    assert_ne!(objective(Some(0.5)), objective(None));
 }
 
 /// Omega and the override are each objective's own, and nothing else's.

@@ -124,7 +124,7 @@ impl fmt::Display for RefusedEvaluation {
         write!(
             f,
             ": {}",
-            Reason::of(self.number).map_or("", Reason::sentence)
+            Reason::of(self.number).map_or("an unknown refusal", Reason::sentence)
         )
     }
 }

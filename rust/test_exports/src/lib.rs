@@ -67,7 +67,7 @@ impl fmt::Display for RefusedWith {
             f,
             "{}: {}",
             self.0,
-            Reason::of(self.0).map_or("", Reason::sentence)
+            Reason::of(self.0).map_or("an unknown refusal", Reason::sentence)
         )
     }
 }

@@ -10,12 +10,12 @@ use Rattle.test_marked.proofs.additive_row.Goals as goal
 
 pub expect-requires : goal.expect-requires
 unfolding number_of
-expect-requires c = eq-eqb _ _ (c.curlewstand_row_terms-number.ensures.0 ∙ ap number_of marked.additive-row)
+expect-requires c = eq-eqb _ _ (c.curlewstand_row_terms-number.ensures.value ∙ ap number_of marked.additive_row)
 
 pub expect-requires-2 : goal.expect-requires-2
 unfolding terms_or of_bits to_bits
-expect-requires-2 c = eq-eqb _ _ (c.to_word.ensures ∙ term_word 1 _ _ _ _ c.curlewstand_row_terms-number.ensures.1 marked.additive-row)
+expect-requires-2 c = eq-eqb _ _ (c.to_word.ensures ∙ term_word 1 _ _ _ _ c.curlewstand_row_terms-number.ensures.terms_after marked.additive_row)
 
 pub expect-requires-3 : goal.expect-requires-3
 unfolding terms_or of_bits to_bits
-expect-requires-3 c = eq-eqb _ _ (c.to_word-2.ensures ∙ term_word 2 _ _ _ _ c.curlewstand_row_terms-number.ensures.1 marked.additive-row)
+expect-requires-3 c = eq-eqb _ _ (c.to_word-2.ensures ∙ term_word 2 _ _ _ _ c.curlewstand_row_terms-number.ensures.terms_after marked.additive_row)

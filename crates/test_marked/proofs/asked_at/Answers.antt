@@ -4,4 +4,4 @@ use Rattle.test_marked.proofs.Laws.{grid_words}
 use Rattle.test_marked.proofs.asked_at.Goals as goal
 
 pub returns : goal.returns
-returns c = c.curlewstand_mode_request.ensures.1 ∙ grid_words _ _ _ c.requires
+returns c = c.curlewstand_mode_request.ensures.point_after ∙ grid_words _ _ _ c.requires

@@ -13,4 +13,4 @@ float_from_bits-infinity c = tt
 
 pub expect-requires : goal.expect-requires
 unfolding number_of of_bits
-expect-requires c = eq-eqb _ _ (c.curlewstand_row_terms-number.ensures.0 ∙ ap number_of (marked.infinite-prediction _ _ _ false))
+expect-requires c = eq-eqb _ _ (c.curlewstand_row_terms-number.ensures.value ∙ ap number_of (marked.infinite_prediction _ _ _ false))

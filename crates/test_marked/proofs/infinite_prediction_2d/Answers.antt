@@ -13,4 +13,4 @@ float_from_bits-infinity c = tt
 
 pub expect-requires : goal.expect-requires
 unfolding number_of of_bits
-expect-requires c = eq-eqb _ _ (c.curlewstand_add_row-number.ensures.0 ∙ ap number_of (marked.infinite-prediction-2 _ _ _ false))
+expect-requires c = eq-eqb _ _ (c.curlewstand_add_row-number.ensures.value ∙ ap number_of (marked.infinite_prediction_2 _ _ _ false))

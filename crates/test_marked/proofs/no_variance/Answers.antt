@@ -7,4 +7,4 @@ use Rattle.test_marked.proofs.no_variance.Goals as goal
 
 pub expect-requires : goal.expect-requires
 unfolding number_of
-expect-requires c = eq-eqb _ _ (c.curlewstand_row_terms-number.ensures.0 ∙ ap number_of (marked.no_variance _ _))
+expect-requires c = eq-eqb _ _ (c.curlewstand_row_terms-number.ensures.value ∙ ap number_of (marked.no_variance _ _))

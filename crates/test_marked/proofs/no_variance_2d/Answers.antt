@@ -7,4 +7,4 @@ use Rattle.test_marked.proofs.no_variance_2d.Goals as goal
 
 pub expect-requires : goal.expect-requires
 unfolding number_of
-expect-requires c = eq-eqb _ _ (c.curlewstand_add_row-number.ensures.0 ∙ ap number_of (marked.no_variance_2 _ _))
+expect-requires c = eq-eqb _ _ (c.curlewstand_add_row-number.ensures.value ∙ ap number_of (marked.no_variance_2 _ _))

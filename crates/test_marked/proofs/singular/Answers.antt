@@ -7,4 +7,4 @@ use Rattle.test_marked.proofs.singular.Goals as goal
 
 pub expect-requires : goal.expect-requires
 unfolding exists
-expect-requires c = ap not (c.curlewstand_inverse_positive.ensures.0 ∙ ap exists marked.singular)
+expect-requires c = ap not (c.curlewstand_inverse_positive.ensures.value ∙ ap exists marked.singular)

@@ -146,6 +146,27 @@ impl Session {
     ///     assert_eq!((told.len(), told[6].subject, told[6].taken), (7, None, 6));
     ///     // what was kept is not taken again
     ///     assert!(session.objective(OneEffect::new(1., 1.), simulate).is_ok());
+    ///
+    /// An observer that stops nothing is told of each evaluation.
+    ///
+    ///     # use curlewstand::*;
+    ///     # use std::ops::ControlFlow;
+    ///     # let one = Observation { output: 0, row: 0, value: 1.2, additive: 1., proportional: 0. };
+    ///     # let mut session = Session::new(Setup::one_effect(100), &[vec![one]]).unwrap();
+    ///     let mut told = Vec::new();
+    ///     let objective = session.objective_with_progress(
+    ///         OneEffect::new(1., 1.),
+    ///         |question, rows| rows.push(0., Side::Pre, &[(question.individual[0], [1.])]),
+    ///         |progress| {
+    ///             told.push(*progress);
+    ///             ControlFlow::Continue(())
+    ///         },
+    ///     );
+    ///     assert!(objective.is_ok());
+    ///     let (first, last) = (told[0], told[told.len() - 1]);
+    ///     assert_eq!((first.subject, first.taken, first.booked), (Some(0), 1, 82));
+    ///     assert_eq!((last.subject, last.passed), (None, 1));
+    ///     assert_eq!(told.len(), last.taken as usize + 1);
     pub fn objective_with_progress<E>(
         &mut self,
         parameters: impl Into<Parameters>,

@@ -83,6 +83,11 @@ impl Session {
 
     /// The words of all results as they are lent, those of earlier objectives among
     /// them: the comparison with the original looks at each.
+    ///
+    ///     # use curlewstand::*;
+    ///     # let one = Observation { output: 0, row: 0, value: 1.2, additive: 1., proportional: 0. };
+    ///     let session = Session::new(Setup::one_effect(100), &[vec![one, one]]).unwrap();
+    ///     assert_eq!(session.result_words(), [0; 3 + 2 * 2]);
     #[doc(hidden)]
     pub fn result_words(&self) -> &[u64] {
         &self.results
