@@ -113,7 +113,7 @@ fn a_mode_and_the_same_again_from_kept_evaluations() {
     let text = worked();
     let mut session = session(2.);
     let objective = objective(&text);
-    for asked in [questions(&text, "toMode"), Vec::new()] {
+    for asked in [questions(&text, "to_mode"), Vec::new()] {
         assert_eq!(played(&mut session, first_value), (asked, Ok(objective)));
         let tally = session.tally();
         assert_eq!((tally.calls, tally.cached_rows), (25, 25));
@@ -127,7 +127,7 @@ fn a_mode_and_the_same_again_from_kept_evaluations() {
 fn refused_with_13_and_with_16() {
     let text = worked();
     let mut at_bound = session(1.);
-    let asked = questions(&text, "toBound");
+    let asked = questions(&text, "to_bound");
     assert_eq!(played(&mut at_bound, first_value), (asked, Err(13)));
     let mut flat = session(2.);
     assert_eq!(played(&mut flat, steep), (vec![ZERO], Err(16)));
@@ -155,11 +155,11 @@ mod beside_the_original {
     fn its_questions_and_ends() {
         let text = worked();
         let first_value = [0., 1., 0.];
-        let mode = (questions(&text, "toMode"), [1, objective(&text)]);
+        let mode = (questions(&text, "to_mode"), [1, objective(&text)]);
         assert_eq!(told(2., first_value), mode);
         assert_eq!(
             told(1., first_value),
-            (questions(&text, "toBound"), [2, 13])
+            (questions(&text, "to_bound"), [2, 13])
         );
         // at eta zero, the only point, its prediction is 0
         let steep = [-2. * STEEP, STEEP, STEEP];
