@@ -13,9 +13,10 @@ import os
 import re
 import subprocess
 import sys
+import tempfile
 
-KIT = "/opt/rattle"
-NAMES = "/tmp/port_proofs" + os.getcwd().replace("/", "-")  # where `rt check --generated` writes
+KIT = os.path.dirname(subprocess.run(["rt", "doc"], stdout=subprocess.PIPE, text=True, check=True).stdout.strip())
+NAMES = os.path.join(tempfile.gettempdir(), "port_proofs" + os.getcwd().replace("/", "-"))  # where `rt check --generated` writes
 TRIVIAL = {"search rules", "search needs", "search arith", "omega arith", "tt", "refl"}
 DROPPED = {"search rules", "search needs"}
 IDENT = r"[^\s(){}\[\],;.]+"
