@@ -1,11 +1,10 @@
 -- The ways through the code: one law for each, over plain variables. Assumes nothing.
+use Rattle.std.specs.Prelude.{None, Option, Some}
 use Rattle.std.proofs.Common.{◌≡◌, ℕ, zero, suc, ◌+◌, ◌-◌, ◌*◌, ◌/◌, ◌%◌, ◌<◌, ◌≤◌, Bool, true, false, T, eqb, ltb, List, get_or, sym, refl, ap, ◌∙◌, subst, mul-le-mul, sub-one, arith, ltb-true, le-ltb, lt-ltb, eq-eqb, ne_eqb}
 use borrow.Author.Tests.{eqb-false}
 use Rattle.float64.specs.Pick.{pick, yes, no, yes_of, no_of, pass, cases}
 use Rattle.cache.specs.declared.CacheKey.{CacheKey}
 use Rattle.cache.specs.declared.CacheOrder.{CacheOrder}
-use Rattle.cache.specs.declared.Found.{Found}
-use Rattle.cache.specs.declared.Found.TheVariants.{At, Nothing}
 use Rattle.cache.specs.Cache.{half, mixed, hash, head_of, chain, bits, bit_of, has_bit, latest_of, filter_of, entry_place, link_place, link_of, bits_of, is_room, is_same, is_at, walk, find}
 
 -- ---- tests
@@ -62,16 +61,16 @@ module _ (w : List ℕ) (k entry b : ℕ) (key : CacheKey) {r : ℕ} (e : r ≡ 
 
 -- ---- a turn along a chain, with at most n entries left; s is what `is_at` answered
 module _ (w : List ℕ) (k oldest b : ℕ) (key : CacheKey) (entry : ℕ) where
-  pub walk_dead : (n : ℕ) → entry < oldest → Nothing ≡ walk n w k oldest b key entry
+  pub walk_dead : (n : ℕ) → entry < oldest → None ≡ walk n w k oldest b key entry
   unfolding walk
   walk_dead zero h = refl
   walk_dead (suc n) h = yes _ (lt-ltb entry oldest h) refl
 
-  pub walk_spent : (n : ℕ) → n ≡ 0 → Nothing ≡ walk n w k oldest b key entry
+  pub walk_spent : (n : ℕ) → n ≡ 0 → None ≡ walk n w k oldest b key entry
   unfolding walk
   walk_spent n e = rw e
 
-  pub walk_hit : {s : Bool} (n : ℕ) → (n ≡ 0 → ⊥) → oldest ≤ entry → s ≡ is_at w k entry b key → s ≡ true → At (entry % k) ≡ walk n w k oldest b key entry
+  pub walk_hit : {s : Bool} (n : ℕ) → (n ≡ 0 → ⊥) → oldest ≤ entry → s ≡ is_at w k entry b key → s ≡ true → Some (entry % k) ≡ walk n w k oldest b key entry
   unfolding walk
   walk_hit zero z h e t = absurd (z refl)
   walk_hit (suc n) z h e t = no _ (le-ltb entry oldest h) (yes_of _ e t refl)
@@ -85,16 +84,16 @@ module _ (w : List ℕ) (k oldest b : ℕ) (key : CacheKey) (entry : ℕ) where
 
 -- ---- finding; r is what `is_room` answered, n the number of entries claimed
 module _ (w : List ℕ) (k : ℕ) (o : CacheOrder) (key : CacheKey) {r : Bool} (e : r ≡ is_room k) where
-  pub find_no_room : r ≡ false → Nothing ≡ find w k o key
+  pub find_no_room : r ≡ false → None ≡ find w k o key
   unfolding find
   find_no_room t = no_of _ e t refl
 
   module _ (t : r ≡ true) {n : ℕ} (c : n ≡ o.next - o.oldest) where
-    pub find_none : n ≡ 0 → Nothing ≡ find w k o key
+    pub find_none : n ≡ 0 → None ≡ find w k o key
     unfolding find
-    find_none z = yes_of _ e t (pass _ (cases (λ (f : Found). Nothing ≡ f) (has_bit (filter_of w (chain k key)) (bit_of key)) {y = Nothing} (λ _. walk_spent w k _ _ key _ _ (sym c ∙ z)) (λ _. refl)))
+    find_none z = yes_of _ e t (pass _ (cases (λ (f : Option ℕ). None ≡ f) (has_bit (filter_of w (chain k key)) (bit_of key)) {y = None} (λ _. walk_spent w k _ _ key _ _ (sym c ∙ z)) (λ _. refl)))
 
-    pub find_too_many : k < n → Nothing ≡ find w k o key
+    pub find_too_many : k < n → None ≡ find w k o key
     unfolding find
     find_too_many l = yes_of _ e t (yes _ (lt-ltb _ _ (subst (λ (x : ℕ). k < x) c l)) refl)
 
@@ -110,10 +109,10 @@ module _ (w : List ℕ) (k : ℕ) (o : CacheOrder) (key : CacheKey) {r : Bool} (
       few : ltb k (o.next - o.oldest) ≡ false
       few = le-ltb _ _ (subst (λ (y : ℕ). y ≤ k) c l)
 
-      pub find_filtered : b ≡ false → Nothing ≡ find w k o key
+      pub find_filtered : b ≡ false → None ≡ find w k o key
       unfolding find
       find_filtered z = yes_of _ e t (no _ few (no_of _ asked z refl))
 
-      pub find_walks : {start : ℕ} {f : Found} → b ≡ true → start ≡ x % half → f ≡ walk n w k o.oldest (h / half) key start → f ≡ find w k o key
+      pub find_walks : {start : ℕ} {f : Option ℕ} → b ≡ true → start ≡ x % half → f ≡ walk n w k o.oldest (h / half) key start → f ≡ find w k o key
       unfolding find bits chain latest_of
       find_walks z es q = yes_of _ e t (no _ few (yes_of _ asked z (q ∙ (λ i. walk (c i) w k o.oldest (eh i / half) key ((es ∙ ap (λ (y : ℕ). y % half) at_head) i)))))

@@ -4,8 +4,8 @@
 --     insert_none       an evaluation of more rows than the room changes nothing
 --     insert_bounded    the positions say at most k rows afterwards, whatever the words
 --     keys_once, rows_kept, rows_most    no key twice; next_row - first_row is the number of rows in the list, at most k
+use Rattle.std.specs.Prelude.{None, Some}
 use Rattle.std.proofs.Common.{◌≡◌, ℕ, zero, suc, ◌+◌, ◌-◌, ◌*◌, ◌<◌, ◌≤◌, Bool, true, false, T, eqb, ltb, List, [], ◌∷◌, ◌++◌, length, get_or, sym, refl, ap, ◌∙◌, subst, ⊎_elim, arith, le-ltb, lt-ltb, ne_eqb}
-use mathlib.Core.Option.{none, some}
 use Rattle.float64.specs.Pick.{yes, no, cases, pick_yes, pick_no}
 use Rattle.cache.specs.declared.CacheKey.{CacheKey}
 use Rattle.cache.specs.declared.CachedTerms.{CachedTerms}
@@ -41,11 +41,11 @@ empty_stands w k a b l z =
       list = refl;
     }
 
-never : (x : Entry) → some x ≡ none → ⊥
+never : (x : Entry) → Some x ≡ None → ⊥
 never x e = let z : ◌≡◌ {A = ℕ} 0 1 = cc in omega arith
 
 -- a key that the list lacks is no live entry's
-absent : (w : List ℕ) (k : ℕ) (key : CacheKey) (c o : ℕ) → lookup key (kept_from c w k o) ≡ none → (s : ℕ) → o ≤ s → s < o + c → key_of w k s ≡ key → ⊥
+absent : (w : List ℕ) (k : ℕ) (key : CacheKey) (c o : ℕ) → lookup key (kept_from c w k o) ≡ None → (s : ℕ) → o ≤ s → s < o + c → key_of w k s ≡ key → ⊥
 unfolding lookup kept_from
 absent w k key zero o e s a b q = omega arith
 absent w k key (suc c) o e s a b q =
@@ -58,7 +58,7 @@ absent w k key (suc c) o e s a b q =
 
 -- ---- insert. Its bound on next: it rises by one for each insertion, and a session makes fewer than 2^32.
 module _ (w : List ℕ) (k : ℕ) (r : CacheOrder) (l : List Entry) (S : Stands w k r l) (key : CacheKey) (v : CachedTerms) (n : ℕ) (rows : List ℕ) (from : ℕ) (n-one : 1 ≤ n) (n-most : n ≤ k)
-    (lent : from + row_words * n ≤ length rows) (soon : r.next < half) (new : lookup key l ≡ none) where
+    (lent : from + row_words * n ≤ length rows) (soon : r.next < half) (new : lookup key l ≡ None) where
   left : Left w k r.next_row (k - n) r.next S.count r.oldest r.first_row
   left = evict_ok w k r.next_row (k - n) r.next S.count r.oldest r.first_row S.good.laid
 

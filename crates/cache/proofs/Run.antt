@@ -1,11 +1,9 @@
 -- Any number of evaluations, each looked up and kept where it is not found: what the words do is what the list does. Assumes nothing.
 --     kept_after_lem from words that stand for l, after any list of evaluations the words stand for the list after them
 --     terms_at_lem, copied_at, copied_else    what is read of a slot is its entry's, and nothing else is touched
+use Rattle.std.specs.Prelude.{None, Option, Some}
 use Rattle.std.proofs.Common.{◌≡◌, ℕ, zero, suc, ◌+◌, ◌-◌, ◌*◌, ◌<◌, ◌≤◌, ltb, ◌⊎◌, List, [], ◌∷◌, ◌++◌, length, get_or, set, sym, refl, ap, ◌∙◌, subst, inl, inr, ⊎_elim, add-zero, arith, length-set, get_or-set_other, get_or-set_same, ltb-false, ltb-true, le-ltb}
-use mathlib.Core.Option.{Option, none}
 use Rattle.float64.specs.Pick.{cases, pick_yes, pick_no}
-use Rattle.cache.specs.declared.Found.{Found}
-use Rattle.cache.specs.declared.Found.TheVariants.{At, Nothing}
 use Rattle.cache.specs.Cache.{half, row_words, rows_from, row_at, first_of, insert, Cache, terms_of, copy_from, rows_to, copied}
 use Rattle.cache.specs.Kept.{Entry, Stands, lookup, drop_to, found_entry, entry_of, row_words_from, Evaluated, Lent, AllLent, entry_for, unless_at, unless_found, cache_with, cache_after, appended}
 use Rattle.cache.specs.Kept.{kept_with, kept_after}
@@ -20,7 +18,7 @@ module _ (k : ℕ) (t : Cache) (l : List Entry) (S : Stands t.words k t.order l)
   new : Cache
   new = insert t.words k t.order x.key x.terms x.n x.rows x.from
 
-  kept : lookup x.key l ≡ none → On k (e + 1) new (appended k l x)
+  kept : lookup x.key l ≡ None → On k (e + 1) new (appended k l x)
   unfolding appended new
   kept z =
       cases (On k (e + 1) new) (ltb k x.n) {x = l} {y = drop_to (k - x.n) l ++ (entry_for x ∷ [])}
@@ -31,10 +29,10 @@ module _ (k : ℕ) (t : Cache) (l : List Entry) (S : Stands t.words k t.order l)
       let i : new.order.next ≡ t.order.next + 1 = insert_counts t.words k t.order l S x.key x.terms x.n x.rows x.from lent.some_row b lent.all_rows c z in
       (insert_stands t.words k t.order l S x.key x.terms x.n x.rows x.from lent.some_row b lent.all_rows c z, omega (arith, i, at)))
 
-  told : (f : Found) → found_entry t.words k f ≡ lookup x.key l → On k (e + 1) (unless_at f t new) (unless_found (lookup x.key l) l (appended k l x))
+  told : (f : Option ℕ) → found_entry t.words k f ≡ lookup x.key l → On k (e + 1) (unless_at f t new) (unless_found (lookup x.key l) l (appended k l x))
   unfolding found_entry unless_at unless_found
-  told (At slot) q = subst (λ (y : Option Entry). On k (e + 1) t (unless_found y l (appended k l x))) q (S, omega arith)
-  told Nothing q = subst (λ (y : Option Entry). On k (e + 1) new (unless_found y l (appended k l x))) q (kept (sym q))
+  told (Some slot) q = subst (λ (y : Option Entry). On k (e + 1) t (unless_found y l (appended k l x))) q (S, omega arith)
+  told None q = subst (λ (y : Option Entry). On k (e + 1) new (unless_found y l (appended k l x))) q (kept (sym q))
 
   with_one : On k (e + 1) (cache_with k t x) (kept_with k l x)
   unfolding cache_with kept_with new

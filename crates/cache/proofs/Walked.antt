@@ -1,12 +1,10 @@
 -- `find` is the lookup in the list that the words stand for. Assumes nothing.
+use Rattle.std.specs.Prelude.{None, Option, Some}
 use Rattle.std.proofs.Common.{◌≡◌, ℕ, zero, suc, ◌+◌, ◌-◌, ◌*◌, ◌/◌, ◌%◌, ◌<◌, ◌≤◌, Bool, true, false, T, eqb, ltb, ◌⊎◌, List, sym, refl, ap, ◌∙◌, subst, inl, inr, ⊎_elim, mul-le-mul_right, mod-lt, div-lt_iff_lt-mul, mul-le-mul_left, arith, lit<, ltb-false, ltb-true, le-ltb, lt-ltb, eq-eqb, ne_eqb, eqb-true}
-use mathlib.Core.Option.{Option, none, some}
 use native.Mathlib.Nat.{mod-mod, div-add-mod}
 use Rattle.float64.specs.Pick.{pick, yes, no, cases, pick_yes, pick_same}
 use Rattle.cache.specs.declared.CacheKey.{CacheKey}
 use Rattle.cache.specs.declared.CacheOrder.{CacheOrder}
-use Rattle.cache.specs.declared.Found.{Found}
-use Rattle.cache.specs.declared.Found.TheVariants.{At, Nothing}
 use Rattle.cache.specs.Cache.{half, hash, head_of, entry_place, count_of, link_of, bits_of, latest_of, filter_of, has_bit, bits, bit_of, chain, same_key, is_same, is_at, walk, is_room, find}
 use Rattle.cache.specs.Kept.{Entry, lookup, key_of, entry_of, kept_from, found_entry, Latest, Laid, Good, Stands}
 use Rattle.cache.proofs.Paths.{picked}
@@ -64,18 +62,18 @@ true_same a b e =
     (yes _ (eq-eqb _ _ (ap (λ (x : CacheKey). x.theta1) e)) (yes _ (eq-eqb _ _ (ap (λ (x : CacheKey). x.has_additive) e)) (sym (eq-eqb _ _ (ap (λ (x : CacheKey). x.additive) e)))))))))
 
 -- ---- the walk along a chain
-abbrev pub Hit : List ℕ → ℕ → ℕ → CacheKey → ℕ → Found → Type 0
-Hit w k o key e r = (s : ℕ) × (o ≤ s) × (s < e) × (key_of w k s ≡ key) × (r ≡ At (s % k))
+abbrev pub Hit : List ℕ → ℕ → ℕ → CacheKey → ℕ → Option ℕ → Type 0
+Hit w k o key e r = (s : ℕ) × (o ≤ s) × (s < e) × (key_of w k s ≡ key) × (r ≡ Some (s % k))
 
-abbrev pub Miss : List ℕ → ℕ → ℕ → CacheKey → ℕ → Found → Type 0
-Miss w k o key e r = (r ≡ Nothing) × ((s : ℕ) → o ≤ s → s < e → key_of w k s ≡ key → ⊥)
+abbrev pub Miss : List ℕ → ℕ → ℕ → CacheKey → ℕ → Option ℕ → Type 0
+Miss w k o key e r = (r ≡ None) × ((s : ℕ) → o ≤ s → s < e → key_of w k s ≡ key → ⊥)
 
-abbrev Told : List ℕ → ℕ → ℕ → CacheKey → ℕ → Found → Type 0
+abbrev Told : List ℕ → ℕ → ℕ → CacheKey → ℕ → Option ℕ → Type 0
 Told w k o key e r = Hit w k o key e r ⊎ Miss w k o key e r
 
 module _ (w : List ℕ) (k c o b g : ℕ) (G : Good w k c o b g) (key : CacheKey) where
   -- past an entry with another key
-  on : (p e : ℕ) (r : Found) → Latest w k o (chain k key) p e → (key_of w k p ≡ key → ⊥) → Told w k o key p r → Told w k o key e r
+  on : (p e : ℕ) (r : Option ℕ) → Latest w k o (chain k key) p e → (key_of w k p ≡ key → ⊥) → Told w k o key p r → Told w k o key e r
   on p e r L d (inl h) = inl (h.0, h.1, (let l : p < e = L.below in let j : h.0 < p = h.2 in omega arith), h.3, h.4)
   on p e r L d (inr h) =
       inr (h.0, λ s a b t. ⊎_elim (λ (y : s < p). h.1 s a y t) (λ (y : p ≤ s). let x : s ≤ p = L.all s a b (ap (chain k) t) in let z : p ≡ s = omega arith in d (ap (key_of w k) z ∙ t)) (split s p))
@@ -103,7 +101,7 @@ module _ (w : List ℕ) (k c o b g : ℕ) (G : Good w k c o b g) (key : CacheKey
       at (inr x) =
           let s : is_at w k p (bits key) key ≡ same_key (key_of w k p) key = looks p x (let y : p < e = L.below in omega arith) in
           ⊎_elim (λ (t : same_key (key_of w k p) key ≡ true). inl (p, x, L.below, same_true _ _ t, sym (no _ (le-ltb p o x) (yes _ (s ∙ t) refl))))
-          (λ (t : same_key (key_of w k p) key ≡ false). subst (λ (r : Found). Told w k o key e r) (no _ (le-ltb p o x) (no _ (s ∙ t) refl))
+          (λ (t : same_key (key_of w k p) key ≡ false). subst (λ (r : Option ℕ). Told w k o key e r) (no _ (le-ltb p o x) (no _ (s ∙ t) refl))
           (on p e _ L (λ q. subst T (sym (true_same _ _ q) ∙ t) tt) (ih x)))
           (which (same_key (key_of w k p) key))
 
@@ -117,9 +115,9 @@ module _ (w : List ℕ) (k c o b g : ℕ) (G : Good w k c o b g) (key : CacheKey
   walked = walk_ok c _ (o + c) (omega arith) (omega arith) (G.heads (chain k key) (chain_lt k key G.some_room))
 
   -- and what the filter says first
-  pub filtered : Told w k o key (o + c) (pick (has_bit (filter_of w (chain k key)) (bit_of key)) (walk c w k o (bits key) key (latest_of w (chain k key))) Nothing)
+  pub filtered : Told w k o key (o + c) (pick (has_bit (filter_of w (chain k key)) (bit_of key)) (walk c w k o (bits key) key (latest_of w (chain k key))) None)
   filtered =
-      cases (Told w k o key (o + c)) (has_bit (filter_of w (chain k key)) (bit_of key)) {x = walk c w k o (bits key) key (latest_of w (chain k key))} {y = Nothing} (λ _. walked)
+      cases (Told w k o key (o + c)) (has_bit (filter_of w (chain k key)) (bit_of key)) {x = walk c w k o (bits key) key (latest_of w (chain k key))} {y = None} (λ _. walked)
       (λ e. inr (refl, λ s a b t. subst T (sym (subst (λ (z : CacheKey). has_bit (filter_of w (chain k z)) (bit_of z) ≡ true) t (G.filters s a b)) ∙ e) tt))
 
 -- ---- the lookup in the list
@@ -137,17 +135,17 @@ module _ (w : List ℕ) (k : ℕ) (key : CacheKey) where
   unfolding entry_of
   agrees s e = true_same _ _ e
 
-  pub lookup_none : (c o : ℕ) → ((s : ℕ) → o ≤ s → s < o + c → key_of w k s ≡ key → ⊥) → lookup key (kept_from c w k o) ≡ none
+  pub lookup_none : (c o : ℕ) → ((s : ℕ) → o ≤ s → s < o + c → key_of w k s ≡ key → ⊥) → lookup key (kept_from c w k o) ≡ None
   unfolding lookup kept_from
   lookup_none zero o f = refl
   lookup_none (suc c) o f = sym (no _ (differs o (f o (omega arith) (omega arith))) (sym (lookup_none c (o + 1) (λ s a b t. f s (omega arith) (omega arith) t))))
 
-  pub lookup_some : (c o s : ℕ) → o ≤ s → s < o + c → key_of w k s ≡ key → ((t : ℕ) → o ≤ t → t < s → key_of w k t ≡ key → ⊥) → lookup key (kept_from c w k o) ≡ some (entry_of w k s)
+  pub lookup_some : (c o s : ℕ) → o ≤ s → s < o + c → key_of w k s ≡ key → ((t : ℕ) → o ≤ t → t < s → key_of w k t ≡ key → ⊥) → lookup key (kept_from c w k o) ≡ Some (entry_of w k s)
   unfolding lookup kept_from
   lookup_some zero o s a b q f = absurd (let z : ⊥ = omega arith in z)
   lookup_some (suc c) o s a b q f =
       ⊎_elim (λ (h : o < s). sym (no _ (differs o (f o (omega arith) h)) (sym (lookup_some c (o + 1) s (omega arith) (omega arith) q (λ t x y z. f t (omega arith) y z)))))
-      (λ (h : s ≤ o). let z : s ≡ o = omega arith in sym (yes _ (agrees o (ap (key_of w k) (sym z) ∙ q)) (ap {B = Option Entry} (λ (x : ℕ). some (entry_of w k x)) z)))
+      (λ (h : s ≤ o). let z : s ≡ o = omega arith in sym (yes _ (agrees o (ap (key_of w k) (sym z) ∙ q)) (ap {B = Option Entry} (λ (x : ℕ). Some (entry_of w k x)) z)))
       (split o s)
 
 pub room_is : (k : ℕ) → 1 ≤ k → k ≤ 100000 → is_room k ≡ true
@@ -171,10 +169,10 @@ module _ (w : List ℕ) (k : ℕ) (r : CacheOrder) (l : List Entry) (S : Stands 
       let e : r.next - r.oldest ≡ S.count = let z : r.oldest + S.count ≡ r.next = S.ends in omega arith in
       let f : S.count ≤ k = few_entries w k S.count r.oldest r.first_row r.next_row S.good in
       subst (λ (n : ℕ). Told w k r.oldest key n (find w k r key)) S.ends
-      (subst (λ (x : Found). Told w k r.oldest key (r.oldest + S.count) x)
+      (subst (λ (x : Option ℕ). Told w k r.oldest key (r.oldest + S.count) x)
       (yes _ (room_is k S.good.some_room S.good.most)
       (no _ (le-ltb k (r.next - r.oldest) (omega arith))
-      (ap (λ (m : ℕ). pick (has_bit (filter_of w (chain k key)) (bit_of key)) (walk m w k r.oldest (bits key) key (latest_of w (chain k key))) Nothing) (sym e))))
+      (ap (λ (m : ℕ). pick (has_bit (filter_of w (chain k key)) (bit_of key)) (walk m w k r.oldest (bits key) key (latest_of w (chain k key))) None) (sym e))))
       (filtered w k S.count r.oldest r.first_row r.next_row S.good key))
 
   list_is : (x : Option Entry) → x ≡ lookup key (kept_from S.count w k r.oldest) → x ≡ lookup key l
@@ -183,7 +181,7 @@ module _ (w : List ℕ) (k : ℕ) (r : CacheOrder) (l : List Entry) (S : Stands 
   is_lookup : Told w k r.oldest key r.next (find w k r key) → found_entry w k (find w k r key) ≡ lookup key l
   unfolding found_entry
   is_lookup (inl h) =
-      ap (found_entry w k) h.4 ∙ ap {B = Option Entry} (λ (x : Entry). some x) (slot w k key h.0)
+      ap (found_entry w k) h.4 ∙ ap {B = Option Entry} (λ (x : Entry). Some x) (slot w k key h.0)
       ∙ list_is _ (sym (lookup_some w k key S.count r.oldest h.0 h.1 (rw S.ends h.2) h.3 (λ t a b z. S.good.apart t h.0 a b (rw S.ends h.2) (z ∙ sym h.3))))
   is_lookup (inr h) =
       ap (found_entry w k) h.0 ∙ list_is _ (sym (lookup_none w k key S.count r.oldest (λ s a b z. h.1 s a (let q : r.oldest + S.count ≡ r.next = S.ends in omega arith) z)))

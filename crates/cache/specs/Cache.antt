@@ -1,12 +1,10 @@
 -- What the functions of this crate compute, over the list of the lent words: the layout and `find` (lib.rt), then `entries`, then
 -- `keeping`.
-use Rattle.std.specs.Prelude.{ℕ, zero, suc, ◌+◌, ◌-◌, ◌*◌, ◌/◌, ◌%◌, ◌^◌, Bool, false, List, [], ◌∷◌, length, set, ◌==◌, bit_or, nat_lt, slice_index, slice_set}
+use Rattle.std.specs.Prelude.{ℕ, zero, suc, ◌+◌, ◌-◌, ◌*◌, ◌/◌, ◌%◌, ◌^◌, Bool, false, List, [], ◌∷◌, length, set, ◌==◌, bit_or, nat_lt, slice_index, slice_set, None, Option, Some}
 use Rattle.float64.specs.Pick.{pick}
 use Rattle.cache.specs.declared.CacheKey.{CacheKey}
 use Rattle.cache.specs.declared.CachedTerms.{CachedTerms}
 use Rattle.cache.specs.declared.CacheOrder.{CacheOrder}
-use Rattle.cache.specs.declared.Found.{Found}
-use Rattle.cache.specs.declared.Found.TheVariants.{At, Nothing}
 
 -- ---- the layout, for each row of the room: the words of a row; where entries, of 16 words, and rows begin, after a head and a link
 abbrev pub row_words : ℕ
@@ -147,20 +145,20 @@ unfoldable pub is_at : List ℕ → ℕ → ℕ → ℕ → CacheKey → Bool
 is_at w k entry b key = pick (bits_of w k entry == b) (is_same w (entry_place k entry) key) false
 
 -- along a chain from an entry on, in at most n entries
-unfoldable pub walk : ℕ → List ℕ → ℕ → ℕ → ℕ → CacheKey → ℕ → Found
-walk zero w k oldest b key entry = Nothing
+unfoldable pub walk : ℕ → List ℕ → ℕ → ℕ → ℕ → CacheKey → ℕ → Option ℕ
+walk zero w k oldest b key entry = None
 walk (suc n) w k oldest b key entry =
-    pick (nat_lt entry oldest) Nothing
-    (pick (is_at w k entry b key) (At (entry % k))
+    pick (nat_lt entry oldest) None
+    (pick (is_at w k entry b key) (Some (entry % k))
     (walk n w k oldest b key (link_of w k entry)))
 
-unfoldable pub find : List ℕ → ℕ → CacheOrder → CacheKey → Found
+unfoldable pub find : List ℕ → ℕ → CacheOrder → CacheKey → Option ℕ
 find w k order key =
     pick (is_room k)
-    (pick (nat_lt k (order.next - order.oldest)) Nothing
+    (pick (nat_lt k (order.next - order.oldest)) None
     (pick (has_bit (filter_of w (chain k key)) (bit_of key))
-    (walk (order.next - order.oldest) w k order.oldest (bits key) key (latest_of w (chain k key))) Nothing))
-    Nothing
+    (walk (order.next - order.oldest) w k order.oldest (bits key) key (latest_of w (chain k key))) None))
+    None
 
 -- ---- reading a slot
 unfoldable pub terms_of : List ℕ → ℕ → ℕ → CachedTerms

@@ -1,7 +1,6 @@
 -- What is claimed of the kept evaluations: as long as only `insert` writes, the words are the source's map and queue. Callers use these
 -- laws, and the definitions by name alone.
-use Rattle.std.specs.Prelude.{◌≡◌, ℕ, ◌+◌, ◌-◌, ◌*◌, ◌<◌, ◌≤◌, ◌⊎◌, List, [], ◌∷◌, ◌++◌, length, slice_index}
-use Rattle.std.proofs.Math.Option.{none}
+use Rattle.std.specs.Prelude.{◌≡◌, ℕ, ◌+◌, ◌-◌, ◌*◌, ◌<◌, ◌≤◌, ◌⊎◌, List, [], ◌∷◌, ◌++◌, length, slice_index, None}
 use Rattle.cache.specs.declared.CacheKey.{CacheKey}
 use Rattle.cache.specs.declared.CacheOrder.{CacheOrder}
 use Rattle.cache.specs.Cache.{half, row_words, kept_words, order, Cache, find, terms_of, copied, insert, after}
@@ -26,11 +25,11 @@ pub record Refinement : Type 0 where
       → found_entry w k (find w k r key) ≡ lookup key l
   -- insert of a key that is not in it drops the oldest until the rows fit, and appends
   pub keeps : (w : List ℕ) (k : ℕ) (r : CacheOrder) (l : List Entry) → Stands w k r l → (x : Evaluated) → Lent x → x.n ≤ k
-      → r.next < half → lookup x.key l ≡ none
+      → r.next < half → lookup x.key l ≡ None
       → Stands (insert_of w k r x).words k (insert_of w k r x).order (drop_to (k - x.n) l ++ (entry_for x ∷ []))
   -- and takes one number
   pub counts : (w : List ℕ) (k : ℕ) (r : CacheOrder) (l : List Entry) → Stands w k r l → (x : Evaluated) → Lent x → x.n ≤ k
-      → r.next < half → lookup x.key l ≡ none → (insert_of w k r x).order.next ≡ r.next + 1
+      → r.next < half → lookup x.key l ≡ None → (insert_of w k r x).order.next ≡ r.next + 1
   -- one of more than k rows is not kept
   pub passes : (w : List ℕ) (k : ℕ) (r : CacheOrder) (x : Evaluated) → k < x.n → insert_of w k r x ≡ after r w
   -- no key stands twice; cached_rows is next_row - first_row, and at most k

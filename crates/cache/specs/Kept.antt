@@ -1,13 +1,10 @@
 -- Document 01's kept evaluations: the list of entries that the words stand for, the oldest first; and what the source's HashMap and
 -- VecDeque do with such a list.
-use Rattle.std.specs.Prelude.{◌≡◌, ℕ, zero, suc, ◌+◌, ◌-◌, ◌*◌, ◌<◌, ◌≤◌, true, List, [], ◌∷◌, ◌++◌, length, ◌≢◌, nat_lt, slice_index}
-use Rattle.std.proofs.Math.Option.{Option, none, some}
+use Rattle.std.specs.Prelude.{◌≡◌, ℕ, zero, suc, ◌+◌, ◌-◌, ◌*◌, ◌<◌, ◌≤◌, true, List, [], ◌∷◌, ◌++◌, length, ◌≢◌, nat_lt, slice_index, None, Some, Option}
 use Rattle.float64.specs.Pick.{pick}
 use Rattle.cache.specs.declared.CacheKey.{CacheKey}
 use Rattle.cache.specs.declared.CachedTerms.{CachedTerms}
 use Rattle.cache.specs.declared.CacheOrder.{CacheOrder}
-use Rattle.cache.specs.declared.Found.{Found}
-use Rattle.cache.specs.declared.Found.TheVariants.{At, Nothing}
 use Rattle.cache.specs.Cache.{row_words, kept_words, key_at, terms_at, entry_place, row_at, count_of, first_of, link_of, bits_of, latest_of}
 use Rattle.cache.specs.Cache.{filter_of, has_bit, bits, bit_of, chain, same_key, Cache, find, insert}
 
@@ -20,8 +17,8 @@ pub record Entry : Type 0 where
 
 -- ---- the list: what the source does
 unfoldable pub lookup : CacheKey → List Entry → Option Entry
-lookup key [] = none
-lookup key (x ∷ l) = pick (same_key x.key key) (some x) (lookup key l)
+lookup key [] = None
+lookup key (x ∷ l) = pick (same_key x.key key) (Some x) (lookup key l)
 
 -- the source's cached_rows
 unfoldable pub cached_rows : List Entry → ℕ
@@ -64,8 +61,8 @@ appended k l x = pick (nat_lt k x.n) l (drop_to (k - x.n) l ++ (entry_for x ∷ 
 
 -- an evaluation is looked up, and kept where it is not found
 unfoldable pub unless_found : Option Entry → List Entry → List Entry → List Entry
-unless_found (some x) there new = there
-unless_found none there new = new
+unless_found (Some x) there new = there
+unless_found None there new = new
 
 unfoldable pub kept_with : ℕ → List Entry → Evaluated → List Entry
 kept_with k l x = unless_found (lookup x.key l) l (appended k l x)
@@ -75,9 +72,9 @@ kept_after k l [] = l
 kept_after k l (x ∷ xs) = kept_after k (kept_with k l x) xs
 
 -- ---- the same with the words, by `find` and `insert`
-unfoldable pub unless_at : Found → Cache → Cache → Cache
-unless_at (At slot) there new = there
-unless_at Nothing there new = new
+unfoldable pub unless_at : Option ℕ → Cache → Cache → Cache
+unless_at (Some slot) there new = there
+unless_at None there new = new
 
 unfoldable pub cache_with : ℕ → Cache → Evaluated → Cache
 cache_with k t x =
@@ -110,9 +107,9 @@ kept_from zero w k s = []
 kept_from (suc c) w k s = entry_of w k s ∷ kept_from c w k (s + 1)
 
 -- what the slot that was found holds
-unfoldable pub found_entry : List ℕ → ℕ → Found → Option Entry
-found_entry w k (At slot) = some (entry_of w k slot)
-found_entry w k Nothing = none
+unfoldable pub found_entry : List ℕ → ℕ → Option ℕ → Option Entry
+found_entry w k (Some slot) = Some (entry_of w k slot)
+found_entry w k None = None
 
 -- q is the latest of the entries o up to e whose keys fall into the chain h; below o nothing is said of it
 pub record Latest (w : List ℕ) (k o h q e : ℕ) : Type 0 where
@@ -151,4 +148,4 @@ pub record Stands (w : List ℕ) (k : ℕ) (r : CacheOrder) (l : List Entry) : T
 -- no key twice
 unfoldable pub Once : List Entry → Type 0
 Once [] = Unit
-Once (x ∷ l) = (lookup x.key l ≡ none) × Once l
+Once (x ∷ l) = (lookup x.key l ≡ None) × Once l

@@ -72,13 +72,6 @@ pub struct CacheOrder {
     pub next_row: usize,
 }
 
-// The answer of find: the slot of the kept evaluation with a key, or that there is none.
-#[derive(Clone, Copy)]
-pub enum Found {
-    At(usize),
-    Nothing,
-}
-
 fn number(word: u64) -> usize
     ensures { result ≡ word }
 {
@@ -234,7 +227,8 @@ fn is_at(words: &[u64], k: usize, entry: usize, bits: u64, key: CacheKey) -> boo
     false
 }
 
-// The slot of the entry with this key, from the entry `start` along its chain, in at most `most` entries.
+// The slot of the entry with this key, from the entry `start` along its chain, in at most `most` entries, if it
+// is there.
 fn walk(
     words: &[u64],
     k: usize,
@@ -243,7 +237,7 @@ fn walk(
     key: CacheKey,
     start: usize,
     most: usize,
-) -> Found
+) -> Option<usize>
     requires { (0 < k) × (k ≤ 100000) }
     ensures { result ≡ walk most words.now k oldest bits key start }
 {
@@ -251,29 +245,29 @@ fn walk(
     let mut left = most;
     while oldest <= entry {
         if left == 0 {
-            return Found::Nothing;
+            return None;
         }
         left -= 1;
         if is_at(words, k, entry, bits, key) {
-            return Found::At(modulo(entry, k));
+            return Some(modulo(entry, k));
         }
         entry = number(read(words, k + modulo(entry, k)) % HALF);
     }
-    Found::Nothing
+    None
 }
 
-// The slot of the kept evaluation with this key: the source's lookup in `cache`.
-pub fn find(words: &[u64], k: usize, order: CacheOrder, key: CacheKey) -> Found
+// The slot of the kept evaluation with this key, if there is one: the source's lookup in `cache`.
+pub fn find(words: &[u64], k: usize, order: CacheOrder, key: CacheKey) -> Option<usize>
     ensures { result ≡ find words.now k order key }
 {
     if is_room(k) {
         let most = less(order.next, order.oldest);
         if most == 0 {
-            return Found::Nothing;
+            return None;
         }
         // no more than K entries can be kept
         if k < most {
-            return Found::Nothing;
+            return None;
         }
         let hash = hash(key);
         let head = read(words, head_of(hash, k));
@@ -282,7 +276,7 @@ pub fn find(words: &[u64], k: usize, order: CacheOrder, key: CacheKey) -> Found
             let latest = number(head % HALF);
             return walk(words, k, order.oldest, bits, key, latest, most);
         }
-        return Found::Nothing;
+        return None;
     }
-    Found::Nothing
+    None
 }

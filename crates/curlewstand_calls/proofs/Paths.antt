@@ -1,4 +1,5 @@
 -- What the parts of a call answered, put together. Assumes nothing.
+use Rattle.std.specs.Prelude.{Err, None, Ok, Option, Some, ℕ}
 use mathlib.Core.Path.{◌≡◌, refl, ◌∙◌}
 use mathlib.Core.Bool.{false}
 use mathlib.Core.List.{List, [], ◌∷◌}
@@ -6,15 +7,10 @@ use Prim.Native.Nat.{ℕ, ◌-◌}
 use lib.ListN.{length, take, drop, length-set}
 use Rattle.float64.specs.Pick.{pick_no}
 use Rattle.likelihood.specs.declared.population_focei.Observation.{Observation}
-use Rattle.subject.specs.Observations.{first_check, check_observations}
+use Rattle.subject.specs.Observations.{first_check, check_observations, Check}
 use Rattle.subject.specs.Reply.{written}
-use Rattle.subject.specs.Subject.{Evaluating, evaluating, add_at, add_to, add_after, add_observation, add_observations}
-use Rattle.subject.specs.declared.Check.{Check}
-use Rattle.subject.specs.declared.Evaluation.{Evaluation}
-use Rattle.subject.specs.declared.Evaluation.TheVariants.{Running, Refused, RefusedAt}
+use Rattle.subject.specs.Subject.{Evaluating, evaluating, add_at, add_to, add_after, add_observation, add_observations, Evaluation}
 use Rattle.subject.specs.declared.PredictionRow.{PredictionRow}
-use Rattle.subject.specs.declared.RowAt.{RowAt}
-use Rattle.subject.specs.declared.RowAt.TheVariants.{Word, Missing}
 use Rattle.subject.specs.declared.Sums.{Sums}
 use Rattle.subject.specs.declared.Trial.{Trial}
 use Rattle.setup.specs.declared.Lent.{Lent}
@@ -30,6 +26,7 @@ use Rattle.host_calls.specs.Hosting.{Out, setup_of, admit_with, call_over}
 use Rattle.host_calls.specs.SubjectReplies.{admit_for}
 use Rattle.host_calls.specs.declared.SessionSetup.{SessionSetup}
 use Rattle.observations.specs.Lending.{evaluate_over, replied_over}
+use Rattle.subject.specs.declared.EvaluationError.TheVariants.{Refused, RefusedAt}
 
 -- ---- the check of all the observations
 pub all_checked_lem : (s : SessionSetup) (counts : List ℕ) (observations : List Observation) {first check : Check} → first ≡ first_check
@@ -44,16 +41,16 @@ unfolding written
 written_length block n row work = simp length-set
 
 module _ (trial : Trial) (words : List ℕ) where
-  row_length_lem : (s : Sums) (o : Observation) (work : List ℕ) (r : RowAt) → length (add_at s o trial words work r).work ≡ length work
+  row_length_lem : (s : Sums) (o : Observation) (work : List ℕ) (r : Option ℕ) → length (add_at s o trial words work r).work ≡ length work
   unfolding add_at
-  row_length_lem s o work (Word at) = written_length _ _ _ work
-  row_length_lem s o work Missing = refl
+  row_length_lem s o work (Some at) = written_length _ _ _ work
+  row_length_lem s o work None = refl
 
   one_length : (o : Observation) (work : List ℕ) (e : Evaluation) → length (add_after trial words o work e).work ≡ length work
   unfolding add_after add_to
-  one_length o work (Running s) = row_length_lem s o work _
-  one_length o work (Refused n) = refl
-  one_length o work (RefusedAt n i) = refl
+  one_length o work (Ok s) = row_length_lem s o work _
+  one_length o work (Err (Refused n)) = refl
+  one_length o work (Err (RefusedAt n i)) = refl
 
   added_length : (os : List Observation) (x : Evaluating) → length (add_observations trial words os x).work ≡ length x.work
   unfolding add_observation

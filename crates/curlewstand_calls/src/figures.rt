@@ -6,7 +6,6 @@ ghost use Rattle.float64.specs.Answer.{number_of, or_old};
 ghost use Rattle.session.specs.Figures.{ceiling_of};
 ghost use Rattle.host_calls.specs.Figures.{shrinkage_from};
 
-use host_calls::figures::Shrinkage;
 
 // The number of the C interface. The header and the Rust crate refer to this function by its name, which ends
 // with that number: so a host that was written for another interface does not link with this library, and the
@@ -41,10 +40,10 @@ pub extern "C" fn curlewstand_shrinkage(
         ≡ or_old shrinkage.old (shrinkage_from counts.now state.now answer.now) }
 {
     match host_calls::figures::shrinkage_from(counts, state, answer) {
-        Shrinkage::Given(value) => {
+        Some(value) => {
             *shrinkage = value;
             0
         }
-        Shrinkage::None => 19,
+        None => 19,
     }
 }

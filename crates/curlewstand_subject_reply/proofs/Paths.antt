@@ -8,8 +8,7 @@ use lib.ListN.{length, take, drop}
 use lib.Seq.{take_all}
 use Rattle.float64.specs.Pick.{pick_yes}
 use Rattle.likelihood.specs.declared.population_focei.Observation.{Observation}
-use Rattle.subject.specs.Observations.{check_observations}
-use Rattle.subject.specs.declared.Check.{Check}
+use Rattle.subject.specs.Observations.{check_observations, Check}
 use Rattle.setup.specs.declared.Lent.{Lent}
 use Rattle.setup.specs.declared.Setup.{Setup}
 use Rattle.search.specs.declared.Tally.{Tally}

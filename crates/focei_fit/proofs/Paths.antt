@@ -1,4 +1,5 @@
 -- The ways through the code: one law for each, over plain variables. Assumes nothing.
+use Rattle.std.specs.Prelude.{Ok, Result}
 use mathlib.Core.Path.{◌≡◌, refl, sym, ap, subst, ◌∙◌}
 use mathlib.Core.List.{List, [], ◌∷◌}
 use Prim.Native.Nat.{ℕ, zero, suc, ◌+◌, ◌-◌, ◌*◌, ◌/◌, ◌≤◌, ◌<◌}
@@ -22,8 +23,6 @@ use Rattle.session.specs.Calls.{called, held_of, state_of, Setting, begun_with, 
 use Rattle.session.specs.declared.State.{State}
 use Rattle.session.specs.declared.Called.{Called}
 use Rattle.session.specs.declared.Begun.{Begun}
-use Rattle.session.specs.declared.Opening.{Opening}
-use Rattle.session.specs.declared.Opening.TheVariants as Opens
 use Rattle.program_calls.specs.Recorded.{call_of, open_of}
 use Rattle.focei_records.specs.Records.{answer, cohort, counts as countsIn, observations as observationsIn, reply}
 use Rattle.focei_records.specs.declared.Cohort.{Cohort}
@@ -33,6 +32,7 @@ use Rattle.focei_text.specs.Report.{finished, refusal_line}
 use Rattle.words.specs.Written.{Written, written, write}
 use Rattle.words.proofs.Front.{front, within}
 use Rattle.focei_fit.specs.Output.{most_evaluations, settings, first_parameters, begun, replied, when_asked, play, ended, end_of, when_opened, fitted, lent, when_records, output}
+use Rattle.session.specs.declared.Refusal.{Refusal}
 
 -- ---- the calls; `taken` are the words of the reply
 module _ (counts observations : List ℕ) (h : Held words) where
@@ -113,18 +113,18 @@ module _ (input counts observations cache work warm results : List ℕ) (t : Wri
   setting : begun_with b cache₁ work₁ warm₁ ≡ open_of settings counts observations no_tally cache work warm results
   setting = q ∙ ap (λ (s : Setup). open_of s counts observations no_tally cache work warm results) e
 
-  opened_as : (o : Opening) → b.opening ≡ o → when_opened input counts observations results (begun_with b cache₁ work₁ warm₁) o ≡ fitted input counts observations cache work warm results
+  opened_as : (o : Result State Refusal) → b.opening ≡ o → when_opened input counts observations results (begun_with b cache₁ work₁ warm₁) o ≡ fitted input counts observations cache work warm results
   unfolding fitted
   opened_as o f =
       ap (when_opened input counts observations results (begun_with b cache₁ work₁ warm₁)) (sym f)
       ∙ ap (λ (s : Setting). when_opened input counts observations results s s.begun.opening) setting
 
-  pub not_opened : {number : ℕ} {place : Place} {t' : Written} → b.opening ≡ Opens.Refused number place → t' ≡ write (refusal_line number place) t → t' ≡ write
+  pub not_opened : {number : ℕ} {place : Place} {t' : Written} → b.opening ≡ Err (record { number = number; place = place }) → t' ≡ write (refusal_line number place) t → t' ≡ write
       (fitted input counts observations cache work warm results) t
   unfolding when_opened
   not_opened f g = g ∙ ap (λ (l : List ℕ). write l t) (opened_as _ f)
 
-  pub is_opened_lem : {state : State} {last : Called} {cache₂ work₂ warm₂ results₂ : List ℕ} {t' : Written} → b.opening ≡ Opens.Opened state
+  pub is_opened_lem : {state : State} {last : Called} {cache₂ work₂ warm₂ results₂ : List ℕ} {t' : Written} → b.opening ≡ Ok state
       → called last cache₂ work₂ warm₂ results₂ ≡ play input counts observations most_evaluations (begun counts observations (held_of state b.tally cache₁ work₁ warm₁ results))
       → t' ≡ write (ended counts last.state last.tally results₂ last.step) t → t' ≡ write (fitted input counts observations cache work warm results) t
   unfolding when_opened end_of

@@ -1,4 +1,5 @@
 -- The program's text is short enough for the program's buffer: so that it is printed whole. Assumes nothing.
+use Rattle.std.specs.Prelude.{Ok, Result}
 use mathlib.Core.Path.{◌≡◌, refl, sym, ap, subst, ◌∙◌}
 use mathlib.Core.Bool.{Bool, true, false}
 use mathlib.Core.List.{List, [], ◌∷◌}
@@ -19,8 +20,6 @@ use Rattle.search.specs.declared.Step.TheVariants.{Asked, Finished, Refused}
 use Rattle.search.specs.declared.Tally.{Tally}
 use Rattle.session.specs.Calls.{Setting, shrinkage}
 use Rattle.session.specs.declared.State.{State}
-use Rattle.session.specs.declared.Opening.{Opening}
-use Rattle.session.specs.declared.Opening.TheVariants as Opens
 use Rattle.focei_records.specs.Records.{cohort, counts as countsIn}
 use Rattle.focei_records.proofs.Bounds.{sum, counts_length, few_counted, few_records}
 use Rattle.focei_text.specs.Report.{subjects_of}
@@ -30,6 +29,7 @@ use Rattle.words.specs.Written.{Written, written, write}
 use Rattle.words.proofs.Front.{fits}
 use Rattle.focei_fit.specs.Output.{ended, end_of, when_opened, fitted, lent, when_records, output, printed}
 use Rattle.focei_fit.specs.Claim.{longest_text, Short}
+use Rattle.session.specs.declared.Refusal.{Refusal}
 
 -- ---- the rows of the subjects are no more than the counts add up to
 rows_within : (left s : ℕ) (counts : List ℕ) (b : Bool) → ltb s (length counts) ≡ b → rows_from left s counts ≤ sum (drop s counts)
@@ -62,10 +62,10 @@ module _ (counts : List ℕ) (few : length counts ≤ 256) (fewer : sum counts �
       omega arith
   end_short state tally results (Refused number place) = let l = refusal_length number place in omega arith
 
-  opened_short : (input observations results : List ℕ) (s : Setting) (o : Opening) → length (when_opened input counts observations results s o) ≤ longest_text
+  opened_short : (input observations results : List ℕ) (s : Setting) (o : Result State Refusal) → length (when_opened input counts observations results s o) ≤ longest_text
   unfolding when_opened end_of
-  opened_short input observations results s (Opens.Opened state) = end_short _ _ _ _
-  opened_short input observations results s (Opens.Refused number place) = let l = refusal_length number place in omega arith
+  opened_short input observations results s (Ok state) = end_short _ _ _ _
+  opened_short input observations results s (Err e) = let l = refusal_length e.number e.place in omega arith
 
   fitted_short : (input observations cache work warm results : List ℕ) → length (fitted input counts observations cache work warm results) ≤ longest_text
   unfolding fitted

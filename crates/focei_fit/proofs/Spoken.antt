@@ -1,4 +1,5 @@
 -- The program's text is never empty: it begins with an `O` line or is an `R` line. Assumes nothing.
+use Rattle.std.specs.Prelude.{Ok, Result}
 use mathlib.Core.List.{List}
 use Prim.Native.Nat.{ℕ, ◌<◌}
 use native.Mathlib.Omega.{arith}
@@ -12,12 +13,11 @@ use Rattle.search.specs.declared.Step.TheVariants.{Asked, Finished, Refused}
 use Rattle.search.specs.declared.Tally.{Tally}
 use Rattle.session.specs.Calls.{Setting, shrinkage}
 use Rattle.session.specs.declared.State.{State}
-use Rattle.session.specs.declared.Opening.{Opening}
-use Rattle.session.specs.declared.Opening.TheVariants as Opens
 use Rattle.focei_records.specs.Records.{cohort}
 use Rattle.focei_text.specs.Report.{line, objective_line, finished, refusal_line}
 use Rattle.focei_fit.specs.Output.{ended, end_of, when_opened, fitted, lent, when_records, output}
 use Rattle.focei_fit.specs.Claim.{NotEmpty}
+use Rattle.session.specs.declared.Refusal.{Refusal}
 
 -- ---- the first line has its letter
 refusal : (number : ℕ) (place : Place) → 0 < length (refusal_line number place)
@@ -35,10 +35,10 @@ at_end counts state tally results (Asked eta individual) = refusal 19 Nowhere
 at_end counts state tally results (Finished x) = end x tally.calls.0 (shrinkage state (length counts)) counts results
 at_end counts state tally results (Refused number place) = refusal number place
 
-opened : (input counts observations results : List ℕ) (s : Setting) (o : Opening) → 0 < length (when_opened input counts observations results s o)
+opened : (input counts observations results : List ℕ) (s : Setting) (o : Result State Refusal) → 0 < length (when_opened input counts observations results s o)
 unfolding when_opened end_of
-opened input counts observations results s (Opens.Opened state) = at_end _ _ _ _ _
-opened input counts observations results s (Opens.Refused number place) = refusal number place
+opened input counts observations results s (Ok state) = at_end _ _ _ _ _
+opened input counts observations results s (Err e) = refusal e.number e.place
 
 of_records : (input : List ℕ) (c : Answer ℕ) → 0 < length (when_records input c)
 unfolding when_records lent fitted

@@ -1,10 +1,9 @@
 -- Document 01's program: from the bytes of its records to the bytes that it prints.
-use Rattle.std.specs.Prelude.{List, [], ◌∷◌, ◌++◌, ℕ, zero, suc, ◌+◌, ◌*◌, length, drop, replicate}
+use Rattle.std.specs.Prelude.{List, [], ◌∷◌, ◌++◌, ℕ, zero, suc, ◌+◌, ◌*◌, length, drop, replicate, None, Ok, Result}
 use Rattle.float64.specs.Answer.{Answer, given, refused}
 use Rattle.float64.specs.Arithmetic.{word, one}
 use Rattle.words.specs.Written.{Written, written}
 use Rattle.matrix.specs.declared.Pair.{Pair}
-use Rattle.subject.specs.declared.AdditiveSd.TheVariants.{Own}
 use Rattle.setup.specs.declared.Setup.{Setup}
 use Rattle.setup.specs.declared.Parameters.{Parameters}
 use Rattle.search.specs.declared.Tally.{Tally}
@@ -18,11 +17,10 @@ use Rattle.population.specs.Population.{rows_of}
 use Rattle.session.specs.Session.{Held, objective, reply as rows, no_tally}
 use Rattle.session.specs.Calls.{held_of, state_of, Setting, shrinkage}
 use Rattle.session.specs.declared.State.{State}
-use Rattle.session.specs.declared.Opening.{Opening}
-use Rattle.session.specs.declared.Opening.TheVariants as Opens
 use Rattle.program_calls.specs.Recorded.{call_of, open_of}
 use Rattle.focei_records.specs.Records.{record_bytes, most_records, cohort, counts, observations, reply}
 use Rattle.focei_text.specs.Report.{finished, refusal_line}
+use Rattle.session.specs.declared.Refusal.{Refusal}
 
 -- the evaluations of a session, and as many answers: each question raises them
 abbrev pub most_evaluations : ℕ
@@ -40,14 +38,14 @@ settings = record {
   gradient_tolerance = word 0x3f1a_36e2_eb1c_432d;
   width = 1;
   k = 64;
-  additive_sd = Own;
+  additive_sd = None;
   output_budget = 10000;
   max_evaluations = most_evaluations;
 }
 
 -- theta 1
 unfoldable pub first_parameters : Parameters
-first_parameters = record { theta = record { first = one; second = word 0 }; omega = one; additive_sd = Own }
+first_parameters = record { theta = record { first = one; second = word 0 }; omega = one; additive_sd = None }
 
 -- ---- a session of these records, whose counts and observations are in words
 
@@ -83,12 +81,12 @@ ended counts state tally results (Refused number place) = refusal_line number pl
 unfoldable pub end_of : List ℕ → Ran (Held words) Step → List ℕ
 end_of counts r = ended counts (state_of r.state) r.state.whole.tally r.state.whole.results r.answer
 
-unfoldable pub when_opened : List ℕ → List ℕ → List ℕ → List ℕ → Setting → Opening → List ℕ
-when_opened input counts observations results s (Opens.Opened state) =
+unfoldable pub when_opened : List ℕ → List ℕ → List ℕ → List ℕ → Setting → Result State Refusal → List ℕ
+when_opened input counts observations results s (Ok state) =
     end_of counts
     (play input counts observations most_evaluations
     (begun counts observations (held_of state s.begun.tally s.cache s.work s.warm results)))
-when_opened input counts observations results s (Opens.Refused number place) = refusal_line number place
+when_opened input counts observations results s (Err e) = refusal_line e.number e.place
 
 -- with the session's words as they are lent to setup
 unfoldable pub fitted : List ℕ → List ℕ → List ℕ → List ℕ → List ℕ → List ℕ → List ℕ → List ℕ

@@ -11,9 +11,8 @@ ghost use Rattle.focei_fit.specs.Output.{output, input_bytes, printed};
 use focei_records::Cohort;
 use matrix::Pair;
 use search::{CachedRows, Calls, Place, Step, Tally};
-use session::{Called, Opening, State};
+use session::{Called, Refusal, State};
 use setup::{Parameters, Setup};
-use subject::AdditiveSd;
 
 // The evaluations of a session, and the most questions that are answered: each question raises them.
 pub const MOST_EVALUATIONS: u32 = 10000;
@@ -39,7 +38,7 @@ fn settings() -> Setup
         gradient_tolerance: 0.0001,
         width: 1,
         k: 64,
-        additive_sd: AdditiveSd::Own,
+        additive_sd: None,
         output_budget: 10000,
         max_evaluations: MOST_EVALUATIONS,
     }
@@ -54,7 +53,7 @@ fn first_parameters() -> Parameters
             second: 0.0,
         },
         omega: 1.0,
-        additive_sd: AdditiveSd::Own,
+        additive_sd: None,
     }
 }
 
@@ -245,7 +244,7 @@ fn fit(
     let tally = opened.tally;
     let opening = opened.opening;
     match opening {
-        Opening::Opened(state) => {
+        Ok(state) => {
             let last = run(
                 input,
                 state,
@@ -260,7 +259,7 @@ fn fit(
             );
             told(last, counts, results, out)
         }
-        Opening::Refused(number, place) => focei_text::refused(out, 0, number, place),
+        Err(Refusal { number, place }) => focei_text::refused(out, 0, number, place),
     }
 }
 

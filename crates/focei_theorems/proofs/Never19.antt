@@ -1,4 +1,5 @@
 -- The program never prints 19: its session's calls keep to the rules, and then none gets 19. Assumes nothing.
+use Rattle.std.specs.Prelude.{Err, Ok}
 use mathlib.Core.Path.{◌≡◌, refl, ap, subst, ◌∙◌}
 use mathlib.Core.List.{List, [], ◌∷◌, ◌++◌}
 use Prim.Native.Nat.{ℕ, zero, suc, ◌+◌, ◌≤◌, ◌<◌}
@@ -9,9 +10,7 @@ use Rattle.float64.specs.Answer.{Answer, given, refused}
 use Rattle.float64.specs.Pick.{both}
 use Rattle.matrix.specs.declared.Pair.{Pair}
 use Rattle.likelihood.specs.declared.population_focei.Observation.{Observation}
-use Rattle.setup.specs.Admission.{checks}
-use Rattle.setup.specs.declared.Admission.{Admission}
-use Rattle.setup.specs.declared.Admission.TheVariants as A
+use Rattle.setup.specs.Admission.{checks, Admission}
 use Rattle.setup.specs.declared.Lent.{Lent}
 use Rattle.search.specs.Subjects.{begin_subject}
 use Rattle.search.specs.declared.Place.{Place}
@@ -36,6 +35,7 @@ use Rattle.focei_fit.specs.Output.{most_evaluations, settings, first_parameters,
 use Rattle.focei_theorems.specs.Claim.{Never19}
 use Rattle.focei_theorems.proofs.Lines.{number_read, finished_other}
 use Rattle.focei_theorems.proofs.Questions.{few_numbers, asks, refuses, ends}
+use Rattle.setup.specs.declared.AdmissionError.TheVariants as A
 
 -- ---- a session with one call more
 module _ (M : Machine) where
@@ -120,7 +120,7 @@ module _ (input counts observations cache work warm results : List ℕ) (place :
   abbrev admission : Admission
   admission = checks settings counts words_lent (all_checked settings counts os)
 
-  grants : admission ≡ A.Accepted → Granted settings counts os words_lent results
+  grants : admission ≡ (Ok tt) → Granted settings counts os words_lent results
   unfolding settings of_bits fits
   grants e = record { bound = tt; limit = omega arith; many = refl; long = refl; passes = e }
 
@@ -130,9 +130,9 @@ module _ (input counts observations cache work warm results : List ℕ) (place :
 
   admitted_other : (a : Admission) → admission ≡ a → NumberOther a → Judged (length counts) a → text a ≡ refusal_line 19 place → ⊥
   unfolding opening when_opened NumberOther Judged
-  admitted_other A.Accepted e other j q = session_other input counts observations words_lent results (grants e) place q
-  admitted_other (A.Refused n) e other j q = let few = few_numbers n j.0 in other_line n Nowhere place other (omega (arith, few)) q
-  admitted_other (A.Unsound at) e other j q = other_line 4 _ place (λ z. omega (arith, z)) (omega arith) q
+  admitted_other (Ok tt) e other j q = session_other input counts observations words_lent results (grants e) place q
+  admitted_other (Err (A.Refused n)) e other j q = let few = few_numbers n j.0 in other_line n Nowhere place other (omega (arith, few)) q
+  admitted_other (Err (A.Unsound at)) e other j q = other_line 4 _ place (λ z. omega (arith, z)) (omega arith) q
 
   fitted_other : fitted input counts observations cache work warm results ≡ refusal_line 19 place → ⊥
   unfolding fitted opened_by checks

@@ -1,4 +1,5 @@
 -- The ways through the code: one law for each, over plain variables. Assumes nothing.
+use Rattle.std.specs.Prelude.{Float, None, Ok, Option, Some}
 use mathlib.Core.Path.{◌≡◌, refl, sym, ap, ◌∙◌}
 use mathlib.Core.Bool.{Bool, true, false}
 use mathlib.Core.List.{List}
@@ -13,10 +14,7 @@ use Rattle.float64.specs.Answer.{Answer, given, refused}
 use Rattle.float64.specs.Arithmetic.{word}
 use Rattle.float64.specs.Pick.{pick, yes, no}
 use Rattle.matrix.specs.declared.Pair.{Pair}
-use Rattle.subject.specs.Subject.{additive_sd}
-use Rattle.subject.specs.declared.AdditiveSd.{AdditiveSd}
-use Rattle.subject.specs.declared.Check.{Check}
-use Rattle.subject.specs.declared.Evaluation.{Evaluation}
+use Rattle.subject.specs.Subject.{additive_sd, Evaluation}
 use Rattle.setup.specs.declared.Parameters.{Parameters}
 use Rattle.setup.specs.declared.Setup.{Setup}
 use Rattle.search.specs.declared.Place.{Place}
@@ -31,20 +29,18 @@ use Rattle.session.specs.Session.{Held, enter_objective, enter_failure}
 use Rattle.session.specs.declared.Awaited.{Awaited}
 use Rattle.session.specs.declared.Begun.{Begun}
 use Rattle.session.specs.declared.Called.{Called}
-use Rattle.session.specs.declared.Opening.TheVariants as Opens
 use Rattle.session.specs.declared.State.{State}
 use Rattle.state_words.specs.SessionWords as W
-use Rattle.state_words.specs.declared.LoadedState.{LoadedState}
-use Rattle.state_words.specs.declared.LoadedState.TheVariants.{Given, None}
 use Rattle.host_calls.specs.Hosting.{setup_of, parameters_of, setup_from, setup_bits, parameters_from, parameter_bits, answer_words, place_words, answer_of, answered, number_of, is_unaltered}
 use Rattle.host_calls.specs.Hosting.{told_as, told, no_state, opened_to, opened, Out, out_of, out, did, unknown, with_state, open_with, objective_with, failure_with, finish_with}
 use Rattle.host_calls.specs.declared.AnswerWords.{AnswerWords}
 use Rattle.host_calls.specs.declared.Done.{Done}
 use Rattle.host_calls.specs.declared.SessionParameters.{SessionParameters}
 use Rattle.host_calls.specs.declared.SessionSetup.{SessionSetup}
+use Rattle.subject.specs.Observations.{Check}
 
 -- ---- what a host gives; a is what `additive_sd` answered
-pub setup_made : (s : SessionSetup) {a : AdditiveSd} → a ≡ additive_sd s.has_additive s.additive
+pub setup_made : (s : SessionSetup) {a : Option Float} → a ≡ additive_sd s.has_additive s.additive
     → record {
       effects = s.effects;
       omega00 = s.omega_00;
@@ -77,7 +73,7 @@ setup_made s e =
       max_evaluations = s.max_evaluations;
     }
 
-pub parameters_made : (p : SessionParameters) {a : AdditiveSd} → a ≡ additive_sd p.has_additive p.additive
+pub parameters_made : (p : SessionParameters) {a : Option Float} → a ≡ additive_sd p.has_additive p.additive
     → record { theta = record { first = p.theta; second = p.theta_2 }; omega = p.omega; additive_sd = a } ≡ parameters_of p
 unfolding parameters_of
 parameters_made p e = λ i. record { theta = record { first = p.theta; second = p.theta_2 }; omega = p.omega; additive_sd = e i }
@@ -206,12 +202,12 @@ module _ (c : Called) (state answer : List ℕ) {n : ℕ} {a : AnswerWords} {w :
 
 -- ---- a setup; w is the answer's words afterwards
 module _ (b : Begun) (state answer : List ℕ) {w : List ℕ} where
-  pub opens_told : {next : State} {s : List ℕ} → b.opening ≡ Opens.Opened next → w ≡ answered (answer_words 1 0 0 0 0) answer → s ≡ W.saved_state next state → told_as
+  pub opens_told : {next : State} {s : List ℕ} → b.opening ≡ Ok next → w ≡ answered (answer_words 1 0 0 0 0) answer → s ≡ W.saved_state next state → told_as
       (record { number = 0; tally = b.tally }) s w ≡ opened b state answer
   unfolding opened opened_to
   opens_told t ew es = (λ i. told_as (record { number = 0; tally = b.tally }) (es i) (ew i)) ∙ ap (opened_to b.tally state answer) (sym t)
 
-  pub refused_told : {number : ℕ} {place : Place} {a : AnswerWords} → b.opening ≡ Opens.Refused number place → a ≡ place_words number place → w ≡ answered a answer → told_as
+  pub refused_told : {number : ℕ} {place : Place} {a : AnswerWords} → b.opening ≡ Err (record { number = number; place = place }) → a ≡ place_words number place → w ≡ answered a answer → told_as
       (record { number = number; tally = b.tally }) state w ≡ opened b state answer
   unfolding opened opened_to
   refused_told {number} t ea ew =
@@ -243,8 +239,8 @@ pub did_told : (state answer : List ℕ) {c : Called} {r : Done} {s w cache work
 did_told state answer {cache = cache} {work = work} {warm = warm} {results = results} ec et = (λ i. out_of (et i) cache work warm results) ∙ ap (λ (x : Ran (Held words) Step). did x state answer) ec
 
 -- ---- what is made of the state of some words, x being what `load` answered of them
-module _ (state : List ℕ) {x : LoadedState} (e : W.answer x ≡ W.loaded_state state) where
-  pub of_given : {X : Type 0} (f : Answer State → X) {s : State} {z : X} → x ≡ Given s → z ≡ f (given s) → z ≡ f (W.loaded_state state)
+module _ (state : List ℕ) {x : Option State} (e : W.answer x ≡ W.loaded_state state) where
+  pub of_given : {X : Type 0} (f : Answer State → X) {s : State} {z : X} → x ≡ Some s → z ≡ f (given s) → z ≡ f (W.loaded_state state)
   unfolding W.answer
   of_given f t q = q ∙ ap f (sym (ap W.answer t) ∙ e)
 
@@ -252,7 +248,7 @@ module _ (state : List ℕ) {x : LoadedState} (e : W.answer x ≡ W.loaded_state
   unfolding W.answer
   of_none f t q = q ∙ ap f (sym (ap W.answer t) ∙ e)
 
-  pub with_given : (f : State → Out) (other : Out) {s : State} {z : Out} → x ≡ Given s → z ≡ f s → z ≡ with_state f other (W.loaded_state state)
+  pub with_given : (f : State → Out) (other : Out) {s : State} {z : Out} → x ≡ Some s → z ≡ f s → z ≡ with_state f other (W.loaded_state state)
   unfolding with_state
   with_given f other t q = of_given (with_state f other) t q
 
@@ -268,15 +264,15 @@ module _ (setup : Setup) (counts : List ℕ) (n : ℕ) (check : Check) (tally : 
   begins : Parameters → Setup → Parameters → State → Out
   begins parameters o p s = did (entered o counts (enter_objective words o counts n check p (held_of s tally cache work warm results))) state answer
 
-  pub objective_given : {x : LoadedState} → W.answer x ≡ W.loaded_state state → (parameters : Parameters) {s : State} {own : Setup} {p : Parameters} {c : Called} {r : Done} {t w k m q : List ℕ} → x ≡
-      Given s → own ≡ setup → p ≡ parameters
+  pub objective_given : {x : Option State} → W.answer x ≡ W.loaded_state state → (parameters : Parameters) {s : State} {own : Setup} {p : Parameters} {c : Called} {r : Done} {t w k m q : List ℕ} → x ≡
+      Some s → own ≡ setup → p ≡ parameters
       → called c cache k m q ≡ entered own counts (enter_objective words own counts n check p (held_of s tally cache work warm results)) → told_as r t w ≡ told c state answer → out r t w cache k m q ≡
       objective_with setup counts n check tally state answer cache work warm results parameters
   unfolding objective_with begins
   objective_given ex parameters {s} tx eo ep ec et =
       with_given state ex (begins parameters setup parameters) none tx (did_told state answer ec et ∙ (λ i. begins parameters (eo i) (ep i) s))
 
-  pub objective_none : {x : LoadedState} → W.answer x ≡ W.loaded_state state → (parameters : Parameters) {r : Done} {w : List ℕ} → x ≡ None → (r ≡ no_state tally) ×
+  pub objective_none : {x : Option State} → W.answer x ≡ W.loaded_state state → (parameters : Parameters) {r : Done} {w : List ℕ} → x ≡ None → (r ≡ no_state tally) ×
       (w ≡ answered (place_words 19 At.Nowhere) answer) → out r state w cache work warm results ≡ objective_with setup counts n check tally state answer cache work warm results parameters
   unfolding objective_with begins
   objective_none ex parameters tx q = with_none state ex (begins parameters setup parameters) none tx (unknown_out tally state answer cache work warm results q)
@@ -284,13 +280,13 @@ module _ (setup : Setup) (counts : List ℕ) (n : ℕ) (check : Check) (tally : 
   fails : Setup → State → Out
   fails o s = did (entered o counts (enter_failure words o counts n check (held_of s tally cache work warm results))) state answer
 
-  pub failure_given : {x : LoadedState} → W.answer x ≡ W.loaded_state state → {s : State} {own : Setup} {c : Called} {r : Done} {t w k : List ℕ} → x ≡ Given s → own ≡ setup → called c cache k warm
+  pub failure_given : {x : Option State} → W.answer x ≡ W.loaded_state state → {s : State} {own : Setup} {c : Called} {r : Done} {t w k : List ℕ} → x ≡ Some s → own ≡ setup → called c cache k warm
       results ≡ entered own counts (enter_failure words own counts n check (held_of s tally cache work warm results)) → told_as r t w ≡ told c state answer
       → out r t w cache k warm results ≡ failure_with setup counts n check tally state answer cache work warm results
   unfolding failure_with fails
   failure_given ex {s} tx eo ec et = with_given state ex (fails setup) none tx (did_told state answer ec et ∙ (λ i. fails (eo i) s))
 
-  pub failure_none : {x : LoadedState} → W.answer x ≡ W.loaded_state state → {r : Done} {w : List ℕ} → x ≡ None → (r ≡ no_state tally) × (w ≡ answered (place_words 19 At.Nowhere) answer) → out r state w
+  pub failure_none : {x : Option State} → W.answer x ≡ W.loaded_state state → {r : Done} {w : List ℕ} → x ≡ None → (r ≡ no_state tally) × (w ≡ answered (place_words 19 At.Nowhere) answer) → out r state w
       cache work warm results ≡ failure_with setup counts n check tally state answer cache work warm results
   unfolding failure_with fails
   failure_none ex tx q = with_none state ex (fails setup) none tx (unknown_out tally state answer cache work warm results q)
@@ -300,13 +296,13 @@ module _ (counts : List ℕ) (a : Awaited) (e : Evaluation) (tally : Tally) (sta
   finishes : State → Out
   finishes s = did (finish_reply counts a e (held_of s tally cache work warm results)) state answer
 
-  pub finish_given : {x : LoadedState} → W.answer x ≡ W.loaded_state state → {s : State} {c : Called} {r : Done} {t w j k m q : List ℕ} → x ≡ Given s → called c j k m q ≡ finish_reply counts a e
+  pub finish_given : {x : Option State} → W.answer x ≡ W.loaded_state state → {s : State} {c : Called} {r : Done} {t w j k m q : List ℕ} → x ≡ Some s → called c j k m q ≡ finish_reply counts a e
       (held_of s tally cache work warm results) → told_as r t w ≡ told c state answer
       → out r t w j k m q ≡ finish_with counts a e tally state answer cache work warm results
   unfolding finish_with finishes
   finish_given ex tx ec et = with_given state ex finishes (unknown tally state answer cache work warm results) tx (did_told state answer ec et)
 
-  pub finish_none : {x : LoadedState} → W.answer x ≡ W.loaded_state state → {r : Done} {w : List ℕ} → x ≡ None → (r ≡ no_state tally) × (w ≡ answered (place_words 19 At.Nowhere) answer) → out r state w
+  pub finish_none : {x : Option State} → W.answer x ≡ W.loaded_state state → {r : Done} {w : List ℕ} → x ≡ None → (r ≡ no_state tally) × (w ≡ answered (place_words 19 At.Nowhere) answer) → out r state w
       cache work warm results ≡ finish_with counts a e tally state answer cache work warm results
   unfolding finish_with finishes
   finish_none ex tx q = with_none state ex finishes (unknown tally state answer cache work warm results) tx (unknown_out tally state answer cache work warm results q)

@@ -1,4 +1,5 @@
 -- The ways through `shrinkage_in` and `shrinkage_from`: one law for each, over plain variables. Assumes nothing.
+use Rattle.std.specs.Prelude.{Float, None, Option, Some}
 use mathlib.Core.Path.{◌≡◌, refl, sym, ap, ◌∙◌}
 use mathlib.Core.Bool.{Bool, true, false}
 use mathlib.Core.List.{List}
@@ -13,11 +14,7 @@ use Rattle.session.specs.Calls.{shrinkage}
 use Rattle.session.specs.Figures.{has_finished}
 use Rattle.session.specs.declared.State.{State}
 use Rattle.state_words.specs.SessionWords as W
-use Rattle.state_words.specs.declared.LoadedState.{LoadedState}
-use Rattle.state_words.specs.declared.LoadedState.TheVariants as Loads
 use Rattle.host_calls.specs.Figures.{told, shrinkage_in, shrinkage_of, shrinkage_from}
-use Rattle.host_calls.specs.declared.figures.Shrinkage.{Shrinkage}
-use Rattle.host_calls.specs.declared.figures.Shrinkage.TheVariants.{Given, None}
 
 -- ---- of a state; b is what `has_finished` answered
 module _ (subjects : ℕ) (s : State) where
@@ -26,9 +23,9 @@ module _ (subjects : ℕ) (s : State) where
   many l = yes _ (lt-ltb _ _ l) refl
 
   module _ {b : Bool} (few : subjects ≤ most_subjects) (e : b ≡ has_finished s.progress subjects) where
-    pub finished : {x : Float} → b ≡ true → x ≡ shrinkage s subjects → told (Given x) ≡ shrinkage_in subjects s
+    pub finished : {x : Float} → b ≡ true → x ≡ shrinkage s subjects → told (Some x) ≡ shrinkage_in subjects s
     unfolding shrinkage_in told
-    finished t q = no _ (le-ltb _ _ few) (yes_of _ e t (ap (λ (x : Float). told (Given x)) q))
+    finished t q = no _ (le-ltb _ _ few) (yes_of _ e t (ap (λ (x : Float). told (Some x)) q))
 
     pub unfinished : b ≡ false → told None ≡ shrinkage_in subjects s
     unfolding shrinkage_in told
@@ -41,15 +38,15 @@ module _ (counts state answer : List ℕ) {kind : ℕ} (read : kind ≡ get_or a
   not_ended n = no _ (ne_eqb _ _ (λ (h : get_or answer 0 0 ≡ 1). n (read ∙ h))) refl
 
   module _ (ended : kind ≡ 1) where
-    of_state : (x : LoadedState) (r : Answer Float) → W.answer x ≡ W.loaded_state state → r ≡ shrinkage_of (length counts) (W.answer x) → r ≡ shrinkage_from counts state answer
+    of_state : (x : Option State) (r : Answer Float) → W.answer x ≡ W.loaded_state state → r ≡ shrinkage_of (length counts) (W.answer x) → r ≡ shrinkage_from counts state answer
     unfolding shrinkage_from
     of_state x r e q = yes _ (eq-eqb _ _ (sym read ∙ ended)) (q ∙ ap (shrinkage_of (length counts)) e)
 
-    pub no_state_lem : {x : LoadedState} → x ≡ Loads.None → W.answer x ≡ W.loaded_state state → told None ≡ shrinkage_from counts state answer
+    pub no_state_lem : {x : Option State} → x ≡ None → W.answer x ≡ W.loaded_state state → told None ≡ shrinkage_from counts state answer
     unfolding told shrinkage_of W.answer
-    no_state_lem {x} t e = of_state x (told None) e (ap (λ (l : LoadedState). shrinkage_of (length counts) (W.answer l)) (sym t))
+    no_state_lem {x} t e = of_state x (told None) e (ap (λ (l : Option State). shrinkage_of (length counts) (W.answer l)) (sym t))
 
-    pub a_state : {x : LoadedState} {s : State} → x ≡ Loads.Given s → W.answer x ≡ W.loaded_state state → (r : Shrinkage) → told r ≡ shrinkage_in (length counts) s → told r ≡ shrinkage_from counts state
+    pub a_state : {x : Option State} {s : State} → x ≡ Some s → W.answer x ≡ W.loaded_state state → (r : Option Float) → told r ≡ shrinkage_in (length counts) s → told r ≡ shrinkage_from counts state
         answer
     unfolding shrinkage_of W.answer
-    a_state {x} t e r q = of_state x (told r) e (q ∙ ap (λ (l : LoadedState). shrinkage_of (length counts) (W.answer l)) (sym t))
+    a_state {x} t e r q = of_state x (told r) e (q ∙ ap (λ (l : Option State). shrinkage_of (length counts) (W.answer l)) (sym t))

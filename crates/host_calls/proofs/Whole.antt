@@ -5,9 +5,7 @@ use Prim.Native.Nat.{ℕ, ◌-◌}
 use lib.ListN.{length, take, drop}
 use Rattle.float64.specs.Answer.{Answer, given, refused}
 use Rattle.likelihood.specs.declared.population_focei.Observation.{Observation}
-use Rattle.subject.specs.Subject.{Evaluating, evaluating, add_observations}
-use Rattle.subject.specs.declared.Check.{Check}
-use Rattle.subject.specs.declared.Evaluation.{Evaluation}
+use Rattle.subject.specs.Subject.{Evaluating, evaluating, add_observations, Evaluation}
 use Rattle.setup.specs.declared.Lent.{Lent}
 use Rattle.setup.specs.declared.Parameters.{Parameters}
 use Rattle.setup.specs.declared.Setup.{Setup}
@@ -22,6 +20,7 @@ use Rattle.session.specs.declared.State.{State}
 use Rattle.state_words.specs.SessionWords.{loaded_state}
 use Rattle.session_calls.proofs.Whole.{objective_call, failure_call, reply_call}
 use Rattle.host_calls.specs.Hosting.{Out, did, unknown, with_state, open_with, objective_with, failure_with, admit_with, finish_with, setup_over, call_over}
+use Rattle.subject.specs.Observations.{Check}
 
 module _ (setup : Setup) (counts : List ℕ) (observations : List Observation) (tally : Tally) (state answer cache work warm results : List ℕ) where
   -- what the session does from the state s on

@@ -1,6 +1,6 @@
 -- The shrinkage that a host is told, from its words: of the objective with one effect that the latest call has finished, or 19 where there
 -- is none.
-use Rattle.std.specs.Prelude.{List, ℕ, ltb, eqb, length, get_or, Float}
+use Rattle.std.specs.Prelude.{List, ℕ, ltb, eqb, length, get_or, Float, None, Option, Some}
 use Rattle.float64.specs.Answer.{Answer, given, refused}
 use Rattle.float64.specs.Pick.{pick}
 use Rattle.work.specs.Work.{most_subjects}
@@ -8,12 +8,10 @@ use Rattle.session.specs.Calls.{shrinkage}
 use Rattle.session.specs.Figures.{has_finished}
 use Rattle.session.specs.declared.State.{State}
 use Rattle.state_words.specs.SessionWords.{loaded_state}
-use Rattle.host_calls.specs.declared.figures.Shrinkage.{Shrinkage}
-use Rattle.host_calls.specs.declared.figures.Shrinkage.TheVariants.{Given, None}
 
 -- for each case of the code's answer, what it says
-unfoldable pub told : Shrinkage → Answer Float
-told (Given x) = given x
+unfoldable pub told : Option Float → Answer Float
+told (Some x) = given x
 told None = refused 19
 
 -- of a state, where there are so many subjects

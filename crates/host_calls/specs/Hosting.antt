@@ -1,14 +1,12 @@
 -- A session's calls as a host makes them: the state and the answer as words, the tally and all that is lent beside them.
-use Rattle.std.specs.Prelude.{Bool, true, false, List, ℕ, ◌%◌, ◌^◌, ltb, eqb, length, set}
+use Rattle.std.specs.Prelude.{Bool, true, false, List, ℕ, ◌%◌, ◌^◌, ltb, eqb, length, set, Ok, Result}
 use Rattle.std.specs.Float.{binary64}
 use Rattle.std.specs.Float.Ieee.{to_bits}
 use Rattle.float64.specs.Answer.{Answer, given, refused}
 use Rattle.float64.specs.Arithmetic.{word}
 use Rattle.float64.specs.Pick.{pick}
 use Rattle.likelihood.specs.declared.population_focei.Observation.{Observation}
-use Rattle.subject.specs.Subject.{additive_sd}
-use Rattle.subject.specs.declared.Check.{Check}
-use Rattle.subject.specs.declared.Evaluation.{Evaluation}
+use Rattle.subject.specs.Subject.{additive_sd, Evaluation}
 use Rattle.setup.specs.declared.Lent.{Lent}
 use Rattle.setup.specs.declared.Parameters.{Parameters}
 use Rattle.setup.specs.declared.Setup.{Setup}
@@ -25,14 +23,14 @@ use Rattle.session.specs.declared.Admitted.{Admitted}
 use Rattle.session.specs.declared.Awaited.{Awaited}
 use Rattle.session.specs.declared.Begun.{Begun}
 use Rattle.session.specs.declared.Called.{Called}
-use Rattle.session.specs.declared.Opening.{Opening}
-use Rattle.session.specs.declared.Opening.TheVariants as Opens
 use Rattle.session.specs.declared.State.{State}
 use Rattle.state_words.specs.SessionWords.{state_size, loaded_state, saved_state}
 use Rattle.host_calls.specs.declared.AnswerWords.{AnswerWords}
 use Rattle.host_calls.specs.declared.Done.{Done}
 use Rattle.host_calls.specs.declared.SessionParameters.{SessionParameters}
 use Rattle.host_calls.specs.declared.SessionSetup.{SessionSetup}
+use Rattle.session.specs.declared.Refusal.{Refusal}
+use Rattle.subject.specs.Observations.{Check}
 
 -- ---- what a host gives
 
@@ -186,11 +184,11 @@ told c state answer =
 abbrev pub no_state : Tally → Done
 no_state tally = record { number = 19; tally = tally }
 
-unfoldable pub opened_to : Tally → List ℕ → List ℕ → Opening → Told
-opened_to tally state answer (Opens.Opened next) =
+unfoldable pub opened_to : Tally → List ℕ → List ℕ → Result State Refusal → Told
+opened_to tally state answer (Ok next) =
     told_as (record { number = 0; tally = tally }) (saved_state next state) (answered (answer_words 1 0 0 0 0) answer)
-opened_to tally state answer (Opens.Refused number place) =
-    told_as (record { number = number; tally = tally }) state (answered (place_words number place) answer)
+opened_to tally state answer (Err e) =
+    told_as (record { number = e.number; tally = tally }) state (answered (place_words e.number e.place) answer)
 
 unfoldable pub opened : Begun → List ℕ → List ℕ → Told
 opened b state answer = opened_to b.tally state answer b.opening

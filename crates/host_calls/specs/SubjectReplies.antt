@@ -1,13 +1,11 @@
 -- A reply that lends the observations of the awaited subject alone, as a host makes it. The tally and the words are lent as for any call
 -- of the session.
-use Rattle.std.specs.Prelude.{Bool, List, ℕ, ◌-◌, length, get_or, take, drop}
+use Rattle.std.specs.Prelude.{Bool, List, ℕ, ◌-◌, length, get_or, take, drop, Ok}
 use Rattle.float64.specs.Answer.{Answer, given, refused}
 use Rattle.float64.specs.Pick.{pick}
 use Rattle.likelihood.specs.declared.population_focei.Observation.{Observation}
-use Rattle.subject.specs.Observations.{check_observations}
+use Rattle.subject.specs.Observations.{check_observations, Check}
 use Rattle.subject.specs.Subject.{evaluating, add_observations}
-use Rattle.subject.specs.declared.Check.{Check}
-use Rattle.subject.specs.declared.Check.TheVariants.{Sound}
 use Rattle.setup.specs.declared.Lent.{Lent}
 use Rattle.setup.specs.declared.Setup.{Setup}
 use Rattle.search.specs.declared.Tally.{Tally}
@@ -20,7 +18,7 @@ use Rattle.host_calls.specs.Hosting.{Out, admit_with, finish_with}
 
 -- the check begins at the first observation of the subject that the state's words name
 unfoldable pub subject_first : List ℕ → Check
-subject_first state = Sound (record { subject = get_or state 8 0; observation = 0 })
+subject_first state = Ok (record { subject = get_or state 8 0; observation = 0 })
 
 abbrev pub subject_checked : Setup → List ℕ → List Observation → List ℕ → Check
 subject_checked setup counts observations state = check_observations setup.width counts observations (subject_first state)

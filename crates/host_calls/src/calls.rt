@@ -7,7 +7,6 @@ ghost use Rattle.host_calls.specs.Hosting.{setup_of, parameters_of, out, open_wi
 
 use super::{Done, SessionParameters, SessionSetup};
 use search::Tally;
-use state_words::LoadedState;
 use subject::Check;
 
 // Setup: opens a session where enough words are lent for its state and 1 to 5 pass, and writes the state and
@@ -71,7 +70,7 @@ pub fn begin_objective(
         cache.now work.old warm.old results.old (parameters_of parameters) }
 {
     match state_words::load(state) {
-        LoadedState::Given(at) => {
+        Some(at) => {
             let begun = session_calls::begin_objective(
                 super::setup_of(setup),
                 super::parameters_of(parameters),
@@ -87,7 +86,7 @@ pub fn begin_objective(
             );
             super::told(begun, state, answer)
         }
-        LoadedState::None => super::no_state(tally, answer),
+        None => super::no_state(tally, answer),
     }
 }
 
@@ -112,7 +111,7 @@ pub fn fail(
         cache.now work.old warm.now results.now }
 {
     match state_words::load(state) {
-        LoadedState::Given(at) => {
+        Some(at) => {
             let failed = session_calls::fail(
                 super::setup_of(setup),
                 at,
@@ -127,6 +126,6 @@ pub fn fail(
             );
             super::told(failed, state, answer)
         }
-        LoadedState::None => super::no_state(tally, answer),
+        None => super::no_state(tally, answer),
     }
 }

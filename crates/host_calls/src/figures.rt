@@ -4,45 +4,37 @@ ghost use Rattle.std.specs.Prelude.{◌≡◌};
 ghost use Rattle.host_calls.specs.Figures.{told, shrinkage_in, shrinkage_from};
 
 use session::State;
-use state_words::LoadedState;
 use work::MOST_SUBJECTS;
 
-// The shrinkage that some words tell, or that they tell none.
-#[derive(Clone, Copy)]
-pub enum Shrinkage {
-    Given(f64),
-    None,
-}
-
 // The shrinkage that a state tells of an objective of so many subjects.
-fn shrinkage_in(at: State, subjects: usize) -> Shrinkage
+fn shrinkage_in(at: State, subjects: usize) -> Option<f64>
     ensures { told result ≡ shrinkage_in subjects at }
 {
     if MOST_SUBJECTS < subjects {
-        return Shrinkage::None;
+        return None;
     }
     if session::has_finished(at.progress, subjects) {
-        return Shrinkage::Given(session::shrinkage(at, subjects as u32));
+        return Some(session::shrinkage(at, subjects as u32));
     }
-    Shrinkage::None
+    None
 }
 
 // The shrinkage of the objective with one effect that the latest call has finished, from the counts, the state
 // and the answer as that call left them. There is none where the answer is not of an end, where the words are
 // no state, or where the state is not that of a finished objective of so many subjects.
 #[tactic(auto, unfolding(crate::specs::Figures::shrinkage_from, crate::specs::Figures::told, crate::specs::Figures::shrinkage_of, state_words::specs::SessionWords::answer, float64::specs::Pick::pick))]
-pub fn shrinkage_from(counts: &[u64], state: &[u64], answer: &[u64]) -> Shrinkage
+pub fn shrinkage_from(counts: &[u64], state: &[u64], answer: &[u64]) -> Option<f64>
     ensures { told result ≡ shrinkage_from counts.now state.now answer.now }
 {
     if words::read(answer, 0) == 1 {
         match state_words::load(state) {
-            LoadedState::Given(at) => {
+            Some(at) => {
                 return shrinkage_in(at, counts.len());
             }
-            LoadedState::None => {
-                return Shrinkage::None;
+            None => {
+                return None;
             }
         }
     }
-    Shrinkage::None
+    None
 }

@@ -20,7 +20,7 @@ pub mod replies;
 
 use matrix::Pair;
 use search::{Place, Step, Tally};
-use session::{Begun, Called, Opening};
+use session::{Begun, Called, Refusal};
 use setup::{Parameters, Setup};
 
 // The setup of a session as a host gives it: `additive` overrides the observations' own deviations where
@@ -230,7 +230,7 @@ pub fn opened(begun: Begun, state: &mut [u64], answer: &mut [u64]) -> Done
     let tally = begun.tally;
     let opening = begun.opening;
     match opening {
-        Opening::Opened(next) => {
+        Ok(next) => {
             let words = AnswerWords {
                 kind: 1,
                 first: 0,
@@ -242,7 +242,7 @@ pub fn opened(begun: Begun, state: &mut [u64], answer: &mut [u64]) -> Done
             state_words::save(next, state);
             Done { number: 0, tally }
         }
-        Opening::Refused(number, place) => {
+        Err(Refusal { number, place }) => {
             write_answer(place_words(number, place), answer);
             Done { number, tally }
         }

@@ -11,7 +11,6 @@ use super::{Done, SessionSetup};
 use search::Tally;
 use session::Admitted;
 use setup::Lent;
-use state_words::LoadedState;
 use subject::{Check, Evaluation, Position};
 
 // The first part of a reply that lends all observations: whether it is accepted, and the evaluation that
@@ -29,7 +28,7 @@ fn admit_reply(
         (loaded_state state.old)) × (state.new ≡ state.old) }
 {
     match state_words::load(state) {
-        LoadedState::Given(at) => {
+        Some(at) => {
             session::checks::admit_reply(
                 super::setup_of(setup),
                 at,
@@ -40,7 +39,7 @@ fn admit_reply(
                 reply,
             )
         }
-        LoadedState::None => session::checks::unadmitted(super::setup_of(setup)),
+        None => session::checks::unadmitted(super::setup_of(setup)),
     }
 }
 
@@ -50,7 +49,7 @@ pub fn subject_first(state: &mut [u64]) -> Check
     ensures { (result ≡ subject_first state.old) × (state.new ≡ state.old) }
 {
     let subject = words::read(state, 8) as usize;
-    Check::Sound(Position {
+    Ok(Position {
         subject,
         observation: 0,
     })
@@ -71,11 +70,11 @@ fn admit_subject_reply(
         (loaded_state state.old)) × (state.new ≡ state.old) }
 {
     match state_words::load(state) {
-        LoadedState::Given(at) => {
+        Some(at) => {
             let own = super::setup_of(setup);
             session::checks::admit_subject_reply(own, at, tally, check, lent, counts, reply)
         }
-        LoadedState::None => session::checks::unadmitted(super::setup_of(setup)),
+        None => session::checks::unadmitted(super::setup_of(setup)),
     }
 }
 
@@ -126,12 +125,12 @@ pub fn finish_reply(
         cache.old work.old warm.old results.old }
 {
     match state_words::load(state) {
-        LoadedState::Given(at) => {
+        Some(at) => {
             let finished = session_calls::finish_reply(
                 at, tally, admitted, evaluation, counts, cache, work, warm, results,
             );
             super::told(finished, state, answer)
         }
-        LoadedState::None => super::no_state(tally, answer),
+        None => super::no_state(tally, answer),
     }
 }

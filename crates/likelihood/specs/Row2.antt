@@ -1,5 +1,5 @@
 -- The body of the loop over a subject's rows, in `subject` of population_focei_2d.rs.
-use Rattle.std.specs.Prelude.{List, ℕ, Float}
+use Rattle.std.specs.Prelude.{List, ℕ, Float, Err, Ok, Result}
 use Rattle.std.specs.Float.Ieee.{le}
 use Rattle.float64.specs.Arithmetic.{◌+ᶠ◌, word}
 use Rattle.float64.specs.Float64.{nonfinite}
@@ -8,14 +8,14 @@ use Rattle.matrix.specs.Matrix.{pair, at, entry}
 use Rattle.float64.specs.Answer.{Answer, given, refused}
 use Rattle.likelihood.specs.Terms.{residual, variance, scaled_by_eta2, z_squared, nll_term, score_term, information_term}
 use Rattle.likelihood.specs.declared.population_focei.Observation.{Observation}
-use Rattle.likelihood.specs.declared.population_focei_2d.RowVariance.{RowVariance}
-use Rattle.likelihood.specs.declared.population_focei_2d.RowVariance.TheVariants.{Valid, Invalid}
 use Rattle.likelihood.specs.declared.population_focei_2d.Row2.{Row2}
+use Rattle.likelihood.specs.declared.population_focei.RowError.{RowError}
+use Rattle.likelihood.specs.RowTerms.{number}
 
 -- what each case of the code's answer says
-unfoldable pub answer : RowVariance → Answer Float
-answer (Valid R) = given R
-answer Invalid = refused 11
+unfoldable pub answer : Result Float RowError → Answer Float
+answer (Ok R) = given R
+answer (Err e) = refused (number e)
 
 -- document 01's check 11
 unfoldable pub row_variance : Observation → Float → List Float → Answer Float

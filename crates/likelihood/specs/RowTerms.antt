@@ -1,5 +1,5 @@
 -- `row_terms` of population_focei.rs.
-use Rattle.std.specs.Prelude.{Float}
+use Rattle.std.specs.Prelude.{ℕ, Float, Result, Ok, Err}
 use Rattle.std.specs.Float.Ieee.{le}
 use Rattle.float64.specs.Arithmetic.{word}
 use Rattle.float64.specs.Float64.{nonfinite}
@@ -8,14 +8,18 @@ use Rattle.float64.specs.Answer.{Answer, given, refused}
 use Rattle.likelihood.specs.Terms.{residual, variance, scaled_by_eta, z_squared, nll_term, score_term, information_term}
 use Rattle.likelihood.specs.declared.population_focei.Observation.{Observation}
 use Rattle.likelihood.specs.declared.population_focei.RowTerms.{RowTerms}
-use Rattle.likelihood.specs.declared.population_focei.Row.{Row}
-use Rattle.likelihood.specs.declared.population_focei.Row.TheVariants.{Terms, InvalidVariance, Overflow}
+use Rattle.likelihood.specs.declared.population_focei.RowError.{RowError}
+use Rattle.likelihood.specs.declared.population_focei.RowError.TheVariants.{InvalidVariance, Overflow}
+
+-- document 01's number of each of the source's two errors
+unfoldable pub number : RowError → ℕ
+number InvalidVariance = 11
+number Overflow = 12
 
 -- what each case of the code's answer says
-unfoldable pub answer : Row → Answer RowTerms
-answer (Terms t) = given t
-answer InvalidVariance = refused 11
-answer Overflow = refused 12
+unfoldable pub answer : Result RowTerms RowError → Answer RowTerms
+answer (Ok t) = given t
+answer (Err e) = refused (number e)
 
 -- the terms of a row of variance R
 unfoldable pub terms_at : Float → Observation → Float → Float → RowTerms

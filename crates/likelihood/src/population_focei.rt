@@ -5,7 +5,7 @@ ghost use Rattle.std.specs.Float.Ieee.{le};
 ghost use Rattle.float64.specs.Arithmetic.{word};
 ghost use Rattle.float64.specs.Float64.{nonfinite};
 ghost use Rattle.float64.specs.Pick.{pick};
-ghost use Rattle.likelihood.specs.RowTerms.{answer, row_terms};
+ghost use Rattle.likelihood.specs.RowTerms.{number, answer, row_terms};
 
 use float64::LARGEST;
 
@@ -32,13 +32,23 @@ pub struct RowTerms {
     pub information: f64,
 }
 
-// The answer of row_terms: the terms of a row, or one of the source's two errors, document 01's 11
-// (InvalidVariance) and 12 (Overflow).
+// Why a row is refused: the source's two errors.
 #[derive(Clone, Copy)]
-pub enum Row {
-    Terms(RowTerms),
+pub enum RowError {
     InvalidVariance,
     Overflow,
+}
+
+impl RowError {
+    // Document 01's number of the refusal.
+    pub fn number(self) -> u32
+        ensures { result ≡ number self }
+    {
+        match self {
+            RowError::InvalidVariance => 11,
+            RowError::Overflow => 12,
+        }
+    }
 }
 
 // Whether a variance is refused. A variance is above 0 and at most the largest finite float; that is the
@@ -54,17 +64,22 @@ pub fn is_no_variance(variance: f64) -> bool
 
 // The terms of a row, the source's `row_terms`. `f_eta` is the derivative of the prediction by eta;
 // `additive` is the observation's own additive deviation, or the one that overrides it.
-pub fn row_terms(observation: Observation, prediction: f64, f_eta: f64, additive: f64) -> Row
+pub fn row_terms(
+    observation: Observation,
+    prediction: f64,
+    f_eta: f64,
+    additive: f64,
+) -> Result<RowTerms, RowError>
     ensures { answer result ≡ row_terms observation prediction f_eta additive }
 {
     let proportional = observation.proportional;
     let prop = proportional * prediction;
     let variance = additive * additive + prop * prop;
     if is_no_variance(variance) {
-        return Row::InvalidVariance;
+        return Err(RowError::InvalidVariance);
     }
     if float64::is_nonfinite(f_eta) {
-        return Row::InvalidVariance;
+        return Err(RowError::InvalidVariance);
     }
     let residual = observation.value - prediction;
     let r_eta = 2.0 * (proportional * proportional) * prediction * f_eta;
@@ -74,15 +89,15 @@ pub fn row_terms(observation: Observation, prediction: f64, f_eta: f64, additive
     let score = -residual * f_eta / variance + 0.5 * (1.0 - z2) * scaled_r_eta;
     let information = f_eta * f_eta / variance + 0.5 * scaled_r_eta * scaled_r_eta;
     if float64::is_nonfinite(nll) {
-        return Row::Overflow;
+        return Err(RowError::Overflow);
     }
     if float64::is_nonfinite(score) {
-        return Row::Overflow;
+        return Err(RowError::Overflow);
     }
     if float64::is_nonfinite(information) {
-        return Row::Overflow;
+        return Err(RowError::Overflow);
     }
-    Row::Terms(RowTerms {
+    Ok(RowTerms {
         nll,
         score,
         information,

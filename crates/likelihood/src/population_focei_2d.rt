@@ -4,14 +4,7 @@
 ghost use Rattle.std.specs.Prelude.{◌≡◌};
 ghost use Rattle.likelihood.specs.Row2.{answer, row_variance, scaled_row, add_nll, add_score, add_information};
 
-use super::population_focei::{LOG_2PI, Observation, is_no_variance};
-
-// The answer of row_variance: the variance of the residual, or that the row is refused with 11.
-#[derive(Clone, Copy)]
-pub enum RowVariance {
-    Valid(f64),
-    Invalid,
-}
+use super::population_focei::{LOG_2PI, Observation, RowError, is_no_variance};
 
 // What the terms of a row have in common: the residual, its variance, the square of the residual over the
 // variance (z2), and the derivative of the variance by each effect, over the variance (r_eta).
@@ -24,24 +17,24 @@ pub struct Row2 {
 }
 
 // The variance of a row's residual, if it, the prediction and both derivatives pass check 11.
-pub fn row_variance(observation: Observation, prediction: f64, f_eta: [f64; 2]) -> RowVariance
+pub fn row_variance(observation: Observation, prediction: f64, f_eta: [f64; 2]) -> Result<f64, RowError>
     ensures { answer result ≡ row_variance observation prediction f_eta }
 {
     let prop = observation.proportional * prediction;
     let variance = observation.additive * observation.additive + prop * prop;
     if is_no_variance(variance) {
-        return RowVariance::Invalid;
+        return Err(RowError::InvalidVariance);
     }
     if float64::is_nonfinite(prediction) {
-        return RowVariance::Invalid;
+        return Err(RowError::InvalidVariance);
     }
     if float64::is_nonfinite(f_eta[0]) {
-        return RowVariance::Invalid;
+        return Err(RowError::InvalidVariance);
     }
     if float64::is_nonfinite(f_eta[1]) {
-        return RowVariance::Invalid;
+        return Err(RowError::InvalidVariance);
     }
-    RowVariance::Valid(variance)
+    Ok(variance)
 }
 
 // What the terms of a row have in common, where `variance` is the one that row_variance gave.

@@ -1,14 +1,12 @@
 -- The operations of population_focei_2d.rs on pairs and two by two matrices, in the source's order.
 -- A pair is a list of its two floats, and a matrix the list of its two rows.
-use Rattle.std.specs.Prelude.{Bool, true, List, [], ◌∷◌, ℕ, get_or, Float}
+use Rattle.std.specs.Prelude.{Bool, true, List, [], ◌∷◌, ℕ, get_or, Float, None, Option, Some}
 use Rattle.std.specs.Float.{nan}
 use Rattle.std.specs.Float.Ieee.{neg, le}
 use Rattle.float64.specs.Arithmetic.{◌+ᶠ◌, ◌-ᶠ◌, ◌*ᶠ◌, ◌/ᶠ◌, word}
 use Rattle.float64.specs.Float64.{nonfinite}
 use Rattle.float64.specs.Pick.{pick}
 use Rattle.matrix.specs.declared.Matrix.{Matrix}
-use Rattle.matrix.specs.declared.InversePositive.{InversePositive}
-use Rattle.matrix.specs.declared.InversePositive.TheVariants.{Exists, None}
 
 abbrev pub pair : {X : Type 0} → X → X → List X
 pair x y = x ∷ y ∷ []
@@ -56,8 +54,8 @@ pub data Inverse : Type 0 where
   none : Inverse
 
 -- what each case of the code's answer says of the matrix m
-unfoldable pub answer : List (List Float) → InversePositive → Inverse
-answer m (Exists det) = some (inverse m det) det
+unfoldable pub answer : List (List Float) → Option Float → Inverse
+answer m (Some det) = some (inverse m det) det
 answer m None = none
 
 unfoldable pub has_nonfinite_entry : List (List Float) → Bool

@@ -25,14 +25,6 @@ pub struct Matrix {
     pub m11: f64,
 }
 
-// The answer of inverse_positive: the determinant of a matrix that has an inverse, or none. The source
-// answers with the inverse too, which is `inverse(matrix, det)` here, so that the enum holds no array.
-#[derive(Clone, Copy)]
-pub enum InversePositive {
-    Exists(f64),
-    None,
-}
-
 // A held matrix as an array.
 pub fn array_of(matrix: Matrix) -> [[f64; 2]; 2]
     ensures { result ≡ array_of matrix }
@@ -86,27 +78,29 @@ pub fn has_nonfinite_entry(matrix: [[f64; 2]; 2]) -> bool
 }
 
 // The source's `inverse_positive`: the determinant of a matrix whose diagonal is positive and which has an
-// inverse. The last test refuses a matrix whose determinant is so small that it may be rounding alone.
-pub fn inverse_positive(matrix: [[f64; 2]; 2]) -> InversePositive
+// inverse, or none. The source answers with the inverse too, which is `inverse(matrix, det)` here, so that the
+// answer holds no array. The last test refuses a matrix whose determinant is so small that it may be rounding
+// alone.
+pub fn inverse_positive(matrix: [[f64; 2]; 2]) -> Option<f64>
     ensures { answer matrix result ≡ inverse_positive matrix }
 {
     let det = determinant(matrix);
     if has_nonfinite_entry(matrix) {
-        return InversePositive::None;
+        return None;
     }
     if matrix[0][0] <= 0.0 {
-        return InversePositive::None;
+        return None;
     }
     if matrix[1][1] <= 0.0 {
-        return InversePositive::None;
+        return None;
     }
     if float64::is_nonfinite(det) {
-        return InversePositive::None;
+        return None;
     }
     if det <= 1e-12 * matrix[0][0] * matrix[1][1] {
-        return InversePositive::None;
+        return None;
     }
-    InversePositive::Exists(det)
+    Some(det)
 }
 
 // The inverse of a matrix whose determinant is `det`, as `inverse_positive` of the source computes it.

@@ -1,4 +1,5 @@
 -- The ways through the loop of `next_reduction`, and through what answers by cases: one law for each, over plain variables. Assumes nothing.
+use Rattle.std.specs.Prelude.{Float, None, Option, Some}
 use mathlib.Core.Path.{◌≡◌, refl, sym, ap, ◌∙◌}
 use mathlib.Core.Bool.{Bool, true, false}
 use mathlib.Core.List.{List}
@@ -8,8 +9,6 @@ use borrow.Author.Tests.{lt-ltb, le-ltb}
 use lib.Ieee.{Float}
 use Rattle.float64.specs.Pick.{pick, yes, no, yes_of, no_of}
 use Rattle.matrix.specs.Matrix.{Inverse, inverse, answer, inverse_positive}
-use Rattle.matrix.specs.declared.InversePositive.{InversePositive}
-use Rattle.matrix.specs.declared.InversePositive.TheVariants.{Exists, None}
 use Rattle.matrix.specs.declared.Pair.{Pair}
 use Rattle.mode_2d.specs.declared.population_focei_2d.Settings2.{Settings2}
 use Rattle.mode_2d.specs.declared.population_focei_2d.Conditional2.{Conditional2}
@@ -57,18 +56,18 @@ module _ (eta-bound : Float) (step : NewtonStep) (reduction : ℕ) where
 
 -- ---- a round; m is the curvature, r what `inverse_positive` answered, z what is done next
 module _ (s : Settings2) (round from : ℕ) (c : Conditional2) where
-  by_inverse : {m : List (List Float)} {r variant : InversePositive} {z : Onward} → m ≡ curvature s.precision c.information → answer m r ≡ inverse_positive m → r ≡ variant → z ≡ descended_by (answer m variant) s round from c
+  by_inverse : {m : List (List Float)} {r variant : Option Float} {z : Onward} → m ≡ curvature s.precision c.information → answer m r ≡ inverse_positive m → r ≡ variant → z ≡ descended_by (answer m variant) s round from c
       → z ≡ descended s round from c
   unfolding descended
   by_inverse {m} k e v q =
       q ∙ ap (λ (i : Inverse). descended_by i s round from c) (sym (ap (answer m) v) ∙ e ∙ ap inverse_positive k)
 
-  pub goes_down : {m i : List (List Float)} {r : InversePositive} {det : Float} {step : NewtonStep} {z : Onward} → m ≡ curvature s.precision c.information → answer m r ≡ inverse_positive m → r ≡ Exists det → i ≡ inverse m
+  pub goes_down : {m i : List (List Float)} {r : Option Float} {det : Float} {step : NewtonStep} {z : Onward} → m ≡ curvature s.precision c.information → answer m r ≡ inverse_positive m → r ≡ Some det → i ≡ inverse m
       det → step ≡ step_by s c i → z ≡ tried s.eta_bound round from step → z ≡ descended s round from c
   unfolding descended_by answer
   goes_down k e v f g q = by_inverse k e v (q ∙ ap (tried s.eta_bound round from) (g ∙ ap (step_by s c) f))
 
-  pub no_inverse_lem : {m : List (List Float)} {r : InversePositive} → m ≡ curvature s.precision c.information → answer m r ≡ inverse_positive m → r ≡ None → NoInverse ≡ descended s round from c
+  pub no_inverse_lem : {m : List (List Float)} {r : Option Float} → m ≡ curvature s.precision c.information → answer m r ≡ inverse_positive m → r ≡ None → NoInverse ≡ descended s round from c
   unfolding descended_by answer
   no_inverse_lem k e v = by_inverse k e v refl
 

@@ -6,7 +6,7 @@ ghost use Rattle.mode_2d.specs.Rules.{scale, reduced, trial_point, decrease, is_
 ghost use Rattle.mode_2d.specs.Rules.{is_unresolved, is_far, better, between, finish, start, request, advance};
 ghost use Rattle.mode_2d.specs.Turns.{over, beginning, taking, leaving, turn_after, tried, descended, proceeded, gone_on};
 
-use matrix::{InversePositive, Matrix, Pair};
+use matrix::{Matrix, Pair};
 
 // The most evaluations that a search with two effects asks for: the point zero, and from each of six starts
 // the start and 48 rounds of 22 trials. That it holds is proved in `mode_theorems` (specs/Claim2.antt).
@@ -381,11 +381,11 @@ fn descend(s: Settings2, round: u32, from: u32, c: Conditional2) -> Onward
 {
     let curvature = curvature(s.precision, c.information);
     match matrix::inverse_positive(curvature) {
-        InversePositive::Exists(det) => {
+        Some(det) => {
             let step = step_by(s, c, matrix::inverse(curvature, det));
             try_from(s.eta_bound, round, from, step)
         }
-        InversePositive::None => Onward::NoInverse,
+        None => Onward::NoInverse,
     }
 }
 

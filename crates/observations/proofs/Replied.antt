@@ -5,9 +5,7 @@ use mathlib.Core.List.{List}
 use Prim.Native.Nat.{ℕ}
 use lib.ListN.{length}
 use Rattle.likelihood.specs.declared.population_focei.Observation.{Observation}
-use Rattle.subject.specs.Subject.{Evaluating, evaluating}
-use Rattle.subject.specs.declared.Check.{Check}
-use Rattle.subject.specs.declared.Evaluation.{Evaluation}
+use Rattle.subject.specs.Subject.{Evaluating, evaluating, Evaluation}
 use Rattle.setup.specs.declared.Lent.{Lent}
 use Rattle.setup.specs.declared.Setup.{Setup}
 use Rattle.search.specs.declared.Tally.{Tally}
@@ -17,6 +15,7 @@ use Rattle.state_words.specs.SessionWords.{loaded_state}
 use Rattle.host_calls.specs.Hosting.{Out, finish_with}
 use Rattle.host_calls.specs.SubjectReplies.{admit_for}
 use Rattle.observations.specs.Lending.{evaluate_over, replied_over}
+use Rattle.subject.specs.Observations.{Check}
 
 -- a is what was found of the reply, e and w its evaluation with the work words; the state's words are as they were
 module _ (alone : Bool) (setup : Setup) (counts : List ℕ) (observations : List Observation) (check : Check) (tally : Tally)

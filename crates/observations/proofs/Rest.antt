@@ -4,9 +4,8 @@ use Rattle.std.proofs.Math.Seq.{drop-cons}
 use Rattle.words.specs.Words.{smaller}
 use Rattle.words.proofs.Runs.{len_part, one_more}
 use Rattle.likelihood.specs.declared.population_focei.Observation.{Observation}
-use Rattle.subject.specs.Observations.{no_observation, observation_at, check_observation, check_observations}
+use Rattle.subject.specs.Observations.{no_observation, observation_at, check_observation, check_observations, Check}
 use Rattle.subject.specs.Subject.{Evaluating, add_observation, add_observations}
-use Rattle.subject.specs.declared.Check.{Check}
 use Rattle.subject.specs.declared.Trial.{Trial}
 
 module _ {A : Type 0} where

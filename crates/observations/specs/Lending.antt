@@ -3,13 +3,13 @@ use Rattle.std.specs.Prelude.{Bool, List, ℕ, ◌-◌, length, take, drop}
 use Rattle.likelihood.specs.declared.population_focei.Observation.{Observation}
 use Rattle.subject.specs.Subject.{Evaluating, evaluating, add_observations}
 use Rattle.session.specs.declared.Admitted.{Admitted}
-use Rattle.subject.specs.declared.Check.{Check}
 use Rattle.setup.specs.declared.Setup.{Setup}
 use Rattle.search.specs.declared.Tally.{Tally}
 use Rattle.session.specs.Calls.{lent_by}
 use Rattle.state_words.specs.SessionWords.{loaded_state}
 use Rattle.host_calls.specs.Hosting.{Out, finish_with}
 use Rattle.host_calls.specs.SubjectReplies.{admit_for}
+use Rattle.subject.specs.Observations.{Check}
 
 -- the evaluation of a reply, with the work words that it has written
 abbrev pub evaluate_over : List Observation → Admitted → List ℕ → List ℕ → Evaluating

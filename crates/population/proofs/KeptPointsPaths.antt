@@ -1,4 +1,5 @@
 -- The ways through the code: one law for each, over plain variables. Assumes nothing.
+use Rattle.std.specs.Prelude.{None, Option, Some}
 use Rattle.std.proofs.Common.{◌≡◌, ℕ, zero, suc, ◌-◌, ◌≤◌, Bool, true, false, List, sym, refl, ap, ◌∙◌, subst, sub-one, arith, eq-eqb, ne_eqb}
 use Rattle.float64.specs.Pick.{yes, no, pick_yes, pick_no}
 use Rattle.matrix.specs.declared.Pair.{Pair}
@@ -15,8 +16,6 @@ use Rattle.work.specs.Work.{block, move_rows}
 use Rattle.work.specs.declared.Sources.{Sources}
 use Rattle.cache.specs.Cache.{Cache, find, terms_of, copied}
 use Rattle.cache.specs.declared.CacheKey.{CacheKey}
-use Rattle.cache.specs.declared.Found.{Found}
-use Rattle.cache.specs.declared.Found.TheVariants as F
 use Rattle.search.specs.Subjects as B
 use Rattle.search.specs.declared.Advanced.{Advanced}
 use Rattle.search.specs.declared.Fit.{Fit}
@@ -28,11 +27,10 @@ use Rattle.search.specs.declared.Wanted.TheVariants as Wants
 use Rattle.search.proofs.PointsPaths.{wanted_one, wanted_two, advance_one, advance_two}
 use Rattle.population.specs.Population.{Worked, worked, take}
 use Rattle.population.specs.Through.{is_over, eta_of, kept_in, kept_at, found_unless, kept_point, recalled, as_with, taken, taken1, taken2, reached, passed, through, through_from, reached1, reached2}
-use Rattle.population.specs.declared.kept_points.InHand.{InHand}
-use Rattle.population.specs.declared.kept_points.InHand.TheVariants as Hand
 use Rattle.population.specs.declared.kept_points.Reached.{Reached}
 use Rattle.population.specs.declared.kept_points.Reached1.{Reached1}
 use Rattle.population.specs.declared.kept_points.Reached2.{Reached2}
+use Rattle.population.specs.declared.kept_points.Evaluated.{Evaluated}
 
 -- ---- what is wanted: x, which is the variant v
 pub over_at : (n : ℕ) {x v : Wanted} {b : Bool} → x ≡ v → b ≡ is_over n v → b ≡ is_over n x
@@ -41,27 +39,27 @@ over_at n e q = q ∙ ap (is_over n) (sym e)
 pub eta_at : {x v : Wanted} {p : Pair} → x ≡ v → p ≡ eta_of v → p ≡ eta_of x
 eta_at e q = q ∙ ap eta_of (sym e)
 
-IsNone : Found → Type 0
-IsNone F.Nothing = Unit {0}
-IsNone (F.At slot) = ⊥
+IsNone : Option ℕ → Type 0
+IsNone None = Unit {0}
+IsNone (Some slot) = ⊥
 
-none_is_none : {slot : ℕ} → F.Nothing ≡ F.At slot → ⊥
+none_is_none : {slot : ℕ} → None ≡ Some slot → ⊥
 unfolding IsNone
 none_is_none e = subst IsNone e tt
 
 -- what is found of a point: over is whether it is over
 module _ (fit : Fit) (subject : ℕ) (kept : Cache) where
-  pub none_over : {over : Bool} (eta : Pair) → over ≡ true → F.Nothing ≡ found_unless over fit subject kept eta
+  pub none_over : {over : Bool} (eta : Pair) → over ≡ true → None ≡ found_unless over fit subject kept eta
   unfolding found_unless
   none_over eta t = yes _ t refl
 
-  pub found_by : {over : Bool} {key : CacheKey} {f : Found} (eta : Pair) → over ≡ false → key ≡ B.key_of fit subject eta → f ≡ find kept.words fit.k kept.order key → f ≡ found_unless over fit
+  pub found_by : {over : Bool} {key : CacheKey} {f : Option ℕ} (eta : Pair) → over ≡ false → key ≡ B.key_of fit subject eta → f ≡ find kept.words fit.k kept.order key → f ≡ found_unless over fit
       subject kept eta
   unfolding found_unless
   found_by eta t ek ef = no _ t (ef ∙ ap (find kept.words fit.k kept.order) ek)
 
   -- with no request left it is over; with one, what is found says whether the point that is wanted is kept
-  none_left : (x : Wanted) → found_unless (is_over 0 x) fit subject kept (eta_of x) ≡ F.Nothing
+  none_left : (x : Wanted) → found_unless (is_over 0 x) fit subject kept (eta_of x) ≡ None
   unfolding found_unless is_over
   none_left (Wants.Point eta) = pick_yes _ _ _ refl
   none_left Wants.Mode = pick_yes _ _ _ refl
@@ -74,33 +72,33 @@ module _ (fit : Fit) (subject : ℕ) (kept : Cache) where
   found_is_kept n (Wants.Refused number) = ap (kept_at (eta_of (Wants.Refused number))) (pick_yes _ _ _ refl)
 
   -- a request is left where something is found
-  pub one_left : (n : ℕ) (x : Wanted) {over : Bool} {eta : Pair} {f : Found} {slot : ℕ} → over ≡ is_over n x → eta ≡ eta_of x → f ≡ found_unless over fit subject kept eta → f ≡ F.At slot → 1 ≤ n
+  pub one_left : (n : ℕ) (x : Wanted) {over : Bool} {eta : Pair} {f : Option ℕ} {slot : ℕ} → over ≡ is_over n x → eta ≡ eta_of x → f ≡ found_unless over fit subject kept eta → f ≡ Some slot → 1 ≤ n
   one_left zero x eo ee ef t = absurd (none_is_none (sym (none_left x) ∙ (λ i. found_unless (sym eo i) fit subject kept (sym ee i)) ∙ sym ef ∙ t))
   one_left (suc n) x eo ee ef t = omega arith
 
 -- ---- what is in hand: y is the search afterwards, w the work words
-pub nothing_taken_one : (fit : Fit) (s : Settings) (rows : ℕ) (x : Search) (work : List ℕ) {hand : InHand} → hand ≡ Hand.Nothing → worked x work ≡ taken1 fit s rows hand x work
+pub nothing_taken_one : (fit : Fit) (s : Settings) (rows : ℕ) (x : Search) (work : List ℕ) {hand : Option Evaluated} → hand ≡ None → worked x work ≡ taken1 fit s rows hand x work
 unfolding taken1
-nothing_taken_one fit s rows x work t = ap (λ (h : InHand). taken1 fit s rows h x work) (sym t)
+nothing_taken_one fit s rows x work t = ap (λ (h : Option Evaluated). taken1 fit s rows h x work) (sym t)
 
-pub takes_one : (fit : Fit) (s : Settings) (rows : ℕ) (x : Search) (work : List ℕ) {hand : InHand} {eta : Pair} {sums : Sums} {c : Conditional} {sources : Sources} {y : Search} {w : List ℕ} → hand ≡
-    Hand.Evaluated eta sums → c ≡ B.conditional1 fit eta sums → sources ≡ B.sources1 x c → w ≡ move_rows rows sources work → y ≡ advance s x c → worked y w ≡ taken1 fit s rows hand x work
+pub takes_one : (fit : Fit) (s : Settings) (rows : ℕ) (x : Search) (work : List ℕ) {hand : Option Evaluated} {eta : Pair} {sums : Sums} {c : Conditional} {sources : Sources} {y : Search} {w : List ℕ} → hand ≡
+    Some (record { eta = eta; sums = sums }) → c ≡ B.conditional1 fit eta sums → sources ≡ B.sources1 x c → w ≡ move_rows rows sources work → y ≡ advance s x c → worked y w ≡ taken1 fit s rows hand x work
 unfolding taken1
 takes_one fit s rows x work t ec es ew ey =
     (λ i. worked ((ey ∙ ap (advance s x) ec) i) ((ew ∙ ap (λ (z : Sources). move_rows rows z work) (es ∙ ap (B.sources1 x) ec)) i))
-    ∙ ap (λ (h : InHand). taken1 fit s rows h x work) (sym t)
+    ∙ ap (λ (h : Option Evaluated). taken1 fit s rows h x work) (sym t)
 
-pub nothing_taken_two : (s : Settings2) (rows : ℕ) (x : Search2) (work : List ℕ) {hand : InHand} → hand ≡ Hand.Nothing → worked x work ≡ taken2 s rows hand x work
+pub nothing_taken_two : (s : Settings2) (rows : ℕ) (x : Search2) (work : List ℕ) {hand : Option Evaluated} → hand ≡ None → worked x work ≡ taken2 s rows hand x work
 unfolding taken2
-nothing_taken_two s rows x work t = ap (λ (h : InHand). taken2 s rows h x work) (sym t)
+nothing_taken_two s rows x work t = ap (λ (h : Option Evaluated). taken2 s rows h x work) (sym t)
 
-pub takes_two : (s : Settings2) (rows : ℕ) (x : Search2) (work : List ℕ) {hand : InHand} {eta : Pair} {sums : Sums} {c : Conditional2} {y : Search2} {sources : Sources} {w : List ℕ} → hand ≡
-    Hand.Evaluated eta sums → c ≡ B.conditional2 eta sums → y ≡ R2.advance s x c → sources ≡ B.sources2 s x y c → w ≡ move_rows rows sources work → worked y w ≡ taken2 s rows hand x work
+pub takes_two : (s : Settings2) (rows : ℕ) (x : Search2) (work : List ℕ) {hand : Option Evaluated} {eta : Pair} {sums : Sums} {c : Conditional2} {y : Search2} {sources : Sources} {w : List ℕ} → hand ≡
+    Some (record { eta = eta; sums = sums }) → c ≡ B.conditional2 eta sums → y ≡ R2.advance s x c → sources ≡ B.sources2 s x y c → w ≡ move_rows rows sources work → worked y w ≡ taken2 s rows hand x work
 unfolding taken2
 takes_two s rows x work {eta = eta} {sums = sums} {c = c} t ec ey es ew =
     (λ i. worked (ey i) ((ew ∙ ap (λ (z : Sources). move_rows rows z work) (es ∙ ap (λ (y : Search2). B.sources2 s x y c) ey)) i))
     ∙ ap (λ (c : Conditional2). worked (R2.advance s x c) (move_rows rows (B.sources2 s x (R2.advance s x c) c) work)) ec
-    ∙ ap (λ (h : InHand). taken2 s rows h x work) (sym t)
+    ∙ ap (λ (h : Option Evaluated). taken2 s rows h x work) (sym t)
 
 -- ---- either search, as that of the objective
 same_take : (fit : Fit) (rows : ℕ) (progress : Progress) (eta : Pair) (sums : Sums) (work : List ℕ) {a : Advanced} → a ≡ B.advance_by fit progress eta sums → worked a.progress
@@ -112,12 +110,12 @@ module _ (fit : Fit) (rows : ℕ) (progress : Progress) (effects : fit.effects �
   abbrev with_one : Search → Progress
   with_one x = B.with_search progress (One x)
 
-  one_by : (hand : InHand) (x : Search) (work : List ℕ) → worked (with_one (taken1 fit s rows hand x work).value) (taken1 fit s rows hand x work).work ≡ taken fit rows hand (with_one x) work
+  one_by : (hand : Option Evaluated) (x : Search) (work : List ℕ) → worked (with_one (taken1 fit s rows hand x work).value) (taken1 fit s rows hand x work).work ≡ taken fit rows hand (with_one x) work
   unfolding taken taken1 as_with B.with_search B.settings
-  one_by Hand.Nothing x work = ap (λ (y : SubjectSearch). worked (B.with_search progress y) work) (sym (pick_no _ _ _ (ne_eqb _ _ effects)))
-  one_by (Hand.Evaluated eta sums) x work = same_take fit rows (with_one x) eta sums work (advance_one fit (with_one x) eta sums effects es refl refl refl refl)
+  one_by None x work = ap (λ (y : SubjectSearch). worked (B.with_search progress y) work) (sym (pick_no _ _ _ (ne_eqb _ _ effects)))
+  one_by (Some e) x work = same_take fit rows (with_one x) e.eta e.sums work (advance_one fit (with_one x) e.eta e.sums effects es refl refl refl refl)
 
-  pub one_taken : (hand : InHand) (x : Search) (work : List ℕ) {y : Search} {w : List ℕ} → worked y w ≡ taken1 fit s rows hand x work → worked (with_one y) w ≡ taken fit rows hand (with_one x) work
+  pub one_taken : (hand : Option Evaluated) (x : Search) (work : List ℕ) {y : Search} {w : List ℕ} → worked y w ≡ taken1 fit s rows hand x work → worked (with_one y) w ≡ taken fit rows hand (with_one x) work
   one_taken hand x work e = ap (λ (t : Worked Search). worked (with_one t.value) t.work) e ∙ one_by hand x work
 
   pub one_wanted : (y : Search) {wanted : Wanted} → wanted ≡ B.wanted1 s y → wanted ≡ B.wanted_by fit (with_one y)
@@ -128,12 +126,12 @@ module _ (fit : Fit) (rows : ℕ) (progress : Progress) (effects : fit.effects �
   abbrev with_two : Search2 → Progress
   with_two x = B.with_search progress (Two x)
 
-  two_by : (hand : InHand) (x : Search2) (work : List ℕ) → worked (with_two (taken2 s rows hand x work).value) (taken2 s rows hand x work).work ≡ taken fit rows hand (with_two x) work
+  two_by : (hand : Option Evaluated) (x : Search2) (work : List ℕ) → worked (with_two (taken2 s rows hand x work).value) (taken2 s rows hand x work).work ≡ taken fit rows hand (with_two x) work
   unfolding taken taken2 as_with B.with_search B.settings2
-  two_by Hand.Nothing x work = ap (λ (y : SubjectSearch). worked (B.with_search progress y) work) (sym (pick_yes _ _ _ (eq-eqb _ _ effects)))
-  two_by (Hand.Evaluated eta sums) x work = same_take fit rows (with_two x) eta sums work (advance_two fit (with_two x) eta sums effects es refl refl refl refl)
+  two_by None x work = ap (λ (y : SubjectSearch). worked (B.with_search progress y) work) (sym (pick_yes _ _ _ (eq-eqb _ _ effects)))
+  two_by (Some e) x work = same_take fit rows (with_two x) e.eta e.sums work (advance_two fit (with_two x) e.eta e.sums effects es refl refl refl refl)
 
-  pub two_taken : (hand : InHand) (x : Search2) (work : List ℕ) {y : Search2} {w : List ℕ} → worked y w ≡ taken2 s rows hand x work → worked (with_two y) w ≡ taken fit rows hand (with_two x) work
+  pub two_taken : (hand : Option Evaluated) (x : Search2) (work : List ℕ) {y : Search2} {w : List ℕ} → worked y w ≡ taken2 s rows hand x work → worked (with_two y) w ≡ taken fit rows hand (with_two x) work
   two_taken hand x work e = ap (λ (t : Worked Search2). worked (with_two t.value) t.work) e ∙ two_by hand x work
 
   pub two_wanted : (y : Search2) {wanted : Wanted} → wanted ≡ B.wanted2 s y → wanted ≡ B.wanted_by fit (with_two y)
@@ -141,7 +139,7 @@ module _ (fit : Fit) (rows : ℕ) (progress : Progress) (effects : fit.effects �
   two_wanted y e = wanted_two fit (with_two y) effects es refl e
 
 -- ---- the loop, with n requests left: p is the objective and w the work words with what was in hand
-module _ (fit : Fit) (rows : ℕ) (kept : Cache) (n : ℕ) (hand : InHand) (progress : Progress) (work : List ℕ) {p : Progress} {w : List ℕ} {wanted : Wanted}
+module _ (fit : Fit) (rows : ℕ) (kept : Cache) (n : ℕ) (hand : Option Evaluated) (progress : Progress) (work : List ℕ) {p : Progress} {w : List ℕ} {wanted : Wanted}
     (et : worked p w ≡ taken fit rows hand progress work) (ew : wanted ≡ B.wanted_by fit p) where
   abbrev Goes : Worked Reached → Type 0
   Goes z = z ≡ through_from fit rows kept n hand progress work
@@ -153,8 +151,8 @@ module _ (fit : Fit) (rows : ℕ) (kept : Cache) (n : ℕ) (hand : InHand) (prog
   told : worked (record { progress = p; left = n; wanted = wanted }) w ≡ worked (reached fit p n) w
   told = ap (λ (x : Wanted). worked (record { progress = p; left = n; wanted = x }) w) ew
 
-  module _ {over : Bool} {eta : Pair} {f : Found} (eo : over ≡ is_over n wanted) (ee : eta ≡ eta_of wanted) (ef : f ≡ found_unless over fit p.subject kept eta) where
-    abbrev found_with : ℕ → Found
+  module _ {over : Bool} {eta : Pair} {f : Option ℕ} (eo : over ≡ is_over n wanted) (ee : eta ≡ eta_of wanted) (ef : f ≡ found_unless over fit p.subject kept eta) where
+    abbrev found_with : ℕ → Option ℕ
     found_with m = found_unless (is_over m wanted) fit p.subject kept (eta_of wanted)
 
     found_is : f ≡ found_with n
@@ -165,47 +163,47 @@ module _ (fit : Fit) (rows : ℕ) (kept : Cache) (n : ℕ) (hand : InHand) (prog
     one_more m =
         ap (passed fit rows kept (suc m) p w (λ p w. through fit rows kept m p w)) (found_is_kept fit p.subject kept m wanted ∙ ap (kept_point fit p.subject kept) ew)
 
-    stops_from : (m : ℕ) → found_with m ≡ F.Nothing → worked (reached fit p m) w ≡ through fit rows kept m p w
+    stops_from : (m : ℕ) → found_with m ≡ None → worked (reached fit p m) w ≡ through fit rows kept m p w
     unfolding through passed
     stops_from zero t = refl
-    stops_from (suc m) t = ap (λ (v : Found). passed fit rows kept (suc m) p w (λ p w. through fit rows kept m p w) (kept_at (eta_of wanted) v)) (sym t) ∙ one_more m
+    stops_from (suc m) t = ap (λ (v : Option ℕ). passed fit rows kept (suc m) p w (λ p w. through fit rows kept m p w) (kept_at (eta_of wanted) v)) (sym t) ∙ one_more m
 
-    goes_from : (m slot : ℕ) → found_with m ≡ F.At slot → passed fit rows kept m p w (λ p w. through fit rows kept (m - 1) p w) (kept_in (eta_of wanted) slot) ≡ through fit rows kept m p w
+    goes_from : (m slot : ℕ) → found_with m ≡ Some slot → passed fit rows kept m p w (λ p w. through fit rows kept (m - 1) p w) (kept_in (eta_of wanted) slot) ≡ through fit rows kept m p w
     goes_from zero slot t = absurd (none_is_none (sym (none_left fit p.subject kept wanted) ∙ t))
     goes_from (suc m) slot t =
         rw sub-one
-        (ap (λ (v : Found). passed fit rows kept (suc m) p w (λ p w. through fit rows kept m p w) (kept_at (eta_of wanted) v)) (sym t) ∙ one_more m)
+        (ap (λ (v : Option ℕ). passed fit rows kept (suc m) p w (λ p w. through fit rows kept m p w) (kept_at (eta_of wanted) v)) (sym t) ∙ one_more m)
 
-    pub stops : f ≡ F.Nothing → Goes (worked (record { progress = p; left = n; wanted = wanted }) w)
+    pub stops : f ≡ None → Goes (worked (record { progress = p; left = n; wanted = wanted }) w)
     stops t = from_taken (told ∙ stops_from n (sym found_is ∙ t))
 
     -- the kept sums are in hand then
-    pub goes_on : {slot : ℕ} {sums : Sums} {v : List ℕ} → f ≡ F.At slot → v ≡ copied kept.words fit.k slot rows w (block rows 3) → sums ≡ B.sums_of (terms_of kept.words fit.k slot) →
-        through_from fit rows kept (n - 1) (Hand.Evaluated eta sums) p v ≡ through_from fit rows kept n hand progress work
+    pub goes_on : {slot : ℕ} {sums : Sums} {v : List ℕ} → f ≡ Some slot → v ≡ copied kept.words fit.k slot rows w (block rows 3) → sums ≡ B.sums_of (terms_of kept.words fit.k slot) →
+        through_from fit rows kept (n - 1) (Some (record { eta = eta; sums = sums })) p v ≡ through_from fit rows kept n hand progress work
     unfolding passed through_from taken recalled
     goes_on {slot} t ev es =
         from_taken
         ((λ i. through fit rows kept (n - 1) (take fit rows p (ee i) (es i) (ev i)).value (take fit rows p (ee i) (es i) (ev i)).work) ∙ goes_from n slot (sym found_is ∙ t))
 
 -- ---- the loop begins with the search of the objective: x is what `one_of` or `two_of` answered
-module _ (fit : Fit) (rows : ℕ) (kept : Cache) (n : ℕ) (hand : InHand) (progress : Progress) (work : List ℕ) where
+module _ (fit : Fit) (rows : ℕ) (kept : Cache) (n : ℕ) (hand : Option Evaluated) (progress : Progress) (work : List ℕ) where
   abbrev advances : Advanced → Worked Progress
   advances a = worked a.progress (move_rows rows a.sources work)
 
-  from_search : (x : SubjectSearch) → ((h : InHand) → taken fit rows h (B.with_search progress x) work ≡ taken fit rows h progress work)
+  from_search : (x : SubjectSearch) → ((h : Option Evaluated) → taken fit rows h (B.with_search progress x) work ≡ taken fit rows h progress work)
       → through_from fit rows kept n hand (B.with_search progress x) work ≡ through_from fit rows kept n hand progress work
   unfolding through_from
   from_search x q = ap (λ (t : Worked Progress). through fit rows kept n t.value t.work) (q hand)
 
-  taken_one : (fit.effects ≡ 2 → ⊥) → (h : InHand) → taken fit rows h (B.with_search progress (One (B.one_of progress.search))) work ≡ taken fit rows h progress work
+  taken_one : (fit.effects ≡ 2 → ⊥) → (h : Option Evaluated) → taken fit rows h (B.with_search progress (One (B.one_of progress.search))) work ≡ taken fit rows h progress work
   unfolding taken take as_with B.advance_by B.advance1 B.settings B.with_search
-  taken_one e Hand.Nothing = let f = ne_eqb _ _ e in ap (λ (x : SubjectSearch). worked (B.with_search progress x) work) (pick_no _ _ _ f ∙ sym (pick_no _ _ _ f))
-  taken_one e (Hand.Evaluated eta sums) = let f = ne_eqb _ _ e in ap advances (pick_no _ _ _ f ∙ sym (pick_no _ _ _ f))
+  taken_one e None = let f = ne_eqb _ _ e in ap (λ (x : SubjectSearch). worked (B.with_search progress x) work) (pick_no _ _ _ f ∙ sym (pick_no _ _ _ f))
+  taken_one e (Some h) = let f = ne_eqb _ _ e in ap advances (pick_no _ _ _ f ∙ sym (pick_no _ _ _ f))
 
-  taken_two : fit.effects ≡ 2 → (h : InHand) → taken fit rows h (B.with_search progress (Two (B.two_of progress.search))) work ≡ taken fit rows h progress work
+  taken_two : fit.effects ≡ 2 → (h : Option Evaluated) → taken fit rows h (B.with_search progress (Two (B.two_of progress.search))) work ≡ taken fit rows h progress work
   unfolding taken take as_with B.advance_by B.advance2 B.settings2 B.with_search
-  taken_two e Hand.Nothing = let f = eq-eqb _ _ e in ap (λ (x : SubjectSearch). worked (B.with_search progress x) work) (pick_yes _ _ _ f ∙ sym (pick_yes _ _ _ f))
-  taken_two e (Hand.Evaluated eta sums) = let f = eq-eqb _ _ e in ap advances (pick_yes _ _ _ f ∙ sym (pick_yes _ _ _ f))
+  taken_two e None = let f = eq-eqb _ _ e in ap (λ (x : SubjectSearch). worked (B.with_search progress x) work) (pick_yes _ _ _ f ∙ sym (pick_yes _ _ _ f))
+  taken_two e (Some h) = let f = eq-eqb _ _ e in ap advances (pick_yes _ _ _ f ∙ sym (pick_yes _ _ _ f))
 
   pub from_one : {x : Search} → (fit.effects ≡ 2 → ⊥) → x ≡ B.one_of progress.search
       → through_from fit rows kept n hand (B.with_search progress (One x)) work ≡ through_from fit rows kept n hand progress work
@@ -216,13 +214,13 @@ module _ (fit : Fit) (rows : ℕ) (kept : Cache) (n : ℕ) (hand : InHand) (prog
   from_two e ex = ap (λ (x : Search2). through_from fit rows kept n hand (B.with_search progress (Two x)) work) ex ∙ from_search (Two (B.two_of progress.search)) (taken_two e)
 
 -- ---- either; p is what `with_search` made
-pub reaches_one : (fit : Fit) (rows : ℕ) (kept : Cache) (n : ℕ) (hand : InHand) (progress : Progress) (work : List ℕ) {m : ℕ} (r : Reached1) {p : Progress} {w : List ℕ} → rows ≡ m → worked
+pub reaches_one : (fit : Fit) (rows : ℕ) (kept : Cache) (n : ℕ) (hand : Option Evaluated) (progress : Progress) (work : List ℕ) {m : ℕ} (r : Reached1) {p : Progress} {w : List ℕ} → rows ≡ m → worked
     (reached1 progress r) w ≡ through_from fit rows kept n hand progress work → p ≡ B.with_search progress (One r.search) → worked
     (record { progress = p; left = r.left; wanted = r.wanted }) w ≡ through_from fit m kept n hand progress work
 reaches_one fit rows kept n hand progress work r {w = w} er q ep =
     ap (λ (p : Progress). worked (record { progress = p; left = r.left; wanted = r.wanted }) w) ep ∙ q ∙ ap (λ (m : ℕ). through_from fit m kept n hand progress work) er
 
-pub reaches_two : (fit : Fit) (rows : ℕ) (kept : Cache) (n : ℕ) (hand : InHand) (progress : Progress) (work : List ℕ) {m : ℕ} (r : Reached2) {p : Progress} {w : List ℕ} → rows ≡ m → worked
+pub reaches_two : (fit : Fit) (rows : ℕ) (kept : Cache) (n : ℕ) (hand : Option Evaluated) (progress : Progress) (work : List ℕ) {m : ℕ} (r : Reached2) {p : Progress} {w : List ℕ} → rows ≡ m → worked
     (reached2 progress r) w ≡ through_from fit rows kept n hand progress work → p ≡ B.with_search progress (Two r.search) → worked
     (record { progress = p; left = r.left; wanted = r.wanted }) w ≡ through_from fit m kept n hand progress work
 reaches_two fit rows kept n hand progress work r {w = w} er q ep =

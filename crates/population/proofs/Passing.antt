@@ -1,12 +1,11 @@
 -- A kept evaluation is a turn that goes on: so the loop from where a search has come to through kept evaluations is the loop from where it was. Assumes nothing.
+use Rattle.std.specs.Prelude.{None, Option, Some}
 use Rattle.std.proofs.Common.{◌≡◌, ℕ, zero, suc, ◌≤◌, eqb, List, sym, refl, ap, ◌∙◌, subst, sub-one, arith}
 use Rattle.float64.specs.Pick.{pick, both}
 use Rattle.matrix.specs.declared.Pair.{Pair}
 use Rattle.subject.specs.declared.Sums.{Sums}
 use Rattle.work.specs.Work.{block}
 use Rattle.cache.specs.Cache.{Cache, find}
-use Rattle.cache.specs.declared.Found.{Found}
-use Rattle.cache.specs.declared.Found.TheVariants as F
 use Rattle.machine.specs.Machine.{Moved, on, Ran, loop}
 use Rattle.search.specs.Subjects as B
 use Rattle.search.specs.declared.Advanced.{Advanced}
@@ -18,23 +17,22 @@ use Rattle.search.specs.declared.Wanted.{Wanted}
 use Rattle.search.specs.declared.Wanted.TheVariants as Wants
 use Rattle.population.specs.Kept.{recall_at, words}
 use Rattle.population.specs.Population.{rows_of, Worked, take, answered, at_point, Ended, ended, served_by, served, is_over, turned, Whole, moved, turn, spent, whole}
-use Rattle.population.specs.declared.Turned.TheVariants.{On}
 use Rattle.population.specs.Through.{KeptPoint, kept_in, not_kept, kept_at, kept_point, recalled, taken, passed, through, through_from}
-use Rattle.population.specs.declared.kept_points.InHand.{InHand}
-use Rattle.population.specs.declared.kept_points.InHand.TheVariants as Hand
 use Rattle.population.specs.declared.kept_points.Reached.{Reached}
 use Rattle.population.specs.Steps.{whole_from, unkept, cleared}
 use Rattle.population.proofs.Loops.{loop_on}
+use Rattle.population.specs.declared.kept_points.Evaluated.{Evaluated}
+use Rattle.core.specs.declared.ops.ControlFlow.TheVariants.{Continue}
 
 -- ---- the subject stays the same
 take_subject : (fit : Fit) (rows : ℕ) (p : Progress) (eta : Pair) (sums : Sums) (work : List ℕ) → p.subject ≡ (take fit rows p eta sums work).value.subject
 unfolding take B.advance_by B.advance1 B.advance2 B.with_search
 take_subject fit rows p eta sums work = both (λ (a : Advanced). p.subject ≡ a.progress.subject) (eqb fit.effects 2) refl refl
 
-taken_subject : (fit : Fit) (rows : ℕ) (hand : InHand) (p : Progress) (work : List ℕ) → p.subject ≡ (taken fit rows hand p work).value.subject
+taken_subject : (fit : Fit) (rows : ℕ) (hand : Option Evaluated) (p : Progress) (work : List ℕ) → p.subject ≡ (taken fit rows hand p work).value.subject
 unfolding taken B.with_search
-taken_subject fit rows Hand.Nothing p work = refl
-taken_subject fit rows (Hand.Evaluated eta sums) p work = take_subject fit rows p eta sums work
+taken_subject fit rows None p work = refl
+taken_subject fit rows (Some e) p work = take_subject fit rows p e.eta e.sums work
 
 -- ---- a request, by whether its point is kept; x is what is wanted
 abbrev next : Fit → ℕ → Cache → Progress → List ℕ → Pair → ℕ → Worked Progress
@@ -48,21 +46,21 @@ module _ (fit : Fit) (counts : List ℕ) (tally : Tally) (kept : Cache) (p : Pro
 
   Serves : Wanted → KeptPoint → Type 0
   Serves x (kept_in eta slot) =
-      ended (On (next fit rows kept p work eta slot).value) (next fit rows kept p work eta slot).work warm results ≡ served_by words fit counts p tally kept work warm results x
+      ended (Continue (next fit rows kept p work eta slot).value) (next fit rows kept p work eta slot).work warm results ≡ served_by words fit counts p tally kept work warm results x
   Serves x not_kept = unkept fit counts p tally work warm results x ≡ served_by words fit counts p tally kept work warm results x
 
-  FoundServes : Pair → Found → Type 0
+  FoundServes : Pair → Option ℕ → Type 0
   FoundServes eta f = find kept.words fit.k kept.order (B.key_of fit p.subject eta) ≡ f → Serves (Wants.Point eta) (kept_at eta f)
 
-  answered_by : Pair → Found → Ended
+  answered_by : Pair → Option ℕ → Ended
   answered_by eta f =
       let a = answered fit rows p tally eta work (recall_at kept.words fit.k rows work (block rows 3) f) in
       ended a.value a.work warm results
 
-  found_serves : (eta : Pair) (f : Found) → FoundServes eta f
+  found_serves : (eta : Pair) (f : Option ℕ) → FoundServes eta f
   unfolding FoundServes Serves answered_by served_by at_point answered recall_at recalled unkept
-  found_serves eta (F.At slot) e = ap (answered_by eta) (sym e)
-  found_serves eta F.Nothing e = ap (answered_by eta) (sym e)
+  found_serves eta (Some slot) e = ap (answered_by eta) (sym e)
+  found_serves eta None e = ap (answered_by eta) (sym e)
 
   serves : (x : Wanted) → Serves x (kept_point fit p.subject kept x)
   unfolding kept_point FoundServes Serves served_by unkept
@@ -114,7 +112,7 @@ module _ (fit : Fit) (counts : List ℕ) (tally : Tally) (kept : Cache) (warm re
   same (suc n) p w er = same_by n p w (same n) _ refl er
 
 -- z is what `through_kept` answered, with the work words that it left
-pub same_loop : (fit : Fit) (counts : List ℕ) (tally : Tally) (kept : Cache) (warm results : List ℕ) (n : ℕ) (hand : InHand) (p : Progress) (work : List ℕ) {z : Worked Reached} → z ≡ through_from fit
+pub same_loop : (fit : Fit) (counts : List ℕ) (tally : Tally) (kept : Cache) (warm results : List ℕ) (n : ℕ) (hand : Option Evaluated) (p : Progress) (work : List ℕ) {z : Worked Reached} → z ≡ through_from fit
     (rows_of counts p.subject) kept n hand p work
     → loop (turn words fit counts) spent z.value.left (whole z.value.progress tally kept z.work warm results) ≡ loop (turn words fit counts) spent n
     (whole_from fit counts hand p tally kept work warm results)
@@ -147,7 +145,7 @@ module _ (fit : Fit) (kept : Cache) (rows : ℕ) where
   ends zero p w = record { within = omega arith; wants = refl; unkept = λ h. absurd (h refl) }
   ends (suc n) p w = ends_by n p w (ends n) _ refl
 
-pub ends_from : (fit : Fit) (kept : Cache) (rows n : ℕ) (hand : InHand) (p : Progress) (work : List ℕ) {z : Worked Reached} → z ≡ through_from fit rows kept n hand p work → Ends fit kept n z.value
+pub ends_from : (fit : Fit) (kept : Cache) (rows n : ℕ) (hand : Option Evaluated) (p : Progress) (work : List ℕ) {z : Worked Reached} → z ≡ through_from fit rows kept n hand p work → Ends fit kept n z.value
 unfolding through_from
 ends_from fit kept rows n hand p work e =
     let t = taken fit rows hand p work in

@@ -1,4 +1,5 @@
 -- The ways through the code: one law for each, over plain variables. Assumes nothing.
+use Rattle.std.specs.Prelude.{None, Option, Some}
 use Rattle.std.proofs.Common.{◌≡◌, ℕ, ◌+◌, ◌*◌, ◌<◌, ◌≤◌, Bool, true, false, ltb, List, length, get_or, set, sym, refl, ap, ◌∙◌, subst, arith, ltb-true, le-ltb, lt-ltb, eq-eqb, ne_eqb}
 use lib.ListN.{get_or-eq_default}
 use lib.Seq.{set_out}
@@ -15,11 +16,8 @@ use Rattle.search.specs.declared.Progress.{Progress}
 use Rattle.search.specs.declared.Place.TheVariants.{Subject}
 use Rattle.search.specs.declared.Halted.{Halted}
 use Rattle.search.specs.declared.Mode.{Mode}
-use Rattle.search.specs.declared.Closed.{Closed}
-use Rattle.search.specs.declared.Closed.TheVariants.{Positive, NotPositive}
-use Rattle.population.specs.Population.{rows_of, warm_of, warm_stored, worked, raised, next_subject, Ended, ended, closing, at_mode}
-use Rattle.population.specs.declared.Turned.{Turned}
-use Rattle.population.specs.declared.Turned.TheVariants.{On, Halt}
+use Rattle.population.specs.Population.{rows_of, warm_of, warm_stored, worked, raised, next_subject, Ended, ended, closing, at_mode, Turned}
+use Rattle.core.specs.declared.ops.ControlFlow.TheVariants.{Break, Continue}
 
 -- ---- a subject's number of observations; n is the word that was read
 module _ (counts : List ℕ) (subject : ℕ) where
@@ -85,34 +83,34 @@ module _ (fit : Fit) (counts : List ℕ) (progress : Progress) (tally : Tally) (
   squares = progress.eta_squares +ᶠ mode.eta.first *ᶠ mode.eta.first
 
   pub next_begins : {first : ℕ} {start : Pair} {w : List ℕ} {next : Progress} → subject < length counts → first ≡ raised progress.first rows → start ≡ warm_of warm fit.effects subject → w ≡ zeros
-      (length work) → next ≡ B.begin_subject fit.effects subject first start sum squares → worked (On next) w ≡ next_subject fit counts progress tally mode rows warm work
+      (length work) → next ≡ B.begin_subject fit.effects subject first start sum squares → worked (Continue next) w ≡ next_subject fit counts progress tally mode rows warm work
   unfolding next_subject
   next_begins l ef ea ew en =
       yes _ (lt-ltb _ _ (subst (λ (x : ℕ). x < length counts) es l))
-      (λ i. worked (On ((en ∙ (λ j. B.begin_subject fit.effects (es j) (ef j) ((ea ∙ ap (warm_of warm fit.effects) es) j) sum squares)) i)) (ew i))
+      (λ i. worked (Continue ((en ∙ (λ j. B.begin_subject fit.effects (es j) (ef j) ((ea ∙ ap (warm_of warm fit.effects) es) j) sum squares)) i)) (ew i))
 
-  pub none_next : {h : Halted} → length counts ≤ subject → h ≡ B.objective_of progress tally sum squares → worked (Halt h) work ≡ next_subject fit counts progress tally mode rows warm work
+  pub none_next : {h : Halted} → length counts ≤ subject → h ≡ B.objective_of progress tally sum squares → worked (Break h) work ≡ next_subject fit counts progress tally mode rows warm work
   unfolding next_subject
-  none_next l q = no _ (le-ltb _ _ (subst (λ (x : ℕ). length counts ≤ x) es l)) (ap (λ (h : Halted). worked (Halt h) work) q)
+  none_next l q = no _ (le-ltb _ _ (subst (λ (x : ℕ). length counts ≤ x) es l)) (ap (λ (h : Halted). worked (Break h) work) q)
 
 -- ---- a mode; x is what `closed_by` answered
-module _ (fit : Fit) (counts : List ℕ) (progress : Progress) (tally : Tally) (work warm results : List ℕ) {rows : ℕ} {x : Closed} (er : rows ≡ rows_of counts progress.subject)
+module _ (fit : Fit) (counts : List ℕ) (progress : Progress) (tally : Tally) (work warm results : List ℕ) {rows : ℕ} {x : Option Mode} (er : rows ≡ rows_of counts progress.subject)
     (ex : x ≡ B.closed_by fit progress rows) where
-  closed_as : {variant : Closed} {z : Ended} → x ≡ variant → z ≡ closing fit counts progress tally rows work warm results variant → z ≡ at_mode fit counts progress tally work warm results
+  closed_as : {variant : Option Mode} {z : Ended} → x ≡ variant → z ≡ closing fit counts progress tally rows work warm results variant → z ≡ at_mode fit counts progress tally work warm results
   unfolding at_mode
   closed_as t q = q ∙ (λ i. closing fit counts progress tally (er i) work warm results ((sym t ∙ ex ∙ ap (B.closed_by fit progress) er) i))
 
-  pub not_positive : {h : Halted} → x ≡ NotPositive → h ≡ B.refused_by progress tally 16 (Subject progress.subject) → ended (Halt h) work warm results ≡ at_mode fit counts progress tally work warm
+  pub not_positive : {h : Halted} → x ≡ None → h ≡ B.refused_by progress tally 16 (Subject progress.subject) → ended (Break h) work warm results ≡ at_mode fit counts progress tally work warm
       results
   unfolding closing
-  not_positive t q = closed_as t (ap (λ (h : Halted). ended (Halt h) work warm results) q)
+  not_positive t q = closed_as t (ap (λ (h : Halted). ended (Break h) work warm results) q)
 
   -- stored is the warm starts with this one, b what `is_same_grid` answered
-  module _ {mode : Mode} {stored : List ℕ} {b : Bool} (t : x ≡ Positive mode) (es : stored ≡ warm_stored fit.effects progress.subject mode.eta warm) (eb : b ≡ is_same_grid work rows) where
-    pub other_grid : {h : Halted} → b ≡ false → h ≡ B.refused_by progress tally 17 (Subject progress.subject) → ended (Halt h) work stored results ≡ at_mode fit counts progress tally work warm
+  module _ {mode : Mode} {stored : List ℕ} {b : Bool} (t : x ≡ Some mode) (es : stored ≡ warm_stored fit.effects progress.subject mode.eta warm) (eb : b ≡ is_same_grid work rows) where
+    pub other_grid : {h : Halted} → b ≡ false → h ≡ B.refused_by progress tally 17 (Subject progress.subject) → ended (Break h) work stored results ≡ at_mode fit counts progress tally work warm
         results
     unfolding closing
-    other_grid u q = closed_as t (no_of _ eb u (λ i. ended (Halt (q i)) work (es i) results))
+    other_grid u q = closed_as t (no_of _ eb u (λ i. ended (Break (q i)) work (es i) results))
 
     -- r1 and r2 are the results after each store
     pub same_grid : {r1 r2 w : List ℕ} {next : Turned} → b ≡ true → r1 ≡ result_written progress.subject mode.eta mode.nll results → r2 ≡ fitted_written (length counts) progress.first work

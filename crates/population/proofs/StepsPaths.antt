@@ -1,4 +1,5 @@
 -- The ways through the code: one law for each, over plain variables. Assumes nothing.
+use Rattle.std.specs.Prelude.{None, Option, Some}
 use Rattle.std.proofs.Common.{◌≡◌, ℕ, ◌-◌, Bool, true, false, eqb, ltb, List, length, sym, refl, ap, ◌∙◌, subst}
 use lib.Ieee.{Float}
 use Rattle.float64.specs.Pick.{pick, yes_of, no_of, both}
@@ -10,8 +11,6 @@ use Rattle.machine.specs.Machine.{loop}
 use Rattle.mode.specs.declared.population_focei.Search.{Search}
 use Rattle.mode_2d.specs.declared.population_focei_2d.Search2.{Search2}
 use Rattle.search.specs.Subjects as B
-use Rattle.search.specs.declared.Closed.{Closed}
-use Rattle.search.specs.declared.Closed.TheVariants.{Positive, NotPositive}
 use Rattle.search.specs.declared.Tally.{Tally}
 use Rattle.search.specs.declared.Fit.{Fit}
 use Rattle.search.specs.declared.Mode.{Mode}
@@ -22,42 +21,40 @@ use Rattle.search.specs.declared.Halted.{Halted}
 use Rattle.search.specs.declared.Wanted.{Wanted}
 use Rattle.search.specs.declared.Wanted.TheVariants as Wants
 use Rattle.population.specs.Kept.{words}
-use Rattle.population.specs.Population.{rows_of, Worked, worked, next_subject, Ended, ended, closing, at_mode, is_over, moved, turn, spent, whole, ran, raised}
-use Rattle.population.specs.declared.Turned.{Turned}
-use Rattle.population.specs.declared.Turned.TheVariants.{On, Halt}
+use Rattle.population.specs.Population.{rows_of, Worked, worked, next_subject, Ended, ended, closing, at_mode, is_over, moved, turn, spent, whole, ran, raised, Turned}
 use Rattle.population.specs.Through.{as_with, through_from, taken}
-use Rattle.population.specs.declared.kept_points.InHand.{InHand}
-use Rattle.population.specs.declared.kept_points.InHand.TheVariants as Hand
 use Rattle.population.specs.declared.kept_points.Reached.{Reached}
 use Rattle.population.specs.Steps.{whole_from, unkept, cleared}
 use Rattle.population.proofs.Loops.{loop_spent, loop_on, loop_halt}
 use Rattle.population.proofs.Passing.{unkept_served, same_loop, ends_from}
+use Rattle.core.specs.declared.ops.ControlFlow.TheVariants.{Break, Continue}
+use Rattle.population.specs.declared.kept_points.Evaluated.{Evaluated}
 
 -- ---- a request that no kept evaluation answers; x is what is wanted
 module _ (fit : Fit) (counts : List ℕ) (progress : Progress) (tally : Tally) (work warm results : List ℕ) {x : Wanted} where
   wanted : {variant : Wanted} {z : Ended} → x ≡ variant → z ≡ unkept fit counts progress tally work warm results variant → z ≡ unkept fit counts progress tally work warm results x
   wanted t q = q ∙ ap (unkept fit counts progress tally work warm results) (sym t)
 
-  pub wants_point : {eta : Pair} {h : Halted} → x ≡ Wants.Point eta → h ≡ B.ask fit progress tally eta → ended (Halt h) work warm results ≡ unkept fit counts progress tally work warm results x
+  pub wants_point : {eta : Pair} {h : Halted} → x ≡ Wants.Point eta → h ≡ B.ask fit progress tally eta → ended (Break h) work warm results ≡ unkept fit counts progress tally work warm results x
   unfolding unkept
-  wants_point t q = wanted t (ap (λ (h : Halted). ended (Halt h) work warm results) q)
+  wants_point t q = wanted t (ap (λ (h : Halted). ended (Break h) work warm results) q)
 
   pub wants_mode : {next : Turned} {w a r : List ℕ} → x ≡ Wants.Mode → ended next w a r ≡ at_mode fit counts progress tally work warm results → ended next w a r ≡ unkept fit counts progress tally work
       warm results x
   unfolding unkept
   wants_mode t q = wanted t q
 
-  pub wants_nothing : {number : ℕ} {h : Halted} → x ≡ Wants.Refused number → h ≡ B.refused_by progress tally number (Subject progress.subject) → ended (Halt h) work warm results ≡ unkept fit counts
+  pub wants_nothing : {number : ℕ} {h : Halted} → x ≡ Wants.Refused number → h ≡ B.refused_by progress tally number (Subject progress.subject) → ended (Break h) work warm results ≡ unkept fit counts
       progress tally work warm results x
   unfolding unkept
-  wants_nothing t q = wanted t (ap (λ (h : Halted). ended (Halt h) work warm results) q)
+  wants_nothing t q = wanted t (ap (λ (h : Halted). ended (Break h) work warm results) q)
 
 -- ---- whether a turn ends the objective
-pub goes_on : {t : Turned} {next : Progress} → t ≡ On next → false ≡ is_over t
+pub goes_on : {t : Turned} {next : Progress} → t ≡ Continue next → false ≡ is_over t
 unfolding is_over
 goes_on e = ap is_over (sym e)
 
-pub halts : {t : Turned} {h : Halted} {b : Bool} → t ≡ Halt h → b ≡ B.is_over h.step → b ≡ is_over t
+pub halts : {t : Turned} {h : Halted} {b : Bool} → t ≡ Break h → b ≡ B.is_over h.step → b ≡ is_over t
 unfolding is_over
 halts e q = q ∙ ap is_over (sym e)
 
@@ -91,18 +88,18 @@ begun_own fit effects subject first start ofv squares e =
 -- ---- a turn goes on only where another subject begins, and then no reply is awaited, and the search is one of the objective's
 module _ (fit : Fit) (counts : List ℕ) (progress : Progress) (tally : Tally) (work warm results : List ℕ) where
   Begins : Turned → Type 0
-  Begins (On p) = p ≡ own fit p
-  Begins (Halt h) = Halt h ≡ Halt h
+  Begins (Continue p) = p ≡ own fit p
+  Begins (Break h) = Break h ≡ Break h
 
   next_begins : (mode : Mode) (rows : ℕ) (stored : List ℕ) → Begins (next_subject fit counts progress tally mode rows stored work).value
   unfolding Begins next_subject
   next_begins mode rows stored =
       both (λ (z : Worked Turned). Begins z.value) (ltb (raised progress.subject 1) (length counts)) (begun_own fit _ _ _ _ _ _ refl) refl
 
-  closing_begins : (rows : ℕ) (c : Closed) → Begins (closing fit counts progress tally rows work warm results c).turned
+  closing_begins : (rows : ℕ) (c : Option Mode) → Begins (closing fit counts progress tally rows work warm results c).turned
   unfolding Begins closing
-  closing_begins rows NotPositive = refl
-  closing_begins rows (Positive mode) = both (λ (e : Ended). Begins e.turned) (is_same_grid work rows) (next_begins mode rows _) refl
+  closing_begins rows None = refl
+  closing_begins rows (Some mode) = both (λ (e : Ended). Begins e.turned) (is_same_grid work rows) (next_begins mode rows _) refl
 
   begins : (x : Wanted) → Begins (cleared (unkept fit counts progress tally work warm results x)).turned
   unfolding Begins cleared unkept at_mode
@@ -110,12 +107,12 @@ module _ (fit : Fit) (counts : List ℕ) (progress : Progress) (tally : Tally) (
   begins Wants.Mode = closing_begins (rows_of counts progress.subject) (B.closed_by fit progress (rows_of counts progress.subject))
   begins (Wants.Refused number) = refl
 
-  on_begins : (x : Wanted) {t : Turned} {w a r : List ℕ} {next : Progress} → ended t w a r ≡ cleared (unkept fit counts progress tally work warm results x) → t ≡ On next → next ≡ own fit next
+  on_begins : (x : Wanted) {t : Turned} {w a r : List ℕ} {next : Progress} → ended t w a r ≡ cleared (unkept fit counts progress tally work warm results x) → t ≡ Continue next → next ≡ own fit next
   unfolding Begins
   on_begins x e q = subst Begins (sym (ap (λ (y : Ended). y.turned) e) ∙ q) (begins x)
 
 -- ---- the loop, with n requests left; x is what `through_kept` answered, v the work words that it left
-module _ (fit : Fit) (counts : List ℕ) (hand : InHand) (progress : Progress) (tally : Tally) (kept : Cache) (work warm results : List ℕ) (n : ℕ) (x : Reached) {v : List ℕ}
+module _ (fit : Fit) (counts : List ℕ) (hand : Option Evaluated) (progress : Progress) (tally : Tally) (kept : Cache) (work warm results : List ℕ) (n : ℕ) (x : Reached) {v : List ℕ}
     (ex : worked x v ≡ through_from fit (rows_of counts progress.subject) kept n hand progress work) where
   pub requests_spent : x.left ≡ 0 → ran (record { progress = x.progress; tally = tally; step = spent }) kept v warm results ≡ loop (turn words fit counts) spent n
       (whole_from fit counts hand progress tally kept work warm results)
@@ -130,8 +127,8 @@ module _ (fit : Fit) (counts : List ℕ) (hand : InHand) (progress : Progress) (
         ap (moved words tally kept w a r) (sym q)
         ∙ ap (λ (y : Ended). moved words tally kept y.work y.warm y.results y.turned) (e ∙ unkept_served fit counts tally kept x.progress v warm results ends.wants (ends.unkept h))
 
-    pub requests_on : {next : Progress} → t ≡ On next
-        → loop (turn words fit counts) spent (x.left - 1) (whole_from fit counts Hand.Nothing next tally kept w a r) ≡ loop (turn words fit counts) spent n
+    pub requests_on : {next : Progress} → t ≡ Continue next
+        → loop (turn words fit counts) spent (x.left - 1) (whole_from fit counts None next tally kept w a r) ≡ loop (turn words fit counts) spent n
         (whole_from fit counts hand progress tally kept work warm results)
     unfolding moved taken
     requests_on q =
@@ -139,7 +136,7 @@ module _ (fit : Fit) (counts : List ℕ) (hand : InHand) (progress : Progress) (
         ∙ loop_on (turn words fit counts) spent (whole x.progress tally kept v warm results) x.left (moves q) h
         ∙ same_loop fit counts tally kept warm results n hand progress work ex
 
-    pub requests_halt : {halted : Halted} → t ≡ Halt halted → ran halted kept w a r ≡ loop (turn words fit counts) spent n (whole_from fit counts hand progress tally kept work warm results)
+    pub requests_halt : {halted : Halted} → t ≡ Break halted → ran halted kept w a r ≡ loop (turn words fit counts) spent n (whole_from fit counts hand progress tally kept work warm results)
     unfolding moved
     requests_halt q =
         loop_halt (turn words fit counts) spent (whole x.progress tally kept v warm results) x.left (moves q) h

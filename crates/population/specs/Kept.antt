@@ -1,14 +1,11 @@
 -- What an objective asks of the kept evaluations, and two ways to have it: in lent words, and as the list that they stand for.
-use Rattle.std.specs.Prelude.{ℕ, zero, suc, ◌+◌, ◌-◌, ◌*◌, List, [], length, slice_index, slice_set}
-use Rattle.std.proofs.Math.Option.{Option, none, some}
+use Rattle.std.specs.Prelude.{ℕ, zero, suc, ◌+◌, ◌-◌, ◌*◌, List, [], length, slice_index, slice_set, None, Some, Option}
 use Rattle.cache.specs.Cache.{Cache, find, terms_of, copied, insert, order, row_words, kept_words}
 use Rattle.cache.specs.Kept.{Entry, lookup, cached_rows, appended}
 use Rattle.words.specs.Words.{zeros}
 use Rattle.cache.specs.declared.CacheKey.{CacheKey}
 use Rattle.cache.specs.declared.CacheOrder.{CacheOrder}
 use Rattle.cache.specs.declared.CachedTerms.{CachedTerms}
-use Rattle.cache.specs.declared.Found.{Found}
-use Rattle.cache.specs.declared.Found.TheVariants.{At, Nothing}
 
 -- the terms of a kept evaluation, and the work words with its rows
 pub record Recalled : Type 0 where
@@ -33,9 +30,9 @@ pub record Store : Type 1 where
 abbrev pub cache_of : List ℕ → CacheOrder → Cache
 cache_of words order = record { words = words; order = order }
 
-unfoldable pub recall_at : List ℕ → ℕ → ℕ → List ℕ → ℕ → Found → Option Recalled
-recall_at w k n work to (At slot) = some (record { terms = terms_of w k slot; work = copied w k slot n work to })
-recall_at w k n work to Nothing = none
+unfoldable pub recall_at : List ℕ → ℕ → ℕ → List ℕ → ℕ → Option ℕ → Option Recalled
+recall_at w k n work to (Some slot) = Some (record { terms = terms_of w k slot; work = copied w k slot n work to })
+recall_at w k n work to None = None
 
 unfoldable pub order_rows : CacheOrder → ℕ
 order_rows order = order.next_row - order.first_row
@@ -58,8 +55,8 @@ copy_to zero v i out to = out
 copy_to (suc n) v i out to = copy_to n v (i + 1) (slice_set out (to + i) (slice_index v i)) to
 
 unfoldable pub recall_entry : ℕ → List ℕ → ℕ → Option Entry → Option Recalled
-recall_entry n work to (some x) = some (record { terms = x.terms; work = copy_to (row_words * n) x.rows 0 work to })
-recall_entry n work to none = none
+recall_entry n work to (Some x) = Some (record { terms = x.terms; work = copy_to (row_words * n) x.rows 0 work to })
+recall_entry n work to None = None
 
 abbrev pub entries : Store
 entries = record {

@@ -1,6 +1,5 @@
 -- A step of an objective, over any store of kept evaluations S.
-use Rattle.std.specs.Prelude.{ℕ, ◌+◌, ◌*◌, ◌%◌, ◌^◌, Bool, false, List, length, ◌==◌, nat_lt, slice_index, slice_index_or, slice_set, to_bits}
-use Rattle.std.proofs.Math.Option.{Option, none, some}
+use Rattle.std.specs.Prelude.{ℕ, ◌+◌, ◌*◌, ◌%◌, ◌^◌, Bool, false, List, length, ◌==◌, nat_lt, slice_index, slice_index_or, slice_set, to_bits, Option, None, Some}
 use Rattle.std.specs.Float.{binary64}
 use Rattle.float64.specs.Arithmetic.{◌+ᶠ◌, ◌*ᶠ◌, word}
 use Rattle.float64.specs.Pick.{pick}
@@ -21,11 +20,10 @@ use Rattle.search.specs.declared.Halted.{Halted}
 use Rattle.search.specs.declared.Wanted.{Wanted}
 use Rattle.search.specs.declared.Wanted.TheVariants as Wants
 use Rattle.search.specs.declared.Mode.{Mode}
-use Rattle.search.specs.declared.Closed.{Closed}
 use Rattle.cache.specs.Cache.{Cache}
 use Rattle.population.specs.Kept.{Recalled, Store, words}
-use Rattle.population.specs.declared.Turned.{Turned}
-use Rattle.population.specs.declared.Turned.TheVariants.{On, Halt}
+use Rattle.core.specs.declared.ops.ControlFlow.{ControlFlow}
+use Rattle.core.specs.declared.ops.ControlFlow.TheVariants.{Break, Continue}
 
 -- ---- lent words
 
@@ -60,12 +58,16 @@ take fit rows progress eta sums work =
     let after = B.advance_by fit progress eta sums in
     worked after.progress (move_rows rows after.sources work)
 
+-- a turn goes on, without an evaluation, or breaks off with an answer
+abbrev pub Turned : Type 0
+Turned = ControlFlow Halted Progress
+
 -- a kept evaluation answers, or the point is asked for
 unfoldable pub answered : Fit → ℕ → Progress → Tally → Pair → List ℕ → Option Recalled → Worked Turned
-answered fit rows progress tally eta work (some r) =
+answered fit rows progress tally eta work (Some r) =
     let t = take fit rows progress eta (B.sums_of r.terms) r.work in
-    worked (On t.value) t.work
-answered fit rows progress tally eta work none = worked (Halt (B.ask fit progress tally eta)) work
+    worked (Continue t.value) t.work
+answered fit rows progress tally eta work None = worked (Break (B.ask fit progress tally eta)) work
 
 unfoldable pub at_point : (S : Store) → Fit → List ℕ → Progress → Tally → Pair → S.Kept → List ℕ → Worked Turned
 at_point S fit counts progress tally eta kept work =
@@ -86,9 +88,9 @@ next_subject fit counts progress tally mode rows warm work =
     let subject = raised progress.subject 1 in
     pick (nat_lt subject (length counts))
     (worked
-    (On (B.begin_subject fit.effects subject (raised progress.first rows) (warm_of warm fit.effects subject) ofv squares))
+    (Continue (B.begin_subject fit.effects subject (raised progress.first rows) (warm_of warm fit.effects subject) ofv squares))
     (zeros (length work)))
-    (worked (Halt (B.objective_of progress tally ofv squares)) work)
+    (worked (Break (B.objective_of progress tally ofv squares)) work)
 
 -- a turn with all that it may write
 pub record Ended : Type 0 where
@@ -103,16 +105,16 @@ ended t work warm results = record { turned = t; work = work; warm = warm; resul
 -- 16, the warm start, 17, the results
 abbrev pub closing_with : Fit → List ℕ → Progress → Tally → ℕ → List ℕ → List ℕ → List ℕ → Answer Mode → Ended
 closing_with fit counts progress tally rows work warm results (refused number) =
-    ended (Halt (B.refused_by progress tally number (Subject progress.subject))) work warm results
+    ended (Break (B.refused_by progress tally number (Subject progress.subject))) work warm results
 closing_with fit counts progress tally rows work warm results (given mode) =
     let stored = warm_stored fit.effects progress.subject mode.eta warm in
     let next = next_subject fit counts progress tally mode rows stored work in
     let fitted = fitted_written (length counts) progress.first work rows
     (result_written progress.subject mode.eta mode.nll results) in
     pick (is_same_grid work rows) (ended next.value next.work stored fitted)
-    (ended (Halt (B.refused_by progress tally 17 (Subject progress.subject))) work stored results)
+    (ended (Break (B.refused_by progress tally 17 (Subject progress.subject))) work stored results)
 
-unfoldable pub closing : Fit → List ℕ → Progress → Tally → ℕ → List ℕ → List ℕ → List ℕ → Closed → Ended
+unfoldable pub closing : Fit → List ℕ → Progress → Tally → ℕ → List ℕ → List ℕ → List ℕ → Option Mode → Ended
 closing fit counts progress tally rows work warm results c =
     closing_with fit counts progress tally rows work warm results (B.mode_answer c)
 
@@ -129,7 +131,7 @@ served_by S fit counts progress tally kept work warm results (Wants.Point eta) =
     ended p.value p.work warm results
 served_by S fit counts progress tally kept work warm results Wants.Mode = at_mode fit counts progress tally work warm results
 served_by S fit counts progress tally kept work warm results (Wants.Refused number) =
-    ended (Halt (B.refused_by progress tally number (Subject progress.subject))) work warm results
+    ended (Break (B.refused_by progress tally number (Subject progress.subject))) work warm results
 
 unfoldable pub served : (S : Store) → Fit → List ℕ → Progress → Tally → S.Kept → List ℕ → List ℕ → List ℕ → Ended
 served S fit counts progress tally kept work warm results =
@@ -137,8 +139,8 @@ served S fit counts progress tally kept work warm results =
 
 -- where the turn ends the objective the work words are cleared
 unfoldable pub is_over : Turned → Bool
-is_over (On progress) = false
-is_over (Halt halted) = B.is_over halted.step
+is_over (Continue progress) = false
+is_over (Break halted) = B.is_over halted.step
 
 unfoldable pub turned : (S : Store) → Fit → List ℕ → Progress → Tally → S.Kept → List ℕ → List ℕ → List ℕ → Ended
 turned S fit counts progress tally kept work warm results =
@@ -167,8 +169,8 @@ whole_of S progress tally kept work warm results = record {
 }
 
 unfoldable pub moved : (S : Store) → Tally → S.Kept → List ℕ → List ℕ → List ℕ → Turned → Moved (Whole S) Step
-moved S tally kept work warm results (On progress) = on (whole_of S progress tally kept work warm results)
-moved S tally kept work warm results (Halt h) = halt h.step (whole_of S h.progress h.tally kept work warm results)
+moved S tally kept work warm results (Continue progress) = on (whole_of S progress tally kept work warm results)
+moved S tally kept work warm results (Break h) = halt h.step (whole_of S h.progress h.tally kept work warm results)
 
 unfoldable pub turn : (S : Store) → Fit → List ℕ → Whole S → Moved (Whole S) Step
 turn S fit counts w =

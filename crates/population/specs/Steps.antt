@@ -1,5 +1,5 @@
 -- Where a step begins; and a request that no kept evaluation answers, for the contracts of the code's own parts.
-use Rattle.std.specs.Prelude.{ℕ, List, length}
+use Rattle.std.specs.Prelude.{ℕ, List, length, Option}
 use Rattle.float64.specs.Pick.{pick}
 use Rattle.words.specs.Words.{zeros}
 use Rattle.cache.specs.Cache.{Cache}
@@ -12,21 +12,21 @@ use Rattle.search.specs.declared.Wanted.{Wanted}
 use Rattle.search.specs.declared.Wanted.TheVariants as Wants
 use Rattle.population.specs.Kept.{words}
 use Rattle.population.specs.Population.{rows_of, Ended, ended, at_mode, is_over, Whole, whole}
-use Rattle.population.specs.declared.Turned.TheVariants.{Halt}
 use Rattle.population.specs.Through.{taken}
-use Rattle.population.specs.declared.kept_points.InHand.{InHand}
+use Rattle.population.specs.declared.kept_points.Evaluated.{Evaluated}
+use Rattle.core.specs.declared.ops.ControlFlow.TheVariants.{Break}
 
 -- what is in hand is taken first
-abbrev pub whole_from : Fit → List ℕ → InHand → Progress → Tally → Cache → List ℕ → List ℕ → List ℕ → Whole words
+abbrev pub whole_from : Fit → List ℕ → Option Evaluated → Progress → Tally → Cache → List ℕ → List ℕ → List ℕ → Whole words
 whole_from fit counts hand progress tally kept work warm results =
     let t = taken fit (rows_of counts progress.subject) hand progress work in
     whole t.value tally kept t.work warm results
 
 unfoldable pub unkept : Fit → List ℕ → Progress → Tally → List ℕ → List ℕ → List ℕ → Wanted → Ended
-unkept fit counts progress tally work warm results (Wants.Point eta) = ended (Halt (B.ask fit progress tally eta)) work warm results
+unkept fit counts progress tally work warm results (Wants.Point eta) = ended (Break (B.ask fit progress tally eta)) work warm results
 unkept fit counts progress tally work warm results Wants.Mode = at_mode fit counts progress tally work warm results
 unkept fit counts progress tally work warm results (Wants.Refused number) =
-    ended (Halt (B.refused_by progress tally number (Subject progress.subject))) work warm results
+    ended (Break (B.refused_by progress tally number (Subject progress.subject))) work warm results
 
 -- where the turn ends the objective the work words are cleared
 unfoldable pub cleared : Ended → Ended

@@ -1,5 +1,5 @@
 -- The way of a search through kept evaluations: as long as the point that it wants is kept, it goes on with what is kept of it.
-use Rattle.std.specs.Prelude.{ℕ, zero, suc, Bool, true, List, ◌==◌}
+use Rattle.std.specs.Prelude.{ℕ, zero, suc, Bool, true, List, ◌==◌, None, Option, Some}
 use Rattle.float64.specs.Pick.{pick}
 use Rattle.matrix.specs.declared.Pair.{Pair}
 use Rattle.subject.specs.declared.Sums.{Sums}
@@ -11,8 +11,6 @@ use Rattle.mode_2d.specs.declared.population_focei_2d.Settings2.{Settings2}
 use Rattle.mode_2d.specs.declared.population_focei_2d.Search2.{Search2}
 use Rattle.work.specs.Work.{block, move_rows}
 use Rattle.cache.specs.Cache.{Cache, find, terms_of, copied}
-use Rattle.cache.specs.declared.Found.{Found}
-use Rattle.cache.specs.declared.Found.TheVariants as F
 use Rattle.search.specs.Subjects as B
 use Rattle.search.specs.declared.Fit.{Fit}
 use Rattle.search.specs.declared.Progress.{Progress}
@@ -21,11 +19,10 @@ use Rattle.search.specs.declared.SubjectSearch.TheVariants.{One, Two}
 use Rattle.search.specs.declared.Wanted.{Wanted}
 use Rattle.search.specs.declared.Wanted.TheVariants as Wants
 use Rattle.population.specs.Population.{Worked, worked, take}
-use Rattle.population.specs.declared.kept_points.InHand.{InHand}
-use Rattle.population.specs.declared.kept_points.InHand.TheVariants as Hand
 use Rattle.population.specs.declared.kept_points.Reached.{Reached}
 use Rattle.population.specs.declared.kept_points.Reached1.{Reached1}
 use Rattle.population.specs.declared.kept_points.Reached2.{Reached2}
+use Rattle.population.specs.declared.kept_points.Evaluated.{Evaluated}
 
 -- ---- what is kept
 
@@ -34,11 +31,11 @@ pub data KeptPoint : Type 0 where
   kept_in : Pair → ℕ → KeptPoint
   not_kept : KeptPoint
 
-abbrev pub kept_at : Pair → Found → KeptPoint
-kept_at eta (F.At slot) = kept_in eta slot
-kept_at eta F.Nothing = not_kept
+abbrev pub kept_at : Pair → Option ℕ → KeptPoint
+kept_at eta (Some slot) = kept_in eta slot
+kept_at eta None = not_kept
 
-abbrev pub found_at : Fit → ℕ → Cache → Pair → Found
+abbrev pub found_at : Fit → ℕ → Cache → Pair → Option ℕ
 found_at fit subject kept eta = find kept.words fit.k kept.order (B.key_of fit subject eta)
 
 unfoldable pub kept_point : Fit → ℕ → Cache → Wanted → KeptPoint
@@ -56,21 +53,21 @@ recalled k slot rows cache work = worked (B.sums_of (terms_of cache k slot)) (co
 unfoldable pub as_with : ℕ → SubjectSearch → SubjectSearch
 as_with effects x = pick (effects == 2) (Two (B.two_of x)) (One (B.one_of x))
 
-unfoldable pub taken : Fit → ℕ → InHand → Progress → List ℕ → Worked Progress
-taken fit rows Hand.Nothing progress work = worked (B.with_search progress (as_with fit.effects progress.search)) work
-taken fit rows (Hand.Evaluated eta sums) progress work = take fit rows progress eta sums work
+unfoldable pub taken : Fit → ℕ → Option Evaluated → Progress → List ℕ → Worked Progress
+taken fit rows None progress work = worked (B.with_search progress (as_with fit.effects progress.search)) work
+taken fit rows (Some e) progress work = take fit rows progress e.eta e.sums work
 
 -- the same, of the search alone
-unfoldable pub taken1 : Fit → Settings → ℕ → InHand → Search → List ℕ → Worked Search
-taken1 fit s rows Hand.Nothing x work = worked x work
-taken1 fit s rows (Hand.Evaluated eta sums) x work =
-    let c = B.conditional1 fit eta sums in
+unfoldable pub taken1 : Fit → Settings → ℕ → Option Evaluated → Search → List ℕ → Worked Search
+taken1 fit s rows None x work = worked x work
+taken1 fit s rows (Some e) x work =
+    let c = B.conditional1 fit e.eta e.sums in
     worked (advance s x c) (move_rows rows (B.sources1 x c) work)
 
-unfoldable pub taken2 : Settings2 → ℕ → InHand → Search2 → List ℕ → Worked Search2
-taken2 s rows Hand.Nothing x work = worked x work
-taken2 s rows (Hand.Evaluated eta sums) x work =
-    let c = B.conditional2 eta sums in
+unfoldable pub taken2 : Settings2 → ℕ → Option Evaluated → Search2 → List ℕ → Worked Search2
+taken2 s rows None x work = worked x work
+taken2 s rows (Some e) x work =
+    let c = B.conditional2 e.eta e.sums in
     let after = R2.advance s x c in
     worked after (move_rows rows (B.sources2 s x after c) work)
 
@@ -83,8 +80,8 @@ is_over n Wants.Mode = true
 is_over n (Wants.Refused number) = true
 
 -- what is found of a point, unless it is over
-unfoldable pub found_unless : Bool → Fit → ℕ → Cache → Pair → Found
-found_unless over fit subject kept eta = pick over F.Nothing (found_at fit subject kept eta)
+unfoldable pub found_unless : Bool → Fit → ℕ → Cache → Pair → Option ℕ
+found_unless over fit subject kept eta = pick over None (found_at fit subject kept eta)
 
 -- the point that is wanted; zero where none is
 unfoldable pub eta_of : Wanted → Pair
@@ -111,7 +108,7 @@ through fit rows kept (suc n) progress work =
     (kept_point fit progress.subject kept (B.wanted_by fit progress))
 
 -- with what is in hand first
-unfoldable pub through_from : Fit → ℕ → Cache → ℕ → InHand → Progress → List ℕ → Worked Reached
+unfoldable pub through_from : Fit → ℕ → Cache → ℕ → Option Evaluated → Progress → List ℕ → Worked Reached
 through_from fit rows kept n hand progress work =
     let t = taken fit rows hand progress work in
     through fit rows kept n t.value t.work

@@ -10,19 +10,19 @@ ghost use Rattle.population.specs.Kept.{cache_of};
 ghost use Rattle.population.specs.Population.{rows_of, worked};
 ghost use Rattle.population.specs.Through.{is_over, eta_of, found_unless, taken1, taken2, reached1, reached2, through_from};
 
-use cache::{CacheOrder, Found};
+use cache::CacheOrder;
 use matrix::Pair;
 use mode::population_focei::{Search, Settings};
 use mode_2d::population_focei_2d::{Search2, Settings2};
 use search::{Fit, Progress, SubjectSearch, Wanted};
 use subject::Sums;
 
-// An evaluation of the point that a search asked for, which the search has not been given yet, or none. Its
-// rows are in the trial block.
+// An evaluation of the point that a search asked for, which the search has not been given yet. Its rows are in
+// the trial block.
 #[derive(Clone, Copy)]
-pub enum InHand {
-    Nothing,
-    Evaluated(Pair, Sums),
+pub struct Evaluated {
+    pub eta: Pair,
+    pub sums: Sums,
 }
 
 // Where an objective's search has come to, the requests that are left, and what it wants now.
@@ -87,11 +87,11 @@ fn kept_at(
     first: f64,
     second: f64,
     cache: &[u64],
-) -> Found
+) -> Option<usize>
     ensures { result ≡ found_unless over fit subject (cache_of cache.now order) (of first second) }
 {
     if over {
-        return Found::Nothing;
+        return None;
     }
     let key = search::questions::key_of(fit, subject, Pair { first, second });
     cache::find(cache, fit.k, order, key)
@@ -119,15 +119,15 @@ fn take_1d(
     fit: Fit,
     settings: Settings,
     rows: usize,
-    hand: InHand,
+    hand: Option<Evaluated>,
     search: Search,
     work: &mut [u64],
 ) -> Search
     ensures { worked result work.new ≡ taken1 fit settings rows hand search work.old }
 {
     match hand {
-        InHand::Nothing => search,
-        InHand::Evaluated(eta, sums) => {
+        None => search,
+        Some(Evaluated { eta, sums }) => {
             let c = search::points::conditional(fit, eta, sums);
             let sources = search::points::sources(search, c);
             work::move_rows(work, rows, sources);
@@ -141,7 +141,7 @@ fn through_kept_1d(
     rows: usize,
     order: CacheOrder,
     start: Progress,
-    hand: InHand,
+    hand: Option<Evaluated>,
     fuel: usize,
     cache: &[u64],
     work: &mut [u64],
@@ -161,12 +161,15 @@ fn through_kept_1d(
         let over = is_over(left, wanted);
         let at = eta_of(wanted);
         match kept_at(over, fit, start.subject, order, at.first, at.second, cache) {
-            Found::At(slot) => {
+            Some(slot) => {
                 left -= 1;
                 recall_rows(fit.k, slot, rows, cache, work);
-                given = InHand::Evaluated(at, recall(fit.k, slot, cache));
+                given = Some(Evaluated {
+                    eta: at,
+                    sums: recall(fit.k, slot, cache),
+                });
             }
-            Found::Nothing => {
+            None => {
                 break 'kept Reached1 {
                     search,
                     left,
@@ -182,15 +185,15 @@ fn through_kept_1d(
 fn take_2d(
     settings: Settings2,
     rows: usize,
-    hand: InHand,
+    hand: Option<Evaluated>,
     search: Search2,
     work: &mut [u64],
 ) -> Search2
     ensures { worked result work.new ≡ taken2 settings rows hand search work.old }
 {
     match hand {
-        InHand::Nothing => search,
-        InHand::Evaluated(eta, sums) => {
+        None => search,
+        Some(Evaluated { eta, sums }) => {
             let c = search::points::conditional_2d(eta, sums);
             let after = search.advance(settings, c);
             let sources = search::points::sources_2d(settings, search, after, c);
@@ -205,7 +208,7 @@ fn through_kept_2d(
     rows: usize,
     order: CacheOrder,
     start: Progress,
-    hand: InHand,
+    hand: Option<Evaluated>,
     fuel: usize,
     cache: &[u64],
     work: &mut [u64],
@@ -225,12 +228,15 @@ fn through_kept_2d(
         let over = is_over(left, wanted);
         let at = eta_of(wanted);
         match kept_at(over, fit, start.subject, order, at.first, at.second, cache) {
-            Found::At(slot) => {
+            Some(slot) => {
                 left -= 1;
                 recall_rows(fit.k, slot, rows, cache, work);
-                given = InHand::Evaluated(at, recall(fit.k, slot, cache));
+                given = Some(Evaluated {
+                    eta: at,
+                    sums: recall(fit.k, slot, cache),
+                });
             }
-            Found::Nothing => {
+            None => {
                 break 'kept Reached2 {
                     search,
                     left,
@@ -250,7 +256,7 @@ pub fn through_kept(
     counts: &[u64],
     order: CacheOrder,
     progress: Progress,
-    hand: InHand,
+    hand: Option<Evaluated>,
     fuel: usize,
     cache: &[u64],
     work: &mut [u64],

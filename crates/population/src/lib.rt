@@ -12,15 +12,13 @@ pub mod answers;
 pub mod kept_points;
 pub mod steps;
 
+use std::ops::ControlFlow;
 use matrix::Pair;
-use search::{Closed, Fit, Halted, Mode, Place, Progress, Tally};
+use search::{Fit, Halted, Mode, Place, Progress, Tally};
 
-// A turn of the loop over the remaining requests: it goes on, without an evaluation, or halts with an answer.
-#[derive(Clone, Copy)]
-pub enum Turned {
-    On(Progress),
-    Halt(Halted),
-}
+// A turn of the loop over the remaining requests: it goes on, without an evaluation, or breaks off with an
+// answer.
+pub type Turned = ControlFlow<Halted, Progress>;
 
 // ---- lent words
 
@@ -97,9 +95,9 @@ fn next_subject(
         let first = std::num::wrapping_add_usize(progress.first, rows);
         let start = warm_of(warm, fit.effects, subject);
         words::clear(work);
-        return Turned::On(search::begin_subject(fit.effects, subject, first, start, ofv, squares));
+        return ControlFlow::Continue(search::begin_subject(fit.effects, subject, first, start, ofv, squares));
     }
-    Turned::Halt(search::objective::objective_of(progress, tally, ofv, squares))
+    ControlFlow::Break(search::objective::objective_of(progress, tally, ofv, squares))
 }
 
 // What is done with a search's mode: check 16, the warm start is stored, check 17, the results are written,
@@ -119,7 +117,7 @@ pub fn at_mode(
     let subject = progress.subject;
     let rows = rows_of(counts, subject);
     match search::objective::closed_by(fit, progress, rows as u32) {
-        Closed::Positive(mode) => {
+        Some(mode) => {
             let eta = mode.eta;
             store_warm(warm, fit.effects, subject, eta);
             if work::is_same_grid(work, rows) {
@@ -127,9 +125,9 @@ pub fn at_mode(
                 work::results::write_fitted(results, counts.len(), progress.first, work, rows);
                 return next_subject(fit, counts, progress, tally, mode, rows, work, warm);
             }
-            Turned::Halt(search::refused(progress, tally, 17, Place::Subject(subject)))
+            ControlFlow::Break(search::refused(progress, tally, 17, Place::Subject(subject)))
         }
-        Closed::NotPositive => Turned::Halt(search::refused(
+        None => ControlFlow::Break(search::refused(
             progress,
             tally,
             16,

@@ -6,8 +6,9 @@ ghost use Rattle.population.specs.Kept.{cache_of, words};
 ghost use Rattle.population.specs.Population.{ended, is_over, spent, ran, turn};
 ghost use Rattle.population.specs.Steps.{whole_from, unkept, cleared};
 
+use std::ops::ControlFlow;
+use super::kept_points::Evaluated;
 use super::Turned;
-use super::kept_points::InHand;
 use cache::CacheOrder;
 use search::{Fit, Halted, Place, Progress, Step, Tally, Wanted};
 
@@ -26,11 +27,11 @@ fn served(
         ≡ unkept fit counts.now progress tally work.old warm.old results.old wanted }
 {
     match wanted {
-        Wanted::Point(eta) => Turned::Halt(search::questions::ask(fit, progress, tally, eta)),
+        Wanted::Point(eta) => ControlFlow::Break(search::questions::ask(fit, progress, tally, eta)),
         Wanted::Mode => super::at_mode(fit, counts, progress, tally, work, warm, results),
         Wanted::Refused(number) => {
             let place = Place::Subject(progress.subject);
-            Turned::Halt(search::refused(progress, tally, number, place))
+            ControlFlow::Break(search::refused(progress, tally, number, place))
         }
     }
 }
@@ -39,8 +40,8 @@ fn is_over(turned: Turned) -> bool
     ensures { result ≡ is_over turned }
 {
     match turned {
-        Turned::On(_) => false,
-        Turned::Halt(halted) => {
+        ControlFlow::Continue(_) => false,
+        ControlFlow::Break(halted) => {
             let step = halted.step;
             search::is_over(step)
         }
@@ -79,7 +80,7 @@ pub fn requests(
     counts: &[u64],
     order: CacheOrder,
     start: Progress,
-    hand: InHand,
+    hand: Option<Evaluated>,
     tally: Tally,
     fuel: usize,
     cache: &[u64],
@@ -109,12 +110,12 @@ pub fn requests(
             };
         }
         match turn(fit, counts, progress, tally, wanted, work, warm, results) {
-            Turned::On(next) => {
+            ControlFlow::Continue(next) => {
                 here = next;
-                given = InHand::Nothing;
+                given = None;
                 left = reached.left - 1;
             }
-            Turned::Halt(halted) => {
+            ControlFlow::Break(halted) => {
                 break 'requests halted;
             }
         }

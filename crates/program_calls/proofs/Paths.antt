@@ -7,9 +7,8 @@ use lib.ListN.{length, take, drop, get_or, get_or-eq_default}
 use lib.Ieee.{Float}
 use Rattle.float64.specs.Arithmetic.{word}
 use Rattle.likelihood.specs.declared.population_focei.Observation.{Observation}
-use Rattle.subject.specs.Observations.{first_check, check_observation, check_observations}
+use Rattle.subject.specs.Observations.{first_check, check_observation, check_observations, Check}
 use Rattle.subject.specs.Subject.{Evaluating, add_observation, add_observations}
-use Rattle.subject.specs.declared.Check.{Check}
 use Rattle.subject.specs.declared.Trial.{Trial}
 use Rattle.words.proofs.Runs.{len_part}
 use Rattle.words.specs.Words.{smaller}

@@ -3,9 +3,7 @@ use mathlib.Core.Path.{◌≡◌, ap, ◌∙◌}
 use mathlib.Core.List.{List}
 use Prim.Native.Nat.{ℕ, ◌-◌}
 use lib.ListN.{length, take, drop}
-use Rattle.subject.specs.Subject.{evaluating, add_observations}
-use Rattle.subject.specs.declared.Check.{Check}
-use Rattle.subject.specs.declared.Evaluation.{Evaluation}
+use Rattle.subject.specs.Subject.{evaluating, add_observations, Evaluation}
 use Rattle.setup.specs.declared.Lent.{Lent}
 use Rattle.setup.specs.declared.Parameters.{Parameters}
 use Rattle.setup.specs.declared.Setup.{Setup}
@@ -19,6 +17,7 @@ use Rattle.session.specs.declared.Admitted.{Admitted}
 use Rattle.session.specs.declared.State.{State}
 use Rattle.session_calls.proofs.Whole.{objective_call, failure_call, reply_call}
 use Rattle.program_calls.specs.Recorded.{observations_of, call_of, reply_of, open_of}
+use Rattle.subject.specs.Observations.{Check}
 
 -- ---- a session's calls; n is the number of the observations, and check what was found of them
 

@@ -1,4 +1,5 @@
 -- The ways through the code: one law for each, over plain variables. Assumes nothing.
+use Rattle.std.specs.Prelude.{Float, None, Option, Some}
 use mathlib.Core.Path.{◌≡◌, refl, ap, ◌∙◌}
 use mathlib.Core.Bool.{Bool, true, false}
 use mathlib.Core.List.{List}
@@ -11,8 +12,6 @@ use Rattle.float64.specs.Float64.{nonfinite}
 use Rattle.float64.specs.Pick.{yes, no, yes_of, no_of}
 use Rattle.libm.specs.Log.{log}
 use Rattle.matrix.specs.Matrix.{pair, answer, inverse_positive, product, dot}
-use Rattle.matrix.specs.declared.InversePositive.{InversePositive}
-use Rattle.matrix.specs.declared.InversePositive.TheVariants.{Exists, None}
 use Rattle.likelihood.specs.Terms.{log2pi}
 use Rattle.mode.specs.declared.population_focei.Conditional.{Conditional}
 use Rattle.mode.specs.declared.population_focei.Search.{Search}
@@ -24,30 +23,29 @@ use Rattle.search.specs.declared.Progress.{Progress}
 use Rattle.search.specs.declared.Place.TheVariants.{Nowhere}
 use Rattle.search.specs.declared.Step.TheVariants.{Finished}
 use Rattle.search.specs.declared.Halted.{Halted}
-use Rattle.search.specs.declared.Closed.{Closed}
-use Rattle.search.specs.declared.Closed.TheVariants.{Positive, NotPositive}
 use Rattle.search.specs.Subjects.{one_of, two_of, refused_by, closed1, precision_of, curvature_of, closed_with, closed2, closed_by, finished, objective_of}
 use Rattle.search.proofs.Paths.{inverse_is}
+use Rattle.search.specs.declared.Mode.{Mode}
 
 -- ---- a mode with one effect; b is what `is_nonfinite` answered of the curvature, l the logarithm
 abbrev curvature_one : Fit → Conditional → Float
 curvature_one fit best = one /ᶠ fit.omega +ᶠ best.information
 
-abbrev mode_one : Fit → Conditional → ℕ → Float → Closed
+abbrev mode_one : Fit → Conditional → ℕ → Float → Option Mode
 mode_one fit best rows l =
-    Positive (record {
+    Some (record {
       eta = record { first = best.eta; second = word 0 };
       nll = best.nll;
       term = two *ᶠ best.nll -ᶠ of_int binary64 (pos rows) *ᶠ log2pi +ᶠ best.eta *ᶠ best.eta /ᶠ fit.omega +ᶠ l;
     })
 
 module _ (fit : Fit) (best : Conditional) (rows : ℕ) {b : Bool} (e : b ≡ nonfinite (curvature_one fit best)) where
-  pub no_curvature : b ≡ true → NotPositive ≡ closed1 fit best rows
+  pub no_curvature : b ≡ true → None ≡ closed1 fit best rows
   unfolding closed1
   no_curvature t = yes_of _ e t refl
 
   module _ (t : b ≡ false) where
-    pub not_above_lem : le (curvature_one fit best) (word 0) ≡ true → NotPositive ≡ closed1 fit best rows
+    pub not_above_lem : le (curvature_one fit best) (word 0) ≡ true → None ≡ closed1 fit best rows
     unfolding closed1
     not_above_lem u = no_of _ e t (yes _ u refl)
 
@@ -56,24 +54,24 @@ module _ (fit : Fit) (best : Conditional) (rows : ℕ) {b : Bool} (e : b ≡ non
     closes_one u q = no_of _ e t (no _ u (ap (mode_one fit best rows) q))
 
 -- ---- a mode with two effects; m is the curvature, r what `inverse_positive` answered, p the precision, v that times eta, d eta times that, l the logarithm
-abbrev mode_two : Conditional2 → ℕ → Float → Float → Closed
+abbrev mode_two : Conditional2 → ℕ → Float → Float → Option Mode
 mode_two best rows d l =
-    Positive (record {
+    Some (record {
       eta = best.eta;
       nll = best.nll;
       term = two *ᶠ best.nll -ᶠ of_int binary64 (pos rows) *ᶠ log2pi +ᶠ d +ᶠ l;
     })
 
-module _ (fit : Fit) (best : Conditional2) (rows : ℕ) {m : List (List Float)} {r : InversePositive} (k : m ≡ curvature_of fit best) (e : answer m r ≡ inverse_positive m) where
-  closed_as : {variant : InversePositive} {z : Closed} → r ≡ variant → z ≡ closed_with fit best rows (answer m variant) → z ≡ closed2 fit best rows
+module _ (fit : Fit) (best : Conditional2) (rows : ℕ) {m : List (List Float)} {r : Option Float} (k : m ≡ curvature_of fit best) (e : answer m r ≡ inverse_positive m) where
+  closed_as : {variant : Option Float} {z : Option Mode} → r ≡ variant → z ≡ closed_with fit best rows (answer m variant) → z ≡ closed2 fit best rows
   unfolding closed2
   closed_as t q = q ∙ ap (closed_with fit best rows) (inverse_is _ e t ∙ ap inverse_positive k)
 
-  pub not_positive : r ≡ None → NotPositive ≡ closed2 fit best rows
+  pub not_positive : r ≡ None → None ≡ closed2 fit best rows
   unfolding closed_with answer
   not_positive t = closed_as t refl
 
-  pub closes_two : {det d l : Float} {p : List (List Float)} {v : List Float} → let eta = pair best.eta.first best.eta.second in r ≡ Exists det → p ≡ precision_of fit → v ≡ product p eta → d ≡
+  pub closes_two : {det d l : Float} {p : List (List Float)} {v : List Float} → let eta = pair best.eta.first best.eta.second in r ≡ Some det → p ≡ precision_of fit → v ≡ product p eta → d ≡
       dot eta v → l ≡ log (fit.det_omega *ᶠ det) → mode_two best rows d l ≡ closed2 fit best rows
   unfolding closed_with answer
   closes_two t ep ev ed el =
@@ -82,7 +80,7 @@ module _ (fit : Fit) (best : Conditional2) (rows : ℕ) {m : List (List Float)} 
       closed_as t (λ i. mode_two best rows (quadratic i) (el i))
 
 -- z is what is closed, x the search
-module _ (fit : Fit) (progress : Progress) (rows : ℕ) {z : Closed} where
+module _ (fit : Fit) (progress : Progress) (rows : ℕ) {z : Option Mode} where
   pub closed_two : {x : Search2} → fit.effects ≡ 2 → x ≡ two_of progress.search → z ≡ closed2 fit x.best rows → z ≡ closed_by fit progress rows
   unfolding closed_by
   closed_two h e q = yes _ (eq-eqb _ _ h) (q ∙ ap (λ (x : Search2). closed2 fit x.best rows) e)

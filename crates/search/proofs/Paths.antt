@@ -1,4 +1,5 @@
 -- The ways through the code: one law for each, over plain variables. Assumes nothing.
+use Rattle.std.specs.Prelude.{Float, None, Option, Some}
 use mathlib.Core.Path.{◌≡◌, sym, ap, ◌∙◌}
 use mathlib.Core.List.{List}
 use borrow.Author.Tests.{eq-eqb, ne_eqb}
@@ -6,8 +7,6 @@ use lib.Ieee.{Float}
 use Rattle.float64.specs.Arithmetic.{word}
 use Rattle.float64.specs.Pick.{yes, no}
 use Rattle.matrix.specs.Matrix.{inverse, answer, inverse_positive}
-use Rattle.matrix.specs.declared.InversePositive.{InversePositive}
-use Rattle.matrix.specs.declared.InversePositive.TheVariants.{Exists, None}
 use Rattle.matrix.specs.declared.Pair.{Pair}
 use Rattle.setup.specs.Admission.{omega_of}
 use Rattle.setup.specs.declared.Setup.{Setup}
@@ -16,17 +15,17 @@ use Rattle.search.specs.declared.Step.{Step}
 use Rattle.search.specs.Subjects.{fit_with, no_matrix, fit_by, fit2, fit_in, is_over}
 
 -- ---- the answer of `inverse_positive` where it is the variant v
-pub inverse_is : (m : List (List Float)) {r v : InversePositive} → answer m r ≡ inverse_positive m → r ≡ v → answer m v ≡ inverse_positive m
+pub inverse_is : (m : List (List Float)) {r v : Option Float} → answer m r ≡ inverse_positive m → r ≡ v → answer m v ≡ inverse_positive m
 inverse_is m e t = sym (ap (answer m) t) ∙ e
 
 -- ---- what the searches of an objective share; z is the fit
 -- with two effects: r is what `inverse_positive` answered
-module _ (setup : Setup) (theta : Pair) {r : InversePositive} (e : answer (omega_of setup) r ≡ inverse_positive (omega_of setup)) where
-  fitted_by : {v : InversePositive} {z : Fit} → r ≡ v → z ≡ fit_by setup theta (answer (omega_of setup) v) → z ≡ fit2 setup theta
+module _ (setup : Setup) (theta : Pair) {r : Option Float} (e : answer (omega_of setup) r ≡ inverse_positive (omega_of setup)) where
+  fitted_by : {v : Option Float} {z : Fit} → r ≡ v → z ≡ fit_by setup theta (answer (omega_of setup) v) → z ≡ fit2 setup theta
   unfolding fit2
   fitted_by t q = q ∙ ap (fit_by setup theta) (inverse_is _ e t)
 
-  pub has_precision : {det : Float} {precision : List (List Float)} {z : Fit} → r ≡ Exists det → precision ≡ inverse (omega_of setup) det → z ≡ fit_with setup theta precision det → z ≡ fit2 setup theta
+  pub has_precision : {det : Float} {precision : List (List Float)} {z : Fit} → r ≡ Some det → precision ≡ inverse (omega_of setup) det → z ≡ fit_with setup theta precision det → z ≡ fit2 setup theta
   unfolding fit_by answer
   has_precision {det} t p q = fitted_by t (q ∙ ap (λ (m : List (List Float)). fit_with setup theta m det) p)
 

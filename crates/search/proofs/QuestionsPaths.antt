@@ -1,4 +1,5 @@
 -- The ways through the code: one law for each, over plain variables. Assumes nothing.
+use Rattle.std.specs.Prelude.{None, Option, Some}
 use mathlib.Core.Path.{◌≡◌, sym, ap, ◌∙◌}
 use Prim.Native.Nat.{ℕ, ◌≤◌, ◌<◌}
 use native.Mathlib.Omega.{arith}
@@ -10,9 +11,6 @@ use Rattle.float64.specs.Pick.{yes, no}
 use Rattle.matrix.specs.declared.Pair.{Pair}
 use Rattle.cache.specs.declared.CacheKey.{CacheKey}
 use Rattle.subject.specs.Subject.{individual_values, answer as answerValues}
-use Rattle.subject.specs.declared.IndividualValues.{IndividualValues}
-use Rattle.subject.specs.declared.IndividualValues.TheVariants.{Valid, Invalid}
-use Rattle.subject.specs.declared.AdditiveSd.TheVariants.{Own, Override}
 use Rattle.search.specs.declared.Tally.{Tally}
 use Rattle.search.specs.declared.Fit.{Fit}
 use Rattle.search.specs.declared.Progress.{Progress}
@@ -39,11 +37,11 @@ module _ (fit : Fit) (subject : ℕ) (eta : Pair) where
     unfolding key1
     keyed p q = λ i. one_key subject (et i) (ex i) (p i) (q i)
 
-    pub own_key : fit.additive_sd ≡ Own → has ≡ 0 → additive ≡ 0 → one_key subject theta x has additive ≡ key1 fit subject eta
+    pub own_key : fit.additive_sd ≡ None → has ≡ 0 → additive ≡ 0 → one_key subject theta x has additive ≡ key1 fit subject eta
     own_key t p q = keyed (p ∙ sym (ap has_additive t)) (q ∙ sym (ap additive_word t))
 
     -- w is the override's word
-    pub override_key : {sd : Float} {w : ℕ} → fit.additive_sd ≡ Override sd → w ≡ to_bits binary64 sd → has ≡ 1 → additive ≡ w → one_key subject theta x has additive ≡ key1 fit subject eta
+    pub override_key : {sd : Float} {w : ℕ} → fit.additive_sd ≡ Some sd → w ≡ to_bits binary64 sd → has ≡ 1 → additive ≡ w → one_key subject theta x has additive ≡ key1 fit subject eta
     override_key t e p q = keyed (p ∙ sym (ap has_additive t)) (q ∙ e ∙ sym (ap additive_word t))
 
   pub key_two : {z : CacheKey} → fit.effects ≡ 2 → z ≡ key2 fit subject eta → z ≡ key_of fit subject eta
@@ -64,18 +62,18 @@ module _ (fit : Fit) (progress : Progress) (tally : Tally) (eta : Pair) where
   unfolding ask
   none_left h q = no _ (le-ltb _ _ h) q
 
-  module _ {raised : Tally} {r : IndividualValues} (h : tally.calls.0 < fit.max_evaluations) (et : raised ≡ counted tally) (e : answerValues r ≡ individual_values fit.theta eta fit.effects)
+  module _ {raised : Tally} {r : Option Pair} (h : tally.calls.0 < fit.max_evaluations) (et : raised ≡ counted tally) (e : answerValues r ≡ individual_values fit.theta eta fit.effects)
     where
-      asked : {v : IndividualValues} {z : Halted} → r ≡ v → z ≡ ask_for progress raised eta (answerValues v) → z ≡ ask fit progress tally eta
+      asked : {v : Option Pair} {z : Halted} → r ≡ v → z ≡ ask_for progress raised eta (answerValues v) → z ≡ ask fit progress tally eta
       unfolding ask
       asked t q = yes _ (lt-ltb _ _ h) (q ∙ (λ i. ask_for progress (et i) eta ((sym (ap answerValues t) ∙ e) i)))
 
       -- p is the progress afterwards
-      pub valid_values : {individual : Pair} {p : Progress} → r ≡ Valid individual → p ≡ awaiting progress individual → record { progress = p; tally = raised; step = Asked eta individual } ≡ ask fit
+      pub valid_values : {individual : Pair} {p : Progress} → r ≡ Some individual → p ≡ awaiting progress individual → record { progress = p; tally = raised; step = Asked eta individual } ≡ ask fit
           progress tally eta
       unfolding ask_for answerValues
       valid_values {individual} t q = asked t (λ i. record { progress = q i; tally = raised; step = Asked eta individual })
 
-      pub invalid_values : {z : Halted} → r ≡ Invalid → z ≡ refused_by progress raised 7 (Subject progress.subject) → z ≡ ask fit progress tally eta
+      pub invalid_values : {z : Halted} → r ≡ None → z ≡ refused_by progress raised 7 (Subject progress.subject) → z ≡ ask fit progress tally eta
       unfolding ask_for answerValues
       invalid_values t q = asked t q

@@ -1,5 +1,5 @@
 -- One subject's search within an objective, by value, with one effect or two.
-use Rattle.std.specs.Prelude.{Bool, true, false, List, ℕ, ◌+◌, ltb, eqb, pos, Float}
+use Rattle.std.specs.Prelude.{Bool, true, false, List, ℕ, ◌+◌, ltb, eqb, pos, Float, None, Option, Some}
 use Rattle.std.specs.Float.{binary64}
 use Rattle.std.specs.Float.Ieee.{to_bits, of_int, le, lt}
 use Rattle.float64.specs.Answer.{Answer, given, refused}
@@ -30,8 +30,6 @@ use Rattle.cache.specs.declared.CacheKey.{CacheKey}
 use Rattle.cache.specs.declared.CachedTerms.{CachedTerms}
 use Rattle.work.specs.declared.Sources.{Sources}
 use Rattle.subject.specs.Subject.{individual_values}
-use Rattle.subject.specs.declared.AdditiveSd.{AdditiveSd}
-use Rattle.subject.specs.declared.AdditiveSd.TheVariants.{Own, Override}
 use Rattle.subject.specs.declared.Sums.{Sums}
 use Rattle.setup.specs.Admission.{omega_of, with_parameters}
 use Rattle.setup.specs.declared.Setup.{Setup}
@@ -50,8 +48,6 @@ use Rattle.search.specs.declared.Wanted.{Wanted}
 use Rattle.search.specs.declared.Wanted.TheVariants as Wants
 use Rattle.search.specs.declared.Advanced.{Advanced}
 use Rattle.search.specs.declared.Mode.{Mode}
-use Rattle.search.specs.declared.Closed.{Closed}
-use Rattle.search.specs.declared.Closed.TheVariants.{Positive, NotPositive}
 
 -- ---- what the searches of an objective have in common
 
@@ -139,13 +135,13 @@ wanted_by fit progress =
 
 -- ---- kept evaluations: subject, the bits of theta and eta, and with one effect of the optional override. Omega is not in the key.
 
-abbrev pub has_additive : AdditiveSd → ℕ
-has_additive Own = 0
-has_additive (Override additive) = 1
+abbrev pub has_additive : Option Float → ℕ
+has_additive None = 0
+has_additive (Some additive) = 1
 
-abbrev pub additive_word : AdditiveSd → ℕ
-additive_word Own = 0
-additive_word (Override additive) = to_bits binary64 additive
+abbrev pub additive_word : Option Float → ℕ
+additive_word None = 0
+additive_word (Some additive) = to_bits binary64 additive
 
 unfoldable pub key1 : Fit → ℕ → Pair → CacheKey
 key1 fit subject eta = record {
@@ -340,17 +336,17 @@ is_over (Refused number place) = true
 -- ---- a mode: check 16, and its part of the objective
 
 -- a mode whose curvature is not positive is refused with 16
-abbrev pub mode_answer : Closed → Answer Mode
-mode_answer (Positive mode) = given mode
-mode_answer NotPositive = refused 16
+abbrev pub mode_answer : Option Mode → Answer Mode
+mode_answer (Some mode) = given mode
+mode_answer None = refused 16
 
 -- 2 nll - n log 2π + eta² / omega + log (omega · curvature)
-unfoldable pub closed1 : Fit → Conditional → ℕ → Closed
+unfoldable pub closed1 : Fit → Conditional → ℕ → Option Mode
 closed1 fit best rows =
     let curvature = one /ᶠ fit.omega +ᶠ best.information in
-    pick (nonfinite curvature) NotPositive
-    (pick (le curvature (word 0)) NotPositive
-    (Positive (record {
+    pick (nonfinite curvature) None
+    (pick (le curvature (word 0)) None
+    (Some (record {
       eta = record { first = best.eta; second = word 0 };
       nll = best.nll;
       term = two *ᶠ best.nll -ᶠ of_int binary64 (pos rows) *ᶠ log2pi +ᶠ best.eta *ᶠ best.eta /ᶠ fit.omega
@@ -364,21 +360,21 @@ abbrev pub curvature_of : Fit → Conditional2 → List (List Float)
 curvature_of fit best = R2.curvature fit.precision best.information
 
 -- 2 nll - n log 2π + eta · precision eta + log (det omega · det curvature)
-unfoldable pub closed_with : Fit → Conditional2 → ℕ → Inverse → Closed
+unfoldable pub closed_with : Fit → Conditional2 → ℕ → Inverse → Option Mode
 closed_with fit best rows (some inverse det) =
     let eta = pair best.eta.first best.eta.second in
-    Positive (record {
+    Some (record {
       eta = best.eta;
       nll = best.nll;
       term = two *ᶠ best.nll -ᶠ of_int binary64 (pos rows) *ᶠ log2pi +ᶠ dot eta (product (precision_of fit) eta)
           +ᶠ log (fit.det_omega *ᶠ det);
     })
-closed_with fit best rows none = NotPositive
+closed_with fit best rows none = None
 
-unfoldable pub closed2 : Fit → Conditional2 → ℕ → Closed
+unfoldable pub closed2 : Fit → Conditional2 → ℕ → Option Mode
 closed2 fit best rows = closed_with fit best rows (inverse_positive (curvature_of fit best))
 
-unfoldable pub closed_by : Fit → Progress → ℕ → Closed
+unfoldable pub closed_by : Fit → Progress → ℕ → Option Mode
 closed_by fit progress rows =
     pick (eqb fit.effects 2) (closed2 fit (two_of progress.search).best rows) (closed1 fit (one_of progress.search).best rows)
 

@@ -11,11 +11,10 @@ pub mod objective;
 pub mod points;
 pub mod questions;
 
-use matrix::{InversePositive, Matrix, Pair};
+use matrix::{Matrix, Pair};
 use mode::population_focei::Search;
 use mode_2d::population_focei_2d::Search2;
 use setup::Setup;
-use subject::AdditiveSd;
 use work::Sources;
 
 // The source's `calls`: how many evaluations were asked for. A type of its own, so that it is never added to
@@ -49,7 +48,7 @@ pub struct Fit {
     pub precision: Matrix,
     pub det_omega: f64,
     pub theta: Pair,
-    pub additive_sd: AdditiveSd,
+    pub additive_sd: Option<f64>,
     pub k: usize,
     pub max_evaluations: u32,
 }
@@ -126,13 +125,6 @@ pub struct Mode {
     pub term: f64,
 }
 
-// What check 16 finds of a mode: its curvature is positive, or it is not.
-#[derive(Clone, Copy)]
-pub enum Closed {
-    Positive(Mode),
-    NotPositive,
-}
-
 // ---- what the searches of an objective have in common
 
 // The precision and the determinant of an accepted omega; without an inverse all are 0.
@@ -144,8 +136,8 @@ fn fit_2d(setup: Setup, theta: Pair) -> Fit
         [setup.omega10, setup.omega11],
     ];
     match matrix::inverse_positive(omega) {
-        InversePositive::Exists(det) => fit_with(setup, theta, matrix::inverse(omega, det), det),
-        InversePositive::None => fit_with(setup, theta, [[0.0, 0.0], [0.0, 0.0]], 0.0),
+        Some(det) => fit_with(setup, theta, matrix::inverse(omega, det), det),
+        None => fit_with(setup, theta, [[0.0, 0.0], [0.0, 0.0]], 0.0),
     }
 }
 

@@ -3,29 +3,29 @@
 ghost use Rattle.std.specs.Prelude.{◌≡◌};
 ghost use Rattle.search.specs.Subjects.{closed1, closed2, closed_by, finished, objective_of};
 
-use super::{Closed, Fit, Halted, Mode, Place, Progress, Step, Tally};
-use matrix::{InversePositive, Pair};
+use super::{Fit, Halted, Mode, Place, Progress, Step, Tally};
+use matrix::Pair;
 use mode::population_focei::Conditional;
 use mode_2d::population_focei_2d::Conditional2;
 
 // ---- a mode
 
 // With one effect: the curvature at the mode (check 16), and what the mode adds to the objective.
-fn closed_1d(fit: Fit, best: Conditional, rows: u32) -> Closed
+fn closed_1d(fit: Fit, best: Conditional, rows: u32) -> Option<Mode>
     ensures { result ≡ closed1 fit best rows }
 {
     let omega = fit.omega;
     let curvature = 1.0 / omega + best.information;
     if float64::is_nonfinite(curvature) {
-        return Closed::NotPositive;
+        return None;
     }
     if curvature <= 0.0 {
-        return Closed::NotPositive;
+        return None;
     }
     let term = 2.0 * best.nll - rows as f64 * likelihood::population_focei::LOG_2PI
         + best.eta * best.eta / omega
         + libm::log(omega * curvature);
-    Closed::Positive(Mode {
+    Some(Mode {
         eta: Pair {
             first: best.eta,
             second: 0.0,
@@ -36,31 +36,31 @@ fn closed_1d(fit: Fit, best: Conditional, rows: u32) -> Closed
 }
 
 // With two effects: the curvature at the mode (check 16), and what the mode adds to the objective.
-fn closed_2d(fit: Fit, best: Conditional2, rows: u32) -> Closed
+fn closed_2d(fit: Fit, best: Conditional2, rows: u32) -> Option<Mode>
     ensures { result ≡ closed2 fit best rows }
 {
     let mode = best.eta;
     let curvature = mode_2d::population_focei_2d::curvature(fit.precision, best.information);
     match matrix::inverse_positive(curvature) {
-        InversePositive::Exists(det_curvature) => {
+        Some(det_curvature) => {
             let eta = [best.eta.first, best.eta.second];
             let precision = matrix::array_of(fit.precision);
             let term = 2.0 * best.nll - rows as f64 * likelihood::population_focei::LOG_2PI
                 + matrix::dot(eta, matrix::product(precision, eta))
                 + libm::log(fit.det_omega * det_curvature);
-            Closed::Positive(Mode {
+            Some(Mode {
                 eta: mode,
                 nll: best.nll,
                 term,
             })
         }
-        InversePositive::None => Closed::NotPositive,
+        None => None,
     }
 }
 
 // Check 16 of a search's mode, its best point, and what the mode adds to the objective, for a subject of so
 // many rows: the curvature and the term of `ofv` in the source's `population`.
-pub fn closed_by(fit: Fit, progress: Progress, rows: u32) -> Closed
+pub fn closed_by(fit: Fit, progress: Progress, rows: u32) -> Option<Mode>
     ensures { result ≡ closed_by fit progress rows }
 {
     let search = progress.search;

@@ -7,7 +7,7 @@ ghost use Rattle.search.specs.Subjects.{key1, key2, key_of, sums_of, terms_of, a
 use super::{Calls, Fit, Halted, Place, Progress, Step, Tally};
 use cache::{CacheKey, CachedTerms};
 use matrix::{Matrix, Pair};
-use subject::{AdditiveSd, IndividualValues, Sums};
+use subject::Sums;
 
 // ---- kept evaluations
 
@@ -20,8 +20,8 @@ fn key_1d(fit: Fit, subject: usize, eta: Pair) -> CacheKey
     let mut has_additive = 0;
     let mut additive = 0;
     match additive_sd {
-        AdditiveSd::Own => {}
-        AdditiveSd::Override(sd) => {
+        None => {}
+        Some(sd) => {
             has_additive = 1;
             additive = float64::to_word(sd);
         }
@@ -131,14 +131,14 @@ pub fn ask(fit: Fit, progress: Progress, tally: Tally, eta: Pair) -> Halted
     if tally.calls.0 < fit.max_evaluations {
         let raised = counted(tally);
         match subject::individual_values(fit.theta, eta, fit.effects) {
-            IndividualValues::Valid(individual) => {
+            Some(individual) => {
                 return Halted {
                     progress: awaiting(progress, individual),
                     tally: raised,
                     step: Step::Asked(eta, individual),
                 };
             }
-            IndividualValues::Invalid => {
+            None => {
                 return super::refused(progress, raised, 7, subject);
             }
         }

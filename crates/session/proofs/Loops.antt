@@ -1,15 +1,11 @@
 -- The loop over the requests with what the searches have in common at hand: where that is the objective's own, it is the machine's, and so
 -- is the second part of a reply. Assumes nothing.
+use Rattle.std.specs.Prelude.{Err, Ok}
 use mathlib.Core.Path.{◌≡◌, refl, sym, ap, ◌∙◌}
 use mathlib.Core.List.{List}
 use Prim.Native.Nat.{ℕ, zero, suc}
 use Rattle.matrix.specs.declared.Pair.{Pair}
-use Rattle.subject.specs.Subject.{finish}
-use Rattle.subject.specs.declared.Check.{Check}
-use Rattle.subject.specs.declared.Evaluation.{Evaluation}
-use Rattle.subject.specs.declared.Evaluation.TheVariants as E
-use Rattle.setup.specs.declared.Admission.{Admission}
-use Rattle.setup.specs.declared.Admission.TheVariants as A
+use Rattle.subject.specs.Subject.{finish, Evaluation}
 use Rattle.setup.specs.declared.Lent.{Lent}
 use Rattle.setup.specs.declared.Parameters.{Parameters}
 use Rattle.setup.specs.declared.Setup.{Setup}
@@ -26,6 +22,10 @@ use Rattle.session.specs.Calls.{run, run_in, entered, entered_in, awaited_for, a
 use Rattle.session.specs.Session.{Held, held, fuel, when_admitted, over, replied, held_by, turn_held}
 use Rattle.session.specs.declared.Awaited.{Awaited}
 use Rattle.session.specs.declared.State.{State}
+use Rattle.subject.specs.declared.EvaluationError.TheVariants as E
+use Rattle.setup.specs.declared.AdmissionError.TheVariants as A
+use Rattle.subject.specs.Observations.{Check}
+use Rattle.setup.specs.Admission.{Admission}
 
 -- ---- the run: the machine's loop is the step's, with the parameters held
 module _ (parameters : Parameters) where
@@ -53,11 +53,11 @@ module _ (setup : Setup) (counts : List ℕ) where
   entered_own : (eta : Pair) (h : Held words) (w : List ℕ) (x : Evaluation) (a : Admission) → let m = when_admitted words h (replied words counts (fit_of setup h.parameters) eta h w x) a in
       entered_in (fit_of setup h.parameters) counts m ≡ entered setup counts m
   unfolding when_admitted replied over onward
-  entered_own eta h w (E.Running sums) A.Accepted = sym (run_held setup counts h.parameters _)
-  entered_own eta h w (E.Refused number) A.Accepted = refl
-  entered_own eta h w (E.RefusedAt number n) A.Accepted = refl
-  entered_own eta h w x (A.Refused number) = refl
-  entered_own eta h w x (A.Unsound at) = refl
+  entered_own eta h w (Ok sums) (Ok tt) = sym (run_held setup counts h.parameters _)
+  entered_own eta h w (Err (E.Refused number)) (Ok tt) = refl
+  entered_own eta h w (Err (E.RefusedAt number n)) (Ok tt) = refl
+  entered_own eta h w x (Err (A.Refused number)) = refl
+  entered_own eta h w x (Err (A.Unsound at)) = refl
 
   pub own_finish : (a : Awaited) (e : Evaluation) (h : Held words) → a.fit ≡ fit_of setup h.parameters → finish_reply counts a e h ≡ entered setup counts
       (when_admitted words h (replied words counts (fit_of setup h.parameters) a.eta h h.whole.work (finish e)) a.admission)

@@ -1,4 +1,5 @@
 -- The ways through the code: one law for each, over plain variables. Assumes nothing.
+use Rattle.std.specs.Prelude.{Err}
 use mathlib.Core.Path.{◌≡◌, refl, sym, ap, subst, ◌∙◌}
 use mathlib.Core.Bool.{Bool, true, false}
 use mathlib.Core.List.{List}
@@ -12,10 +13,7 @@ use Rattle.cache.specs.Cache.{order}
 use Rattle.mode.specs.declared.population_focei.Search.{Search}
 use Rattle.mode.specs.declared.population_focei.Stage.{Stage}
 use Rattle.mode_2d.specs.declared.population_focei_2d.Search2.{Search2}
-use Rattle.subject.specs.declared.Check.{Check}
-use Rattle.setup.specs.Admission.{checks, with_parameters}
-use Rattle.setup.specs.declared.Admission.{Admission}
-use Rattle.setup.specs.declared.Admission.TheVariants as A
+use Rattle.setup.specs.Admission.{checks, with_parameters, Admission}
 use Rattle.setup.specs.declared.Lent.{Lent}
 use Rattle.setup.specs.declared.Parameters.{Parameters}
 use Rattle.setup.specs.declared.Setup.{Setup}
@@ -26,6 +24,8 @@ use Rattle.population.specs.Population.{rows_of}
 use Rattle.session.specs.Calls.{first_state, stands, admit_objective, trial_by}
 use Rattle.session.specs.Session.{count_within, search_within, search_within2, is_placed, is_standing}
 use Rattle.session.specs.declared.State.{State}
+use Rattle.setup.specs.declared.AdmissionError.TheVariants as A
+use Rattle.subject.specs.Observations.{Check}
 
 -- ---- a stage by its count
 pub counted_at : {st v : Stage} (n : ℕ) → st ≡ v → count_within v n ≡ count_within st n
@@ -77,7 +77,7 @@ first_made setup e =
 
 -- ---- what lets a new objective in: 19, then 1 to 5; b is what `is_standing` answered
 module _ (setup : Setup) (counts : List ℕ) (lent : Lent) (check : Check) (parameters : Parameters) (state : State) (tally : Tally) where
-  pub objective_awaits : state.progress.awaits ≡ true → A.Refused 19 ≡ admit_objective setup counts lent check parameters state tally
+  pub objective_awaits : state.progress.awaits ≡ true → Err (A.Refused 19) ≡ admit_objective setup counts lent check parameters state tally
   unfolding admit_objective
   objective_awaits e = yes _ e refl
 
@@ -87,7 +87,7 @@ module _ (setup : Setup) (counts : List ℕ) (lent : Lent) (check : Check) (para
     unfolding admit_objective
     objective_checked t o d = no _ e (yes_of _ q t (d ∙ ap (λ (s : Setup). checks s counts lent check) o))
 
-    pub objective_unplaced : b ≡ false → A.Refused 19 ≡ admit_objective setup counts lent check parameters state tally
+    pub objective_unplaced : b ≡ false → Err (A.Refused 19) ≡ admit_objective setup counts lent check parameters state tally
     unfolding admit_objective
     objective_unplaced f = no _ e (no_of _ q f refl)
 

@@ -1,4 +1,5 @@
 -- The parts of a reply's admission, over plain values, put together. Assumes nothing.
+use Rattle.std.specs.Prelude.{Err, Ok}
 use mathlib.Core.Path.{◌≡◌, refl, sym, ap, ◌∙◌}
 use mathlib.Core.Bool.{Bool, true, false}
 use mathlib.Core.List.{List}
@@ -6,14 +7,10 @@ use Prim.Native.Nat.{ℕ, ◌+◌}
 use Rattle.float64.specs.Pick.{yes, no, yes_of, no_of}
 use Rattle.matrix.specs.declared.Pair.{Pair}
 use Rattle.words.specs.Words.{smaller}
-use Rattle.subject.specs.Subject.{begin}
-use Rattle.subject.specs.declared.Check.{Check}
-use Rattle.subject.specs.declared.Evaluation.{Evaluation}
+use Rattle.subject.specs.Subject.{begin, Evaluation}
 use Rattle.subject.specs.declared.Position.{Position}
 use Rattle.subject.specs.declared.Trial.{Trial}
-use Rattle.setup.specs.Admission.{checks, with_parameters}
-use Rattle.setup.specs.declared.Admission.{Admission}
-use Rattle.setup.specs.declared.Admission.TheVariants as A
+use Rattle.setup.specs.Admission.{checks, with_parameters, Admission}
 use Rattle.setup.specs.declared.Lent.{Lent}
 use Rattle.setup.specs.declared.Setup.{Setup}
 use Rattle.setup.specs.SubjectChecks.{subject_checks}
@@ -29,6 +26,8 @@ use Rattle.session.specs.declared.Admitted.{Admitted}
 use Rattle.session.specs.declared.Awaited.{Awaited}
 use Rattle.session.specs.declared.State.{State}
 use Rattle.session.specs.SubjectReply.{subject_awaited, admit_subject_reply}
+use Rattle.setup.specs.declared.AdmissionError.TheVariants as A
+use Rattle.subject.specs.Observations.{Check}
 
 -- ---- the point that is awaited; b is what `is_standing` answered
 module _ (setup : Setup) (counts : List ℕ) (n : ℕ) (fit : Fit) (state : State) (tally : Tally) where
@@ -84,16 +83,16 @@ module _ (setup : Setup) (trial : Trial) (reply : List ℕ) (awaited : Awaited) 
   abbrev over : Admission → Admitted
   over a = admitted_over setup trial reply awaited from to a
 
-  pub begun : {e : Evaluation} → v ≡ A.Accepted → e ≡ begin reply setup.width setup.effects setup.output_budget
+  pub begun : {e : Evaluation} → v ≡ (Ok tt) → e ≡ begin reply setup.width setup.effects setup.output_budget
       → record { awaited = awaited; from = from; to = to; evaluation = e; trial = trial } ≡ over awaited.admission
   unfolding admitted_over
   begun a b = (λ i. record { awaited = awaited; from = from; to = to; evaluation = b i; trial = trial }) ∙ ap over (sym (t ∙ a))
 
-  pub refused_over : {number : ℕ} {r : Admitted} → v ≡ A.Refused number → r ≡ nothing_admitted awaited trial number → r ≡ over awaited.admission
+  pub refused_over : {number : ℕ} {r : Admitted} → v ≡ Err (A.Refused number) → r ≡ nothing_admitted awaited trial number → r ≡ over awaited.admission
   unfolding admitted_over
   refused_over a q = q ∙ ap over (sym (t ∙ a))
 
-  pub unsound_over : {at : Position} {r : Admitted} → v ≡ A.Unsound at → r ≡ nothing_admitted awaited trial 4 → r ≡ over awaited.admission
+  pub unsound_over : {at : Position} {r : Admitted} → v ≡ Err (A.Unsound at) → r ≡ nothing_admitted awaited trial 4 → r ≡ over awaited.admission
   unfolding admitted_over
   unsound_over a q = q ∙ ap over (sym (t ∙ a))
 

@@ -1,26 +1,20 @@
 -- The calls as the code has them, over the lent words of the kept evaluations.
-use Rattle.std.specs.Prelude.{Bool, List, [], ℕ, ◌+◌, pos, length, Float}
+use Rattle.std.specs.Prelude.{Bool, List, [], ℕ, ◌+◌, pos, length, Float, Err, None, Ok}
 use Rattle.std.specs.Float.{binary64}
 use Rattle.std.specs.Float.Ieee.{of_int}
 use Rattle.float64.specs.Arithmetic.{◌-ᶠ◌, ◌/ᶠ◌, word, one}
 use Rattle.float64.specs.Pick.{pick}
 use Rattle.matrix.specs.declared.Pair.{Pair}
 use Rattle.words.specs.Words.{smaller}
-use Rattle.subject.specs.Observations.{Verdict}
+use Rattle.subject.specs.Observations.{Verdict, Check}
 use Rattle.subject.specs.Observations.Verdict.{passes, fails, fails_at}
-use Rattle.subject.specs.Subject.{begin, finish}
-use Rattle.subject.specs.declared.AdditiveSd.TheVariants.{Own}
-use Rattle.subject.specs.declared.Check.{Check}
-use Rattle.subject.specs.declared.Evaluation.{Evaluation}
-use Rattle.subject.specs.declared.Evaluation.TheVariants as E
+use Rattle.subject.specs.Subject.{begin, finish, Evaluation}
 use Rattle.subject.specs.declared.Trial.{Trial}
 use Rattle.work.specs.Work.{block}
-use Rattle.setup.specs.Admission.{verdict, checks, with_parameters}
+use Rattle.setup.specs.Admission.{verdict, checks, with_parameters, Admission}
 use Rattle.setup.specs.declared.Lent.{Lent}
 use Rattle.setup.specs.declared.Parameters.{Parameters}
 use Rattle.setup.specs.declared.Setup.{Setup}
-use Rattle.setup.specs.declared.Admission.{Admission}
-use Rattle.setup.specs.declared.Admission.TheVariants as A
 use Rattle.cache.specs.declared.CacheOrder.{CacheOrder}
 use Rattle.search.specs.Subjects.{fit_in, fit_of, wanted_by, idle, begin_subject}
 use Rattle.search.specs.declared.Fit.{Fit}
@@ -37,10 +31,11 @@ use Rattle.population.specs.Population.{rows_of, warm_of, whole_of, turn, spent}
 use Rattle.session.specs.Session.{Held, held, fuel, is_standing, when_admitted, opened, replied, turn_held}
 use Rattle.session.specs.declared.State.{State}
 use Rattle.session.specs.declared.Called.{Called}
-use Rattle.session.specs.declared.Opening.TheVariants as Opens
 use Rattle.session.specs.declared.Begun.{Begun}
 use Rattle.session.specs.declared.Awaited.{Awaited}
 use Rattle.session.specs.declared.Admitted.{Admitted}
+use Rattle.subject.specs.declared.EvaluationError.TheVariants as E
+use Rattle.setup.specs.declared.AdmissionError.TheVariants as A
 
 -- a state with the tally and the lent words
 abbrev pub held_of : State → Tally → List ℕ → List ℕ → List ℕ → List ℕ → Held words
@@ -109,12 +104,12 @@ begun_with r cache work warm = record { begun = r; cache = cache; work = work; w
 abbrev pub opening_judged : Setup → List ℕ → Lent → Tally → List ℕ → List ℕ → List ℕ → List ℕ → Verdict → Setting
 opening_judged setup counts lent tally cache work warm results passes =
     let h = opened words setup counts lent results in
-    begun_with (record { opening = Opens.Opened (state_of h); tally = h.whole.tally }) h.whole.kept.words h.whole.work
+    begun_with (record { opening = Ok (state_of h); tally = h.whole.tally }) h.whole.kept.words h.whole.work
     h.whole.warm
 opening_judged setup counts lent tally cache work warm results (fails number) =
-    begun_with (record { opening = Opens.Refused number At.Nowhere; tally = tally }) cache work warm
+    begun_with (record { opening = Err (record { number = number; place = At.Nowhere }); tally = tally }) cache work warm
 opening_judged setup counts lent tally cache work warm results (fails_at number at) =
-    begun_with (record { opening = Opens.Refused number (At.Observation at.subject at.observation); tally = tally }) cache work warm
+    begun_with (record { opening = Err (record { number = number; place = At.Observation at.subject at.observation }); tally = tally }) cache work warm
 
 unfoldable pub opening : Setup → List ℕ → Lent → Tally → List ℕ → List ℕ → List ℕ → List ℕ → Admission → Setting
 opening setup counts lent tally cache work warm results admission =
@@ -140,9 +135,9 @@ stands setup counts n state tally = is_standing setup counts n tally (order_rows
 
 unfoldable pub admit_objective : Setup → List ℕ → Lent → Check → Parameters → State → Tally → Admission
 admit_objective setup counts lent check parameters state tally =
-    pick state.progress.awaits (A.Refused 19)
+    pick state.progress.awaits (Err (A.Refused 19))
     (pick (stands setup counts lent.observations state tally) (checks (with_parameters setup parameters) counts lent check)
-    (A.Refused 19))
+    (Err (A.Refused 19)))
 
 -- ---- a reply, and its failure
 
@@ -154,7 +149,7 @@ awaited_point setup counts n fit state tally =
     (Wants.Refused 19)
 
 abbrev pub unawaited : Fit → Awaited
-unawaited fit = record { admission = A.Refused 19; eta = record { first = word 0; second = word 0 }; fit = fit }
+unawaited fit = record { admission = Err (A.Refused 19); eta = record { first = word 0; second = word 0 }; fit = fit }
 
 -- what the checks of what is lent found, where a point is wanted; else 19
 unfoldable pub awaited_for : Fit → Admission → Wanted → Awaited
@@ -179,14 +174,14 @@ trial_by setup state rows = record {
 
 -- no observation is added
 abbrev pub nothing_admitted : Awaited → Trial → ℕ → Admitted
-nothing_admitted awaited trial number = record { awaited = awaited; from = 0; to = 0; evaluation = E.Refused number; trial = trial }
+nothing_admitted awaited trial number = record { awaited = awaited; from = 0; to = 0; evaluation = Err (E.Refused number); trial = trial }
 
 -- a reply where the lent words are no state
 abbrev pub unadmitted : Setup → Admitted
 unadmitted setup =
     let zero : Pair = record { first = word 0; second = word 0 } in
     nothing_admitted (unawaited (fit_in setup zero))
-    (record { individual = zero; additive_sd = Own; width = 0; effects = 0; block = 0 }) 19
+    (record { individual = zero; additive_sd = None; width = 0; effects = 0; block = 0 }) 19
 
 -- what is begun with a reply that is accepted, over the observations lent from number `from` up to, but without, `to`
 abbrev pub judged_over : Setup → Trial → List ℕ → Awaited → ℕ → ℕ → Verdict → Admitted

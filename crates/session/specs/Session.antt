@@ -1,6 +1,6 @@
 -- A session's calls, over any store of kept evaluations S: new objective, reply, failure. The setup, the counts and the observations are
 -- the same for all of them.
-use Rattle.std.specs.Prelude.{Bool, false, List, ℕ, ◌+◌, ltb, eqb, take, drop, length}
+use Rattle.std.specs.Prelude.{Bool, false, List, ℕ, ◌+◌, ltb, eqb, take, drop, length, Err, Ok}
 use Rattle.float64.specs.Arithmetic.{word}
 use Rattle.float64.specs.Pick.{pick}
 use Rattle.matrix.specs.declared.Pair.{Pair}
@@ -9,20 +9,16 @@ use Rattle.mode.specs.declared.population_focei.Stage.TheVariants.{Grid, Warm, S
 use Rattle.mode.specs.declared.population_focei.Search.{Search}
 use Rattle.mode_2d.specs.declared.population_focei_2d.Search2.{Search2}
 use Rattle.likelihood.specs.declared.population_focei.Observation.{Observation}
-use Rattle.subject.specs.Observations.{Verdict, first_check, check_observations}
+use Rattle.subject.specs.Observations.{Verdict, first_check, check_observations, Check}
 use Rattle.subject.specs.Observations.Verdict.{passes, fails, fails_at}
-use Rattle.subject.specs.Subject.{Evaluating, evaluating, begin, add_observations, finish}
+use Rattle.subject.specs.Subject.{Evaluating, evaluating, begin, add_observations, finish, Evaluation}
 use Rattle.subject.specs.declared.Trial.{Trial}
-use Rattle.subject.specs.declared.Check.{Check}
-use Rattle.subject.specs.declared.Evaluation.{Evaluation}
-use Rattle.subject.specs.declared.Evaluation.TheVariants as E
 use Rattle.words.specs.Words.{zeros}
 use Rattle.work.specs.Work.{block}
-use Rattle.setup.specs.Admission.{verdict, checks, with_parameters}
+use Rattle.setup.specs.Admission.{verdict, checks, with_parameters, Admission}
 use Rattle.setup.specs.declared.Setup.{Setup}
 use Rattle.setup.specs.declared.Parameters.{Parameters}
 use Rattle.setup.specs.declared.Lent.{Lent}
-use Rattle.setup.specs.declared.Admission.{Admission}
 use Rattle.search.specs.Subjects.{fit_of, one_of, two_of, wanted_by, idle, begin_subject}
 use Rattle.search.specs.declared.Tally.{Tally}
 use Rattle.search.specs.declared.Fit.{Fit}
@@ -36,6 +32,7 @@ use Rattle.search.specs.declared.Wanted.TheVariants as Wants
 use Rattle.machine.specs.Machine.{Moved, on, halt, Machine}
 use Rattle.population.specs.Kept.{Store}
 use Rattle.population.specs.Population.{rows_of, warm_of, Whole, whole_of, turn, spent, receive}
+use Rattle.subject.specs.declared.EvaluationError.TheVariants as E
 
 -- all that a call takes and gives: the objective's parameters, where it stands, the tally, what is kept, and the lent words
 pub record Held (S : Store) : Type 0 where
@@ -125,12 +122,12 @@ module _ (S : Store) where
 
   -- a reply: the end of the evaluation of the point eta, with the work words that it has written
   unfoldable pub replied : List ℕ → Fit → Pair → Held S → List ℕ → Evaluation → Moved (Held S) Step
-  replied counts fit eta h work (E.Running sums) =
+  replied counts fit eta h work (Ok sums) =
       let w = h.whole in
       let r = receive S fit counts w.progress w.tally eta sums w.kept work in
       on (held S h.parameters (whole_of S r.progress r.tally r.kept r.work w.warm w.results))
-  replied counts fit eta h work (E.Refused number) = over number (At.Subject h.whole.progress.subject) h
-  replied counts fit eta h work (E.RefusedAt number n) = over number (At.Observation h.whole.progress.subject n) h
+  replied counts fit eta h work (Err (E.Refused number)) = over number (At.Subject h.whole.progress.subject) h
+  replied counts fit eta h work (Err (E.RefusedAt number n)) = over number (At.Observation h.whole.progress.subject n) h
 
   unfoldable pub held_by : Parameters → Moved (Whole S) Step → Moved (Held S) Step
   held_by parameters (on w) = on (held S parameters w)

@@ -2,7 +2,6 @@
 -- observations are added to.
 use Rattle.std.specs.Prelude.{List, ℕ}
 use Rattle.work.specs.Work.{most_rows}
-use Rattle.subject.specs.declared.Check.{Check}
 use Rattle.setup.specs.Admission.{with_parameters}
 use Rattle.setup.specs.declared.Lent.{Lent}
 use Rattle.setup.specs.declared.Setup.{Setup}
@@ -14,6 +13,7 @@ use Rattle.session.specs.Calls.{awaited_point, awaited_for, admitted_over, trial
 use Rattle.session.specs.declared.State.{State}
 use Rattle.session.specs.declared.Awaited.{Awaited}
 use Rattle.session.specs.declared.Admitted.{Admitted}
+use Rattle.subject.specs.Observations.{Check}
 
 -- the positions are within the most observations that there can be, since not all are lent
 unfoldable pub subject_awaited : Setup → List ℕ → Lent → Check → State → Tally → Awaited

@@ -13,8 +13,8 @@ use matrix::Pair;
 use mode::population_focei::{Search, Stage};
 use mode_2d::population_focei_2d::Search2;
 use search::{Fit, Progress, Tally, Wanted};
-use setup::{Admission, Lent, Parameters, Setup};
-use subject::{AdditiveSd, Check, Evaluation, Trial};
+use setup::{Admission, AdmissionError, Lent, Parameters, Setup};
+use subject::{Check, EvaluationError, Trial};
 
 // ---- 19
 
@@ -104,13 +104,13 @@ pub fn admit_objective(
     ensures { result ≡ admit_objective setup counts.now lent check parameters state tally }
 {
     if state.progress.awaits {
-        return Admission::Refused(19);
+        return Err(AdmissionError::Refused(19));
     }
     if is_standing(setup, counts, lent.observations, state, tally) {
         let own = setup::with_parameters(setup, parameters);
         return setup::checks::checks(own, counts, lent, check);
     }
-    Admission::Refused(19)
+    Err(AdmissionError::Refused(19))
 }
 
 // ---- a reply, and its failure
@@ -155,7 +155,7 @@ fn unawaited(fit: Fit) -> Awaited
     ensures { result ≡ unawaited fit }
 {
     Awaited {
-        admission: Admission::Refused(19),
+        admission: Err(AdmissionError::Refused(19)),
         eta: Pair {
             first: 0.0,
             second: 0.0,
@@ -227,7 +227,7 @@ fn admitted_over(
 {
     let admission = awaited.admission;
     match admission {
-        Admission::Accepted => {
+        Ok(()) => {
             let evaluation = subject::begin(reply, setup.width, setup.effects, setup.output_budget);
             Admitted {
                 awaited,
@@ -237,8 +237,8 @@ fn admitted_over(
                 trial,
             }
         }
-        Admission::Refused(number) => nothing_admitted(awaited, trial, number),
-        Admission::Unsound(_) => nothing_admitted(awaited, trial, 4),
+        Err(AdmissionError::Refused(number)) => nothing_admitted(awaited, trial, number),
+        Err(AdmissionError::Unsound(_)) => nothing_admitted(awaited, trial, 4),
     }
 }
 
@@ -293,7 +293,7 @@ fn nothing_admitted(awaited: Awaited, trial: Trial, number: u32) -> Admitted
         awaited,
         from: 0,
         to: 0,
-        evaluation: Evaluation::Refused(number),
+        evaluation: Err(EvaluationError::Refused(number)),
         trial,
     }
 }
@@ -309,7 +309,7 @@ pub fn unadmitted(setup: Setup) -> Admitted
     };
     let trial = Trial {
         individual: zero,
-        additive_sd: AdditiveSd::Own,
+        additive_sd: None,
         width: 0,
         effects: 0,
         block: 0,

@@ -34,17 +34,17 @@ pub struct Called {
     pub step: Step,
 }
 
-// What setup answers: the state of the session that it opened, or a refusal, which alters nothing.
+// Why setup is refused, which alters nothing: document 01's number and its place.
 #[derive(Clone, Copy)]
-pub enum Opening {
-    Opened(State),
-    Refused(u32, Place),
+pub struct Refusal {
+    pub number: u32,
+    pub place: Place,
 }
 
-// What setup gives back: its answer and the tally.
+// What setup gives back: the state of the session that it opened, or a refusal; and the tally.
 #[derive(Clone, Copy)]
 pub struct Begun {
-    pub opening: Opening,
+    pub opening: Result<State, Refusal>,
     pub tally: Tally,
 }
 

@@ -1,4 +1,5 @@
 -- The ways through the code: one law for each, over plain variables. Assumes nothing.
+use Rattle.std.specs.Prelude.{Err, None, Ok}
 use mathlib.Core.Path.{◌≡◌, refl, sym, ap, ◌∙◌}
 use mathlib.Core.Bool.{Bool}
 use mathlib.Core.List.{List}
@@ -6,16 +7,11 @@ use Prim.Native.Nat.{ℕ}
 use lib.ListN.{length}
 use Rattle.float64.specs.Pick.{pick, pick_through}
 use Rattle.matrix.specs.declared.Pair.{Pair}
-use Rattle.subject.specs.Subject.{finish}
-use Rattle.subject.specs.declared.Check.{Check}
-use Rattle.subject.specs.declared.Evaluation.{Evaluation}
-use Rattle.subject.specs.declared.Evaluation.TheVariants as E
+use Rattle.subject.specs.Subject.{finish, Evaluation}
 use Rattle.subject.specs.declared.Position.{Position}
 use Rattle.subject.specs.declared.Sums.{Sums}
 use Rattle.words.specs.Words.{zeros}
-use Rattle.setup.specs.Admission.{checks, with_parameters}
-use Rattle.setup.specs.declared.Admission.{Admission}
-use Rattle.setup.specs.declared.Admission.TheVariants as A
+use Rattle.setup.specs.Admission.{checks, with_parameters, Admission}
 use Rattle.setup.specs.declared.Lent.{Lent}
 use Rattle.setup.specs.declared.Parameters.{Parameters}
 use Rattle.setup.specs.declared.Setup.{Setup}
@@ -37,7 +33,6 @@ use Rattle.population.specs.Population.{Whole, whole, turn, spent, receive}
 use Rattle.population.specs.Answers.{KeptWith, kept_with, keep}
 use Rattle.population.specs.declared.answers.Kept.{Kept}
 use Rattle.population.specs.Through.{taken}
-use Rattle.population.specs.declared.kept_points.InHand.TheVariants as Hand
 use Rattle.population.specs.Steps.{whole_from}
 use Rattle.population.proofs.StepsPaths.{begun_own}
 use Rattle.session.specs.Calls.{held_of, called, run_in, entered, entered_in, lent_by, refused_as, ended_as, first_state, Setting, begun_with, opening, opened_by, start_of, stands, admit_objective}
@@ -46,8 +41,10 @@ use Rattle.session.specs.Session.{Held, held, fuel, no_tally, lent_of, when_admi
 use Rattle.session.proofs.Loops.{run_held}
 use Rattle.session.specs.declared.Awaited.{Awaited}
 use Rattle.session.specs.declared.Called.{Called}
-use Rattle.session.specs.declared.Opening.TheVariants as Opens
 use Rattle.session.specs.declared.State.{State}
+use Rattle.subject.specs.declared.EvaluationError.TheVariants as E
+use Rattle.setup.specs.declared.AdmissionError.TheVariants as A
+use Rattle.subject.specs.Observations.{Check}
 
 -- the loop as the code's step has it
 pub ran_in : (fit : Fit) (counts : List ℕ) (parameters : Parameters) (w : Whole words) {r : Ran (Whole words) Step} → r ≡ loop (turn words fit counts) spent fuel w
@@ -73,16 +70,16 @@ module _ (setup : Setup) (counts : List ℕ) (n : ℕ) (check : Check) (tally : 
       q ∙ ap (opening setup counts (lent_by n (length cache) (length work) (length warm) (length results)) tally cache work warm results)
       (sym t ∙ ea ∙ ap (λ (l : Lent). checks setup counts l check) el)
 
-  pub setup_opens : {c w m : List ℕ} {s : State} → a ≡ A.Accepted → c ≡ zeros (length cache) → w ≡ zeros (length work) → m ≡ zeros (length warm) → s ≡ first_state setup
-      → Set (begun_with (record { opening = Opens.Opened s; tally = no_tally }) c w m)
+  pub setup_opens : {c w m : List ℕ} {s : State} → a ≡ (Ok tt) → c ≡ zeros (length cache) → w ≡ zeros (length work) → m ≡ zeros (length warm) → s ≡ first_state setup
+      → Set (begun_with (record { opening = Ok s; tally = no_tally }) c w m)
   unfolding opening
-  setup_opens t ec ew em es = opening_by t (λ i. begun_with (record { opening = Opens.Opened (es i); tally = no_tally }) (ec i) (ew i) (em i))
+  setup_opens t ec ew em es = opening_by t (λ i. begun_with (record { opening = Ok (es i); tally = no_tally }) (ec i) (ew i) (em i))
 
-  pub setup_refused : {number : ℕ} → a ≡ A.Refused number → Set (begun_with (record { opening = Opens.Refused number At.Nowhere; tally = tally }) cache work warm)
+  pub setup_refused : {number : ℕ} → a ≡ Err (A.Refused number) → Set (begun_with (record { opening = Err (record { number = number; place = At.Nowhere }); tally = tally }) cache work warm)
   unfolding opening
   setup_refused t = opening_by t refl
 
-  pub setup_unsound : {at : Position} → a ≡ A.Unsound at → Set (begun_with (record { opening = Opens.Refused 4 (At.Observation at.subject at.observation); tally = tally }) cache work warm)
+  pub setup_unsound : {at : Position} → a ≡ Err (A.Unsound at) → Set (begun_with (record { opening = Err (record { number = 4; place = At.Observation at.subject at.observation }); tally = tally }) cache work warm)
   unfolding opening
   setup_unsound t = opening_by t refl
 
@@ -95,15 +92,15 @@ module _ (f : Held words → Ran (Held words) Step) (h : Held words) (go : Moved
   admitted_by : {v : Admission} {z : Ran (Held words) Step} → a ≡ v → z ≡ onward (when_admitted words h go v) f → z ≡ onward m f
   admitted_by t q = q ∙ ap (λ (x : Admission). onward (when_admitted words h go x) f) (sym t) ∙ ap (λ (x : Moved (Held words) Step). onward x f) (sym em)
 
-  pub lets_in : {z : Ran (Held words) Step} → a ≡ A.Accepted → z ≡ onward go f → z ≡ onward m f
+  pub lets_in : {z : Ran (Held words) Step} → a ≡ (Ok tt) → z ≡ onward go f → z ≡ onward m f
   unfolding when_admitted
   lets_in t q = admitted_by t q
 
-  pub keeps_out : {number : ℕ} → a ≡ A.Refused number → ran (Refused number At.Nowhere) h ≡ onward m f
+  pub keeps_out : {number : ℕ} → a ≡ Err (A.Refused number) → ran (Refused number At.Nowhere) h ≡ onward m f
   unfolding when_admitted onward
   keeps_out t = admitted_by t refl
 
-  pub unsound_out : {at : Position} → a ≡ A.Unsound at → ran (Refused 4 (At.Observation at.subject at.observation)) h ≡ onward m f
+  pub unsound_out : {at : Position} → a ≡ Err (A.Unsound at) → ran (Refused 4 (At.Observation at.subject at.observation)) h ≡ onward m f
   unfolding when_admitted onward
   unsound_out t = admitted_by t refl
 
@@ -125,8 +122,8 @@ module _ (setup : Setup) (counts : List ℕ) (n : ℕ) (check : Check) (paramete
       let f : Admission → Moved (Held words) Step = when_admitted words h (on (begun words setup counts parameters h.whole)) in
       let checked = checks (with_parameters setup parameters) counts (lent_of words setup n h.whole) check in
       let standing = stands setup counts n state tally in
-      ap (pick state.progress.awaits (unaltered words 19 At.Nowhere h)) (through_pick f standing checked (A.Refused 19))
-      ∙ through_pick f state.progress.awaits (A.Refused 19) (pick standing checked (A.Refused 19))
+      ap (pick state.progress.awaits (unaltered words 19 At.Nowhere h)) (through_pick f standing checked (Err (A.Refused 19)))
+      ∙ through_pick f state.progress.awaits (Err (A.Refused 19)) (pick standing checked (Err (A.Refused 19)))
 
   pub objective_enters : {lent : Lent} {a : Admission} → lent ≡ lent_by n (length cache) (length work) (length warm) (length results) → a ≡ admit_objective setup counts lent check parameters
       state tally
@@ -137,12 +134,12 @@ module _ (setup : Setup) (counts : List ℕ) (n : ℕ) (check : Check) (paramete
 
   -- the start, as the code makes it, with nothing in hand
   pub objective_starts : {s : State} {fit : Fit} {z : Ran (Held words) Step} → fit ≡ fit_of setup parameters → s ≡ start_of parameters warm setup.effects state.order
-      → z ≡ run_in fit counts (held words s.parameters (whole_from fit counts Hand.Nothing s.progress tally (cache_of cache s.order) work warm results))
+      → z ≡ run_in fit counts (held words s.parameters (whole_from fit counts None s.progress tally (cache_of cache s.order) work warm results))
       → z ≡ entered setup counts (on (begun words setup counts parameters h.whole))
   unfolding begun start_of onward taken
   objective_starts ef es q =
       q
-      ∙ (λ i. run_in (ef i) counts (held words (es i).parameters (whole_from (ef i) counts Hand.Nothing (es i).progress tally (cache_of cache (es i).order) work warm results)))
+      ∙ (λ i. run_in (ef i) counts (held words (es i).parameters (whole_from (ef i) counts None (es i).progress tally (cache_of cache (es i).order) work warm results)))
       ∙ ap (λ (p : Progress). run_in (fit_of setup parameters) counts (held words parameters (whole p tally (cache_of cache state.order) work warm results)))
       (sym (begun_own (fit_of setup parameters) setup.effects _ _ _ _ _ (fit_effects setup parameters)))
       ∙ sym (run_held setup counts parameters (begun words setup counts parameters h.whole).whole)
@@ -215,23 +212,23 @@ module _ (fit : Fit) (counts : List ℕ) (eta : Pair) (e : Evaluation) (state : 
   follows_by t q = q ∙ ap (λ (y : Evaluation). entered_in fit counts (replied words counts fit eta here work y)) (sym t ∙ ex)
 
   -- k and c are the kept evaluations with the reply, which is in hand then
-  pub follows_sums : {sums : Sums} (k : Kept) {c : List ℕ} {z : Ran (Held words) Step} → x ≡ E.Running sums
+  pub follows_sums : {sums : Sums} (k : Kept) {c : List ℕ} {z : Ran (Held words) Step} → x ≡ Ok sums
       → kept_with k c ≡ keep fit counts state.progress.subject tally eta sums (cache_of cache state.order) work
-      → z ≡ run_in fit counts (held words state.parameters (whole_from fit counts (Hand.Evaluated eta sums) state.progress k.tally (cache_of c k.order) work warm results))
+      → z ≡ run_in fit counts (held words state.parameters (whole_from fit counts (Some (record { eta = eta; sums = sums })) state.progress k.tally (cache_of c k.order) work warm results))
       → Follows z
   unfolding replied onward receive keep taken
   follows_sums {sums} k t ek q =
       follows_by t
       (q
-      ∙ ap (λ (y : KeptWith). run_in fit counts (held words state.parameters (whole_from fit counts (Hand.Evaluated eta sums) state.progress y.tally y.kept work warm results))) ek)
+      ∙ ap (λ (y : KeptWith). run_in fit counts (held words state.parameters (whole_from fit counts (Some (record { eta = eta; sums = sums })) state.progress y.tally y.kept work warm results))) ek)
 
-  pub follows_refusal : {number : ℕ} {r : Called} {w : List ℕ} → x ≡ E.Refused number → (r ≡ ended_as state tally number (At.Subject state.progress.subject)) × (w ≡ zeros
+  pub follows_refusal : {number : ℕ} {r : Called} {w : List ℕ} → x ≡ Err (E.Refused number) → (r ≡ ended_as state tally number (At.Subject state.progress.subject)) × (w ≡ zeros
       (length work)) → Follows
       (called r cache w warm results)
   unfolding replied
   follows_refusal {number} t (er, ew) = follows_by t (ended_called _ state tally number _ cache work warm results er ew)
 
-  pub follows_refusal_at : {number n : ℕ} {r : Called} {w : List ℕ} → x ≡ E.RefusedAt number n → (r ≡ ended_as state tally number (At.Observation state.progress.subject n)) ×
+  pub follows_refusal_at : {number n : ℕ} {r : Called} {w : List ℕ} → x ≡ Err (E.RefusedAt number n) → (r ≡ ended_as state tally number (At.Observation state.progress.subject n)) ×
       (w ≡ zeros (length work)) → Follows (called r cache w warm results)
   unfolding replied
   follows_refusal_at {number} t (er, ew) = follows_by t (ended_called _ state tally number _ cache work warm results er ew)
@@ -242,6 +239,6 @@ module _ (counts : List ℕ) (a : Awaited) (e : Evaluation) (h : Held words) whe
   unfolding finish_reply
   finish_enters = refl
 
-  pub finish_follows : {z : Ran (Held words) Step} → a.admission ≡ A.Accepted → z ≡ followed a.fit counts a.eta e h → z ≡ finish_reply counts a e h
+  pub finish_follows : {z : Ran (Held words) Step} → a.admission ≡ (Ok tt) → z ≡ followed a.fit counts a.eta e h → z ≡ finish_reply counts a e h
   unfolding followed
   finish_follows t q = lets_in (λ x. run_in a.fit counts x) h _ refl t q ∙ finish_enters

@@ -1,4 +1,5 @@
 -- The calls over a list of observations, put together from their parts: what the parts answered is the session's call. Assumes nothing.
+use Rattle.std.specs.Prelude.{Err, Float, Ok, Option}
 use mathlib.Core.Path.{◌≡◌, refl, sym, ap, subst, ◌∙◌}
 use mathlib.Core.Bool.{Bool, true, false}
 use mathlib.Core.List.{List}
@@ -12,18 +13,12 @@ use Rattle.float64.specs.Pick.{cases}
 use Rattle.matrix.specs.declared.Pair.{Pair}
 use Rattle.likelihood.specs.declared.population_focei.Observation.{Observation}
 use Rattle.words.specs.Words.{smaller}
-use Rattle.subject.specs.Observations.{first_check, check_observations}
-use Rattle.subject.specs.Subject.{Evaluating, evaluating, begin, add_observations, finish}
-use Rattle.subject.specs.declared.AdditiveSd.{AdditiveSd}
-use Rattle.subject.specs.declared.Check.{Check}
-use Rattle.subject.specs.declared.Evaluation.{Evaluation}
-use Rattle.subject.specs.declared.Evaluation.TheVariants as E
+use Rattle.subject.specs.Observations.{first_check, check_observations, Check}
+use Rattle.subject.specs.Subject.{Evaluating, evaluating, begin, add_observations, finish, Evaluation}
 use Rattle.subject.specs.declared.Trial.{Trial}
 use Rattle.words.specs.Words.{zeros}
 use Rattle.work.specs.Work.{block}
-use Rattle.setup.specs.Admission.{checks, with_parameters}
-use Rattle.setup.specs.declared.Admission.{Admission}
-use Rattle.setup.specs.declared.Admission.TheVariants as A
+use Rattle.setup.specs.Admission.{checks, with_parameters, Admission}
 use Rattle.setup.specs.declared.Lent.{Lent}
 use Rattle.setup.specs.declared.Parameters.{Parameters}
 use Rattle.setup.specs.declared.Setup.{Setup}
@@ -48,6 +43,8 @@ use Rattle.session.specs.declared.Admitted.{Admitted}
 use Rattle.session.specs.declared.Awaited.{Awaited}
 use Rattle.session.specs.declared.State.{State}
 use Rattle.session_calls.proofs.Paths.{awaited_enters}
+use Rattle.subject.specs.declared.EvaluationError.TheVariants as E
+use Rattle.setup.specs.declared.AdmissionError.TheVariants as A
 
 -- ---- all of a list, as a loop from its first to its last takes it
 all_of : (l : List Observation) → take (length l - 0) (drop 0 l) ≡ l
@@ -61,14 +58,14 @@ whole_check setup counts observations f e =
 
 -- ---- a case that cannot be
 is_accepted : Admission → Bool
-is_accepted A.Accepted = true
-is_accepted (A.Refused n) = false
-is_accepted (A.Unsound at) = false
+is_accepted (Ok tt) = true
+is_accepted (Err (A.Refused n)) = false
+is_accepted (Err (A.Unsound at)) = false
 
 never : {X : Type 0} → false ≡ true → X
 never e = absurd (subst T (sym e) tt)
 
-refused_never : {X : Type 0} (n : ℕ) → A.Refused n ≡ A.Accepted → X
+refused_never : {X : Type 0} (n : ℕ) → Err (A.Refused n) ≡ (Ok tt) → X
 unfolding is_accepted
 refused_never n e = never (ap is_accepted e)
 
@@ -87,13 +84,13 @@ standing_within setup counts n tally rows p =
     let Fits : Bool → Type 0 = λ b. b ≡ true → p.first + rows_of counts p.subject ≤ n in
     cases Fits (ltb setup.k tally.cached_rows.0) (λ _ e. never e) (λ _. cases Fits (ltb setup.k rows) (λ _ e. never e) (λ _ e. placed_within setup.effects counts n p e))
 
-awaited_within : (setup : Setup) (counts : List ℕ) (lent : Lent) (check : Check) (state : State) (tally : Tally) → (admit_awaited setup counts lent check state tally).admission ≡ A.Accepted
+awaited_within : (setup : Setup) (counts : List ℕ) (lent : Lent) (check : Check) (state : State) (tally : Tally) → (admit_awaited setup counts lent check state tally).admission ≡ (Ok tt)
     → state.progress.first + rows_of counts state.progress.subject ≤ lent.observations
 unfolding admit_awaited awaited_point awaited_for
 awaited_within setup counts lent check state tally =
     let fit = fit_of setup state.parameters in
     let judged = checks (with_parameters setup state.parameters) counts lent check in
-    let Fits : Wanted → Type 0 = λ w. (awaited_for fit judged w).admission ≡ A.Accepted → state.progress.first + rows_of counts state.progress.subject ≤ lent.observations in
+    let Fits : Wanted → Type 0 = λ w. (awaited_for fit judged w).admission ≡ (Ok tt) → state.progress.first + rows_of counts state.progress.subject ≤ lent.observations in
     cases Fits state.progress.awaits
     (λ _. cases Fits (stands setup counts lent.observations state tally) (λ s _. standing_within setup counts lent.observations tally (order_rows state.order) state.progress s)
     (λ _ e. refused_never 19 e))
@@ -107,9 +104,9 @@ module _ (counts : List ℕ) (fit : Fit) (eta : Pair) (state : State) (tally : T
   replied_after : (x : Evaluation) → replied words counts fit eta (held_of state tally cache w warm results) w x ≡ replied words counts fit eta (held_of state tally cache work warm results)
       w x
   unfolding replied over ends
-  replied_after (E.Running sums) = refl
-  replied_after (E.Refused number) = ap (ends number (At.Subject state.progress.subject)) same
-  replied_after (E.RefusedAt number n) = ap (ends number (At.Observation state.progress.subject n)) same
+  replied_after (Ok sums) = refl
+  replied_after (Err (E.Refused number)) = ap (ends number (At.Subject state.progress.subject)) same
+  replied_after (Err (E.RefusedAt number n)) = ap (ends number (At.Observation state.progress.subject n)) same
 
 -- ---- the calls. n is the number of the observations, and check what was found of them
 module _ (setup : Setup) (counts : List ℕ) (observations : List Observation) (state : State) (tally : Tally) (cache work warm results : List ℕ) where
@@ -154,7 +151,7 @@ module _ (setup : Setup) (counts : List ℕ) (observations : List Observation) (
         let rows = rows_of counts state.progress.subject in
         let first = state.progress.first in
         let count : smaller (first + rows) (length observations) - first ≡ rows = omega (arith, within) in
-        let trial : AdditiveSd → Trial =
+        let trial : Option Float → Trial =
         λ a. record { individual = state.progress.individual; additive_sd = a; width = setup.width; effects = setup.effects; block = block rows 3 } in
         let whole : evaluating e w ≡ evaluated words setup counts observations fit v state.progress work =
         q ∙ (λ i. add_observations (trial (sym (fit_additive setup state.parameters) i)) v (take (count i) (drop first observations))
@@ -172,16 +169,16 @@ module _ (setup : Setup) (counts : List ℕ) (observations : List Observation) (
     finishes : (check : Check) (a : Awaited) (t : Admission) → a ≡ admit_awaited setup counts lent check state tally → a.admission ≡ t → Evaluates (begins a t)
         → when_admitted words after (replied words counts fit a.eta after w (finish e)) t ≡ when_admitted words h (answered words setup counts observations v a.eta h) t
     unfolding admitted_over when_admitted
-    finishes check a A.Accepted ea et q =
+    finishes check a (Ok tt) ea et q =
         answers a.eta (awaited_within setup counts lent check state tally (ap (λ (x : Awaited). x.admission) (sym ea) ∙ et)) q
-    finishes check a (A.Refused number) ea et q = ap (λ (x : Evaluating). halt (Refused number At.Nowhere) (held_of state tally cache x.work warm results)) q
-    finishes check a (A.Unsound at) ea et q = ap (λ (x : Evaluating). halt (Refused 4 (At.Observation at.subject at.observation)) (held_of state tally cache x.work warm results)) q
+    finishes check a (Err (A.Refused number)) ea et q = ap (λ (x : Evaluating). halt (Refused number At.Nowhere) (held_of state tally cache x.work warm results)) q
+    finishes check a (Err (A.Unsound at)) ea et q = ap (λ (x : Evaluating). halt (Refused 4 (At.Observation at.subject at.observation)) (held_of state tally cache x.work warm results)) q
 
     same_awaited : (a : Awaited) (t : Admission) → (begins a t).awaited ≡ a
     unfolding admitted_over
-    same_awaited a A.Accepted = refl
-    same_awaited a (A.Refused number) = refl
-    same_awaited a (A.Unsound at) = refl
+    same_awaited a (Ok tt) = refl
+    same_awaited a (Err (A.Refused number)) = refl
+    same_awaited a (Err (A.Unsound at)) = refl
 
     pub reply_call : {check : Check} {l : Lent} {a : Admitted} {z : Ran (Held words) Step} → check ≡ all_checked setup counts observations → l ≡ lent → a ≡ admit_reply setup counts l check state tally v
         → Evaluates a

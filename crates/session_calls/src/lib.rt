@@ -12,13 +12,13 @@ ghost use Rattle.population.specs.Steps.{whole_from};
 ghost use Rattle.session.specs.Session.{held, enter_objective, enter_failure};
 ghost use Rattle.session.specs.Calls.{called, run_in, ended_as, held_of, entered, begun_with, opened_by, followed, finish_reply};
 
+use population::kept_points::Evaluated;
 use matrix::Pair;
 use mode_2d::population_focei_2d::CEILING;
-use population::kept_points::InHand;
 use search::{CachedRows, Calls, Fit, Place, Tally};
-use session::{Admitted, Begun, Called, Opening, State};
-use setup::{Admission, Parameters, Setup};
-use subject::{Check, Evaluation};
+use session::{Admitted, Begun, Called, Refusal, State};
+use setup::{AdmissionError, Parameters, Setup};
+use subject::{Check, Evaluation, EvaluationError};
 use work::MOST_SUBJECTS;
 
 // The requests that a call may make: for each of the most subjects, the points of the longest search and its
@@ -29,7 +29,7 @@ pub const FUEL: usize = MOST_SUBJECTS * (CEILING as usize + 1);
 pub fn run(
     fit: Fit,
     state: State,
-    hand: InHand,
+    hand: Option<Evaluated>,
     tally: Tally,
     counts: &[u64],
     cache: &[u64],
@@ -106,24 +106,30 @@ pub fn open(
 {
     let lent = session::lent_by(observations, cache, work, warm, results);
     match setup::checks::checks(setup, counts, lent, check) {
-        Admission::Accepted => {
+        Ok(()) => {
             words::clear(cache);
             words::clear(work);
             words::clear(warm);
             Begun {
-                opening: Opening::Opened(session::first_state(setup)),
+                opening: Ok(session::first_state(setup)),
                 tally: Tally {
                     calls: Calls(0),
                     cached_rows: CachedRows(0),
                 },
             }
         }
-        Admission::Refused(number) => Begun {
-            opening: Opening::Refused(number, Place::Nowhere),
+        Err(AdmissionError::Refused(number)) => Begun {
+            opening: Err(Refusal {
+                number,
+                place: Place::Nowhere,
+            }),
             tally,
         },
-        Admission::Unsound(at) => Begun {
-            opening: Opening::Refused(4, Place::Observation(at.subject, at.observation)),
+        Err(AdmissionError::Unsound(at)) => Begun {
+            opening: Err(Refusal {
+                number: 4,
+                place: Place::Observation(at.subject, at.observation),
+            }),
             tally,
         },
     }
@@ -153,15 +159,15 @@ pub fn begin_objective(
 {
     let lent = session::lent_by(observations, cache, work, warm, results);
     match session::checks::admit_objective(setup, parameters, state, tally, check, lent, counts) {
-        Admission::Accepted => {
+        Ok(()) => {
             let own = setup::with_parameters(setup, parameters);
             let fit = search::fit_of(own, parameters.theta);
             let here = session::start_of(parameters, warm, setup.effects, state.order);
-            let hand = InHand::Nothing;
+            let hand = None;
             run(fit, here, hand, tally, counts, cache, work, warm, results)
         }
-        Admission::Refused(number) => session::refused_as(state, tally, number, Place::Nowhere),
-        Admission::Unsound(at) => session::refused_as(
+        Err(AdmissionError::Refused(number)) => session::refused_as(state, tally, number, Place::Nowhere),
+        Err(AdmissionError::Unsound(at)) => session::refused_as(
             state,
             tally,
             4,
@@ -194,12 +200,12 @@ pub fn fail(
     let awaited = session::checks::admit_awaited(setup, state, tally, check, lent, counts);
     let admission = awaited.admission;
     match admission {
-        Admission::Accepted => {
+        Ok(()) => {
             let progress = state.progress;
             ended_as(state, tally, 8, Place::Subject(progress.subject), work)
         }
-        Admission::Refused(number) => session::refused_as(state, tally, number, Place::Nowhere),
-        Admission::Unsound(at) => session::refused_as(
+        Err(AdmissionError::Refused(number)) => session::refused_as(state, tally, number, Place::Nowhere),
+        Err(AdmissionError::Unsound(at)) => session::refused_as(
             state,
             tally,
             4,
@@ -236,7 +242,7 @@ fn follow(
     let order = state.order;
     let subject = progress.subject;
     match subject::finish(evaluation) {
-        Evaluation::Running(sums) => {
+        Ok(sums) => {
             let kept = population::answers::keep(
                 fit, counts, order, subject, tally, eta, sums, cache, work,
             );
@@ -247,13 +253,13 @@ fn follow(
                 progress,
                 order,
             };
-            let hand = InHand::Evaluated(eta, sums);
+            let hand = Some(Evaluated { eta, sums });
             run(fit, next, hand, tally, counts, cache, work, warm, results)
         }
-        Evaluation::Refused(number) => {
+        Err(EvaluationError::Refused(number)) => {
             ended_as(state, tally, number, Place::Subject(subject), work)
         }
-        Evaluation::RefusedAt(number, observation) => {
+        Err(EvaluationError::RefusedAt(number, observation)) => {
             let place = Place::Observation(subject, observation);
             ended_as(state, tally, number, place, work)
         }
@@ -283,11 +289,11 @@ pub fn finish_reply(
     let eta = awaited.eta;
     let fit = awaited.fit;
     match admission {
-        Admission::Accepted => follow(
+        Ok(()) => follow(
             fit, state, tally, eta, evaluation, counts, cache, work, warm, results,
         ),
-        Admission::Refused(number) => session::refused_as(state, tally, number, Place::Nowhere),
-        Admission::Unsound(at) => session::refused_as(
+        Err(AdmissionError::Refused(number)) => session::refused_as(state, tally, number, Place::Nowhere),
+        Err(AdmissionError::Unsound(at)) => session::refused_as(
             state,
             tally,
             4,

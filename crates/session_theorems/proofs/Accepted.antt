@@ -1,4 +1,5 @@
 -- What holds of a setup, its counts and what is lent, where checks 1 to 5 have passed. Assumes nothing.
+use Rattle.std.specs.Prelude.{Err, None, Ok, Option}
 use mathlib.Core.Path.{◌≡◌, refl, sym, subst}
 use mathlib.Core.Bool.{true, false}
 use mathlib.Core.List.{List, [], ◌∷◌}
@@ -10,19 +11,15 @@ use borrow.Author.Tests.{ltb-true, ltb-false, eqb-true}
 use lib.Dec.{ltb, eqb}
 use lib.ListN.{get_or, length}
 use Rattle.float64.specs.Pick.{cases}
-use Rattle.subject.specs.declared.Check.{Check}
-use Rattle.subject.specs.declared.Check.TheVariants.{Sound, Unsound}
 use Rattle.work.specs.Work.{most_rows}
-use Rattle.setup.specs.Admission.{larger, count_from, count_observations, is_no_omega, is_no_shape, is_short, is_cohort, roomy, admitted, checks_of, checks}
+use Rattle.setup.specs.Admission.{larger, count_from, count_observations, is_no_omega, is_no_shape, is_short, is_cohort, roomy, admitted, checks_of, checks, within, Admission}
 use Rattle.setup.specs.declared.Setup.{Setup}
 use Rattle.setup.specs.declared.Lent.{Lent}
-use Rattle.setup.specs.declared.Counts.{Counts}
-use Rattle.setup.specs.declared.Counts.TheVariants.{Within, Outside}
-use Rattle.setup.specs.declared.Admission.{Admission}
-use Rattle.setup.specs.declared.Admission.TheVariants as A
 use Rattle.setup.proofs.Bounds.{not_first, counts_low, cohort_low}
 use Rattle.population.specs.Population.{rows_of}
 use Rattle.session_theorems.proofs.Plain.{true_not_false, false_not_true, positive, split}
+use Rattle.setup.specs.declared.AdmissionError.TheVariants as A
+use Rattle.subject.specs.Observations.{Check}
 
 pub record Cohort (effects subjects total observations : ℕ) : Type 0 where
   pub one_or_two : (effects ≡ 1) ⊎ (effects ≡ 2)
@@ -42,12 +39,12 @@ is_cohort_lem effects subjects total observations q =
     either n low high = ⊎_elim (λ (l : n < 2). inl (omega arith)) (λ (l : 2 ≤ n). inr (omega arith)) (split n 2)
 
 -- ---- the counts
-pub each_count : (counts : List ℕ) (total largest : ℕ) {t l : ℕ} → count_from total largest counts ≡ Within t l
+pub each_count : (counts : List ℕ) (total largest : ℕ) {t l : ℕ} → count_from total largest counts ≡ within t l
     → (largest ≤ l) × ((i : ℕ) → i < length counts → (1 ≤ get_or counts i 0) × (get_or counts i 0 ≤ l))
 unfolding count_from
 each_count [] total largest {t} {l} e = let q : largest ≡ l = cc in (omega arith, λ i h. absurd (not-suc-le-zero h))
 each_count (count ∷ rest) total largest {t} {l} e =
-    let never : Outside ≡ Within t l → ⊥ = λ q. let z : ◌≡◌ {A = ℕ} 0 1 = cc in omega arith in
+    let never : None ≡ within t l → ⊥ = λ q. let z : ◌≡◌ {A = ℕ} 0 1 = cc in omega arith in
     let some = not_first (eqb count 0) _ never e in
     let few = not_first (ltb (most_rows - total) count) _ never some.1 in
     let r = each_count rest (total + count) (larger largest count) few.1 in
@@ -66,7 +63,7 @@ pub record Accepts (setup : Setup) (counts : List ℕ) (lent : Lent) : Type 0 wh
   pub largest : ℕ
   pub effects : (setup.effects ≡ 1) ⊎ (setup.effects ≡ 2)
   -- the counts add up to the records lent
-  pub adds : count_observations counts ≡ Within lent.observations largest
+  pub adds : count_observations counts ≡ within lent.observations largest
   pub all : lent.observations ≤ 100000
   pub some : 1 ≤ length counts
   pub most : length counts ≤ 4096
@@ -96,17 +93,17 @@ module _ (setup : Setup) (counts : List ℕ) (lent : Lent) (check : Check) where
       let v = not_first (ltb lent.warm (setup.effects * subjects)) _ true_not_false c.1 in
       (ltb-false _ _ w.0, ltb-false _ _ c.0, ltb-false _ _ v.0, ltb-false _ _ v.1)
 
-  by_check : (total largest : ℕ) (k : Check) → roomy setup (length counts) total largest lent k ≡ A.Accepted → is_short setup (length counts) total largest lent ≡ false
+  by_check : (total largest : ℕ) (k : Check) → roomy setup (length counts) total largest lent k ≡ (Ok tt) → is_short setup (length counts) total largest lent ≡ false
   unfolding roomy
-  by_check total largest (Unsound place) q = absurd (let z : ◌≡◌ {A = ℕ} 0 1 = cc in omega arith)
-  by_check total largest (Sound place) q = (not_first (is_short setup (length counts) total largest lent) A.Accepted (λ p. let z : ◌≡◌ {A = ℕ} 0 1 = cc in omega arith) q).0
+  by_check total largest (Err place) q = absurd (let z : ◌≡◌ {A = ℕ} 0 1 = cc in omega arith)
+  by_check total largest (Ok place) q = (not_first (is_short setup (length counts) total largest lent) (Ok tt) (λ p. let z : ◌≡◌ {A = ℕ} 0 1 = cc in omega arith) q).0
 
-  passed : (total largest : ℕ) → count_observations counts ≡ Within total largest → is_cohort setup.effects (length counts) total lent.observations ≡ true
-      → admitted setup (length counts) total largest lent check ≡ A.Accepted → Accepts setup counts lent
+  passed : (total largest : ℕ) → count_observations counts ≡ within total largest → is_cohort setup.effects (length counts) total lent.observations ≡ true
+      → admitted setup (length counts) total largest lent check ≡ (Ok tt) → Accepts setup counts lent
   unfolding admitted count_observations
   passed total largest c h e =
-      let never2 : A.Refused 2 ≡ A.Accepted → ⊥ = λ q. let z : ◌≡◌ {A = ℕ} 0 1 = cc in omega arith in
-      let never3 : A.Refused 3 ≡ A.Accepted → ⊥ = λ q. let z : ◌≡◌ {A = ℕ} 0 1 = cc in omega arith in
+      let never2 : Err (A.Refused 2) ≡ (Ok tt) → ⊥ = λ q. let z : ◌≡◌ {A = ℕ} 0 1 = cc in omega arith in
+      let never3 : Err (A.Refused 3) ≡ (Ok tt) → ⊥ = λ q. let z : ◌≡◌ {A = ℕ} 0 1 = cc in omega arith in
       let o = not_first (is_no_omega setup) _ never2 e in
       let s = not_first (is_no_shape setup) _ never3 o.1 in
       let r = room_lent (length counts) total largest (by_check total largest check s.1) in
@@ -117,7 +114,7 @@ module _ (setup : Setup) (counts : List ℕ) (lent : Lent) (check : Check) where
       record {
         largest = largest;
         effects = g.one_or_two;
-        adds = subst (λ (n : ℕ). count_observations counts ≡ Within n largest) g.adds c;
+        adds = subst (λ (n : ℕ). count_observations counts ≡ within n largest) g.adds c;
         all = subst (λ (n : ℕ). n ≤ 100000) g.adds low.0;
         some = g.some;
         most = cohort.1;
@@ -131,13 +128,13 @@ module _ (setup : Setup) (counts : List ℕ) (lent : Lent) (check : Check) where
         results_lent = subst (λ (n : ℕ). 2 * n + 3 * length counts ≤ lent.results) g.adds r.3;
       }
 
-  by_counts : (c : Counts) → count_observations counts ≡ c → checks_of setup (length counts) lent check c ≡ A.Accepted → Accepts setup counts lent
+  by_counts : (c : Option Counts) → count_observations counts ≡ c → checks_of setup (length counts) lent check c ≡ (Ok tt) → Accepts setup counts lent
   unfolding checks_of
-  by_counts (Within total largest) d e =
-      cases (λ (a : Admission). a ≡ A.Accepted → Accepts setup counts lent) (is_cohort setup.effects (length counts) total lent.observations)
-      (λ h q. passed total largest d h q) (λ h q. absurd (let z : ◌≡◌ {A = ℕ} 0 1 = cc in omega arith)) e
-  by_counts Outside d e = absurd (let z : ◌≡◌ {A = ℕ} 0 1 = cc in omega arith)
+  by_counts (Some n) d e =
+      cases (λ (a : Admission). a ≡ (Ok tt) → Accepts setup counts lent) (is_cohort setup.effects (length counts) n.total lent.observations)
+      (λ h q. passed n.total n.largest d h q) (λ h q. absurd (let z : ◌≡◌ {A = ℕ} 0 1 = cc in omega arith)) e
+  by_counts None d e = absurd (let z : ◌≡◌ {A = ℕ} 0 1 = cc in omega arith)
 
-  pub accepts : checks setup counts lent check ≡ A.Accepted → Accepts setup counts lent
+  pub accepts : checks setup counts lent check ≡ (Ok tt) → Accepts setup counts lent
   unfolding checks
   accepts e = by_counts (count_observations counts) refl e

@@ -1,8 +1,8 @@
 -- A question has the individual values of the objective's own theta, and no call but an awaited reply changes what is kept. Assumes nothing.
+use Rattle.std.specs.Prelude.{Err, None, Ok, Option, Some}
 use mathlib.Core.Path.{◌≡◌, refl, sym, subst, ◌∙◌}
 use mathlib.Core.Bool.{false}
 use mathlib.Core.List.{List}
-use mathlib.Core.Option.{Option, none, some}
 use Prim.Native.Nat.{ℕ, zero, suc}
 use native.Mathlib.Omega.{arith}
 use borrow.Author.Tests.{eq-eqb}
@@ -18,14 +18,10 @@ use Rattle.likelihood.specs.declared.population_focei.Observation.{Observation}
 use Rattle.cache.specs.Cache.{Cache}
 use Rattle.subject.specs.Subject.{individual, individual_values}
 use Rattle.work.specs.Work.{is_same_grid}
-use Rattle.setup.specs.Admission.{with_parameters}
+use Rattle.setup.specs.Admission.{with_parameters, Admission}
 use Rattle.setup.specs.declared.Setup.{Setup}
 use Rattle.setup.specs.declared.Parameters.{Parameters}
-use Rattle.setup.specs.declared.Admission.{Admission}
-use Rattle.setup.specs.declared.Admission.TheVariants as A
 use Rattle.search.specs.Subjects as B
-use Rattle.search.specs.declared.Closed.{Closed}
-use Rattle.search.specs.declared.Closed.TheVariants.{Positive, NotPositive}
 use Rattle.search.specs.declared.Fit.{Fit}
 use Rattle.search.specs.declared.Halted.{Halted}
 use Rattle.search.specs.declared.Place.{Place}
@@ -39,12 +35,13 @@ use Rattle.search.specs.declared.Wanted.TheVariants as Wants
 use Rattle.search.proofs.Fits.{fit_effects}
 use Rattle.machine.specs.Machine.{Moved, on, halt, Ran, onward, loop, call}
 use Rattle.population.specs.Kept.{Recalled, words}
-use Rattle.population.specs.Population.{rows_of, Worked, answered, at_point, next_subject, Ended, closing, at_mode, served_by, served, turned, Whole, moved, turn, spent}
-use Rattle.population.specs.declared.Turned.{Turned}
-use Rattle.population.specs.declared.Turned.TheVariants.{On, Halt}
+use Rattle.population.specs.Population.{rows_of, Worked, answered, at_point, next_subject, Ended, closing, at_mode, served_by, served, turned, Whole, moved, turn, spent, Turned}
 use Rattle.session.specs.Session as N
 use Rattle.session.specs.Session.{Held, Call, objective, reply, failure}
 use Rattle.session_theorems.specs.Evaluations.{M}
+use Rattle.core.specs.declared.ops.ControlFlow.TheVariants.{Break, Continue}
+use Rattle.search.specs.declared.Mode.{Mode}
+use Rattle.setup.specs.declared.AdmissionError.TheVariants as A
 
 -- ---- an objective's fit has its own theta and deviation
 pub record Given (parameters : Parameters) (fit : Fit) : Type 0 where
@@ -114,8 +111,8 @@ module _ (setup : Setup) (counts : List ℕ) (observations : List Observation) w
 
     -- what a halt answers
     Says : Turned → Type 0
-    Says (On q) = Unit
-    Says (Halt x) = Good h x.step
+    Says (Continue q) = Unit
+    Says (Break x) = Good h x.step
 
     of_parameters : (a : Step) (v : Whole words) → Good h a → Good (N.held words h.parameters v) a
     unfolding Good
@@ -125,8 +122,8 @@ module _ (setup : Setup) (counts : List ℕ) (observations : List Observation) w
 
     closes : (t : Turned) (work warm results : List ℕ) → Says t → Leaves w.kept (N.held_by words h.parameters (moved words w.tally w.kept work warm results t))
     unfolding Leaves N.held_by moved Says
-    closes (On q) work warm results f = refl
-    closes (Halt x) work warm results f = (refl, of_parameters x.step _ f)
+    closes (Continue q) work warm results f = refl
+    closes (Break x) work warm results f = (refl, of_parameters x.step _ f)
 
     refuses : (tally : Tally) (number : ℕ) (place : Place) → Good h (B.refused_by p tally number place).step
     unfolding Good B.refused_by
@@ -141,17 +138,17 @@ module _ (setup : Setup) (counts : List ℕ) (observations : List Observation) w
 
     by_recall : (eta : Pair) (o : Option Recalled) → Says (answered fit rows p w.tally eta w.work o).value
     unfolding Says answered
-    by_recall eta (some r) = tt
-    by_recall eta none = unfold B.ask in both (λ (x : Halted). Good h x.step) _ (asks _ eta _ refl) (refuses w.tally 6 _)
+    by_recall eta (Some r) = tt
+    by_recall eta None = unfold B.ask in both (λ (x : Halted). Good h x.step) _ (asks _ eta _ refl) (refuses w.tally 6 _)
 
     ends : (ofv squares : Float) → Good h (B.objective_of p w.tally ofv squares).step
     unfolding B.objective_of Good B.refused_by
     ends ofv squares = both (λ (x : Halted). Good h x.step) _ tt tt
 
-    by_closed : (c : Closed) → Says (closing fit counts p w.tally rows w.work w.warm w.results c).turned
+    by_closed : (c : Option Mode) → Says (closing fit counts p w.tally rows w.work w.warm w.results c).turned
     unfolding closing next_subject Says
-    by_closed NotPositive = refuses w.tally 16 _
-    by_closed (Positive m) = both (λ (e : Ended). Says e.turned) (is_same_grid w.work rows) (both (λ (x : Worked Turned). Says x.value) _ tt (ends _ _)) (refuses w.tally 17 _)
+    by_closed None = refuses w.tally 16 _
+    by_closed (Some m) = both (λ (e : Ended). Says e.turned) (is_same_grid w.work rows) (both (λ (x : Worked Turned). Says x.value) _ tt (ends _ _)) (refuses w.tally 17 _)
 
     by_wanted : (v : Wanted) → Says (served_by words fit counts p w.tally w.kept w.work w.warm w.results v).turned
     unfolding served_by at_mode at_point Says
@@ -186,9 +183,9 @@ module _ (setup : Setup) (counts : List ℕ) (observations : List Observation) w
 
     when_admitted_lem : (go : Moved (Held words) Step) (a : Admission) → Leaves h.whole.kept go → Leaves h.whole.kept (N.when_admitted words h go a)
     unfolding N.when_admitted
-    when_admitted_lem go A.Accepted f = f
-    when_admitted_lem go (A.Refused n) f = same n _
-    when_admitted_lem go (A.Unsound place) f = same 4 _
+    when_admitted_lem go (Ok tt) f = f
+    when_admitted_lem go (Err (A.Refused n)) f = same n _
+    when_admitted_lem go (Err (A.Unsound place)) f = same 4 _
 
     begun : (parameters : Parameters) → Leaves h.whole.kept (on (N.begun words setup counts parameters h.whole))
     unfolding Leaves N.begun

@@ -1,9 +1,9 @@
 -- The blocks of a subject's rows in the work words: what a copy of a block leaves in each, and what a move of the rows does. Assumes nothing.
+use Rattle.std.specs.Prelude.{None, Option, Some, ℕ}
 use mathlib.Core.Path.{◌≡◌, refl, sym, ap, ap₂, subst, ◌∙◌}
 use mathlib.Core.Bool.{Bool, true, false}
 use mathlib.Core.List.{List, [], ◌∷◌}
 use mathlib.Core.Logic.{◌⊎◌, inl, inr, ⊎_elim}
-use mathlib.Core.Option.{some}
 use Prim.Native.Nat.{ℕ, zero, suc, ◌+◌, ◌-◌, ◌*◌, ◌≤◌, ◌<◌}
 use native.Mathlib.Nat.{mul-le-mul_left}
 use native.Mathlib.Omega.{arith}
@@ -14,8 +14,6 @@ use lib.Seq.{get_or-set_same, get_or-set_other}
 use Rattle.float64.specs.Pick.{pick, both, pick_yes, pick_no}
 use Rattle.cache.specs.Cache.{copy_from, rows_to, copied}
 use Rattle.cache.specs.Kept.{words_from}
-use Rattle.cache.specs.declared.Found.{Found}
-use Rattle.cache.specs.declared.Found.TheVariants.{At, Nothing}
 use Rattle.work.specs.Work.{rows_length, block, copy_words, copy_block, move_rows}
 use Rattle.work.specs.declared.Sources.{Sources}
 use Rattle.population.specs.Kept.{Recalled, recall_at}
@@ -190,12 +188,12 @@ unfolding copy_from
 copy_behind zero w k x out to i j l = refl
 copy_behind (suc n) w k x out to i j l = copy_behind n w k x _ to (i + 1) j l ∙ get_or-set_other out (to + i) j _ 0 (λ e. omega (arith, e, l))
 
-pub recalled_behind : (w : List ℕ) (k rows : ℕ) (work : List ℕ) (to : ℕ) (f : Found) (r : Recalled) → recall_at w k rows work to f ≡ some r → (j : ℕ) → j < to → get_or r.work j 0 ≡ get_or work j 0
+pub recalled_behind : (w : List ℕ) (k rows : ℕ) (work : List ℕ) (to : ℕ) (f : Option ℕ) (r : Recalled) → recall_at w k rows work to f ≡ Some r → (j : ℕ) → j < to → get_or r.work j 0 ≡ get_or work j 0
 unfolding recall_at copied rows_to
-recalled_behind w k rows work to (At slot) r q j l =
+recalled_behind w k rows work to (Some slot) r q j l =
     let v : r.work ≡ copied w k slot rows work to = cc in
     ap (λ (x : List ℕ). get_or x j 0) v ∙ both Same _ (both Same _ refl (both Same _ refl (both Same _ refl (copy_behind _ w k _ work to 0 j l)))) refl
   where
     Same : List ℕ → Type 0
     Same x = get_or x j 0 ≡ get_or work j 0
-recalled_behind w k rows work to Nothing r q j l = absurd (let z : ◌≡◌ {A = ℕ} 0 1 = cc in omega arith)
+recalled_behind w k rows work to None r q j l = absurd (let z : ◌≡◌ {A = ℕ} 0 1 = cc in omega arith)

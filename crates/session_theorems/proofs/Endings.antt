@@ -1,9 +1,9 @@
 -- From any state that a call lets in, the requests are never used up, and what a call answers after them: its number, what it leaves of the tally's evaluations and of the work words, and whether a
 -- reply is awaited. Assumes nothing.
+use Rattle.std.specs.Prelude.{None, Option, Some}
 use mathlib.Core.Path.{◌≡◌, refl, sym, ap, subst, ◌∙◌}
 use mathlib.Core.Bool.{Bool, true, false}
 use mathlib.Core.List.{List}
-use mathlib.Core.Option.{Option, none, some}
 use Prim.Native.Nat.{ℕ, zero, suc, ◌+◌, ◌-◌, ◌*◌, ◌≤◌, ◌<◌}
 use native.Mathlib.Nat.{mod-eq_of_lt, not-suc-le-zero, le_of_suc-le-suc}
 use native.Mathlib.Omega.{arith}
@@ -21,8 +21,6 @@ use Rattle.words.specs.Words.{zeros}
 use Rattle.work.specs.Work.{block, is_same_grid}
 use Rattle.setup.specs.declared.Setup.{Setup}
 use Rattle.search.specs.Subjects as B
-use Rattle.search.specs.declared.Closed.{Closed}
-use Rattle.search.specs.declared.Closed.TheVariants.{Positive, NotPositive}
 use Rattle.search.specs.declared.Fit.{Fit}
 use Rattle.search.specs.declared.Halted.{Halted}
 use Rattle.search.specs.declared.Mode.{Mode}
@@ -36,13 +34,12 @@ use Rattle.search.specs.declared.Wanted.TheVariants as Wants
 use Rattle.search.proofs.Fits.{fit_effects, fit_most}
 use Rattle.machine.specs.Machine.{Moved, on, halt, Ran, onward, loop}
 use Rattle.population.specs.Kept.{Recalled, words}
-use Rattle.population.specs.Population.{rows_of, take, answered, at_point, Worked, next_subject, raised, Ended, ended, closing, at_mode, served_by, served, is_over, turned, Whole, moved, turn, spent}
-use Rattle.population.specs.declared.Turned.{Turned}
-use Rattle.population.specs.declared.Turned.TheVariants.{On, Halt}
+use Rattle.population.specs.Population.{rows_of, take, answered, at_point, Worked, next_subject, raised, Ended, ended, closing, at_mode, served_by, served, is_over, turned, Whole, moved, turn, spent, Turned}
 use Rattle.session.specs.Session.{Held, held_by, turn_held, fuel}
 use Rattle.session_theorems.proofs.Lengths.{zeros_length, move_rows_length, recalled_length}
 use Rattle.session_theorems.proofs.Remaining.{Goes, Numbered, LeftBy, stands, points, refusals, begins}
 use Rattle.session_theorems.proofs.Standing.{advanced_alike}
+use Rattle.core.specs.declared.ops.ControlFlow.TheVariants.{Break, Continue}
 
 -- ---- any loop: `Going n` says that at most n turns are left, this one counted, and `Answered` is what every turn that halts gives
 module _ {State Answer : Type 0} (turn : State → Moved State Answer) (Going : ℕ → State → Type 0) (Answered : Answer → State → Type 0) where
@@ -149,8 +146,8 @@ module _ (N : ℕ → Type 0) (Refuses : ℕ → Place → ℕ → Type 0) (setu
     fitted = subst (λ (k : ℕ). Left (eqb k 2) a.left p) (sym (fit_effects setup h.parameters)) a.search
 
     TurnsTo : Turned → Type 0
-    TurnsTo (On q) = Ahead n q
-    TurnsTo (Halt x) = Says x.step x.progress.awaits x.tally.calls.0 × (x.tally.cached_rows.0 ≤ R)
+    TurnsTo (Continue q) = Ahead n q
+    TurnsTo (Break x) = Says x.step x.progress.awaits x.tally.calls.0 × (x.tally.cached_rows.0 ≤ R)
 
     record Ends (e : Ended) : Type 0 where
       turned : TurnsTo e.turned
@@ -160,15 +157,15 @@ module _ (N : ℕ → Type 0) (Refuses : ℕ → Place → ℕ → Type 0) (setu
         → Moves (turn_held words setup counts) Going Answered n
         (held_by words h.parameters (moved words w.tally w.kept (pick (is_over t) (zeros (length work)) work) warm results t))
     unfolding Moves held_by moved is_over TurnsTo pick
-    closes (On q) work warm results t l = record { ahead = t; work = l; calls = g.calls; rows = g.rows }
-    closes (Halt x) work warm results t l = record { says = t.0; zeroed = λ e. pick_yes _ _ _ e ∙ ap zeros l; rows = t.1 }
+    closes (Continue q) work warm results t l = record { ahead = t; work = l; calls = g.calls; rows = g.rows }
+    closes (Break x) work warm results t l = record { says = t.0; zeroed = λ e. pick_yes _ _ _ e ∙ ap zeros l; rows = t.1 }
 
     -- a refusal that leaves the tally
-    refuses : (number : ℕ) (place : Place) → Refuses number place c → TurnsTo (Halt (B.refused_by p w.tally number place))
+    refuses : (number : ℕ) (place : Place) → Refuses number place c → TurnsTo (Break (B.refused_by p w.tally number place))
     unfolding TurnsTo Says B.refused_by B.idle B.with_search
     refuses number place r = ((refl, subst (Refuses number place) (sym g.calls) r), g.rows)
 
-    refused_ends : (number : ℕ) (place : Place) (warm results : List ℕ) → Refuses number place c → Ends (ended (Halt (B.refused_by p w.tally number place)) w.work warm results)
+    refused_ends : (number : ℕ) (place : Place) (warm results : List ℕ) → Refuses number place c → Ends (ended (Break (B.refused_by p w.tally number place)) w.work warm results)
     refused_ends number place warm results r = record { turned = refuses number place r; work = g.work }
 
     -- ---- a point
@@ -188,19 +185,19 @@ module _ (N : ℕ → Type 0) (Refuses : ℕ → Place → ℕ → Type 0) (setu
     unfolding Seven individual_values
     values theta eta effects = both Seven _ refl (both Seven _ (both Seven _ refl tt) tt)
 
-    asks_for : c < most → (eta : Pair) (v : Answer Pair) → Seven v → TurnsTo (Halt (B.ask_for p (B.counted w.tally) eta v))
+    asks_for : c < most → (eta : Pair) (v : Answer Pair) → Seven v → TurnsTo (Break (B.ask_for p (B.counted w.tally) eta v))
     unfolding TurnsTo Says Seven B.ask_for B.awaiting B.refused_by B.idle B.with_search
     asks_for l eta (given v) s = ((refl, counts_up, l), rows_stay)
     asks_for l eta (refused k) s =
         let at = At.Subject p.subject in
         ((refl, subst (Refuses k at) (sym counts_up) (subst (λ (i : ℕ). Refuses i at (suc c)) (sym s) (tells.wild p.subject l))), rows_stay)
 
-    asks : (eta : Pair) → TurnsTo (Halt (B.ask fit p w.tally eta))
+    asks : (eta : Pair) → TurnsTo (Break (B.ask fit p w.tally eta))
     unfolding B.ask
     asks eta =
         let e = g.calls in
         let m = fit_most setup h.parameters in
-        cases (λ (x : Halted). TurnsTo (Halt x)) (ltb w.tally.calls.0 fit.max_evaluations)
+        cases (λ (x : Halted). TurnsTo (Break x)) (ltb w.tally.calls.0 fit.max_evaluations)
         (λ t. let l : w.tally.calls.0 < fit.max_evaluations = ltb-true _ _ t in asks_for (omega (arith, e, m, l)) eta _ (values _ eta _))
         (λ f. let l : fit.max_evaluations ≤ w.tally.calls.0 = ltb-false _ _ f in refuses 6 _ (tells.limit _ (omega (arith, e, m, l))))
 
@@ -223,11 +220,11 @@ module _ (N : ℕ → Type 0) (Refuses : ℕ → Place → ℕ → Type 0) (setu
         go m k x y = omega arith
 
     by_recall : (eta : Pair) → ((sums : Sums) → Ahead n (B.advance_by fit p eta sums).progress) → (o : Option Recalled)
-        → ((r : Recalled) → o ≡ some r → length r.work ≡ length w.work)
+        → ((r : Recalled) → o ≡ Some r → length r.work ≡ length w.work)
         → Ends (ended (answered fit rows p w.tally eta w.work o).value (answered fit rows p w.tally eta w.work o).work w.warm w.results)
     unfolding answered take TurnsTo
-    by_recall eta s (some r) f = record { turned = s (B.sums_of r.terms); work = move_rows_length rows _ r.work ∙ f r refl ∙ g.work }
-    by_recall eta s none f = record { turned = asks eta; work = g.work }
+    by_recall eta s (Some r) f = record { turned = s (B.sums_of r.terms); work = move_rows_length rows _ r.work ∙ f r refl ∙ g.work }
+    by_recall eta s None f = record { turned = asks eta; work = g.work }
 
     -- ---- a mode
     abbrev subject : ℕ
@@ -254,15 +251,15 @@ module _ (N : ℕ → Type 0) (Refuses : ℕ → Place → ℕ → Type 0) (setu
             go : (m k i : ℕ) → i < k → m + (k - i) * 6344 ≤ suc n + 6343 → 6343 + (k - suc i) * 6344 ≤ n + 6343
             go m k i x y = omega arith
 
-        finishes : (ofv squares : Float) → TurnsTo (Halt (B.objective_of p w.tally ofv squares))
+        finishes : (ofv squares : Float) → TurnsTo (Break (B.objective_of p w.tally ofv squares))
         finishes ofv squares =
-            unfold B.objective_of in both (λ (x : Halted). TurnsTo (Halt x)) (nonfinite ofv) (refuses 18 _ tells.total)
+            unfold B.objective_of in both (λ (x : Halted). TurnsTo (Break x)) (nonfinite ofv) (refuses 18 _ tells.total)
             (unfold TurnsTo Says B.finished in ((refl, g.calls), g.rows))
 
-    closed : (k : Closed) → Ends (closing fit counts p w.tally rows w.work w.warm w.results k)
+    closed : (k : Option Mode) → Ends (closing fit counts p w.tally rows w.work w.warm w.results k)
     unfolding closing
-    closed NotPositive = refused_ends 16 _ _ _ (tells.mode 16 _ (omega arith) (omega arith))
-    closed (Positive m) = both Ends (is_same_grid w.work rows) (next m _ _) (refused_ends 17 _ _ _ (tells.mode 17 _ (omega arith) (omega arith)))
+    closed None = refused_ends 16 _ _ _ (tells.mode 16 _ (omega arith) (omega arith))
+    closed (Some m) = both Ends (is_same_grid w.work rows) (next m _ _) (refused_ends 17 _ _ _ (tells.mode 17 _ (omega arith) (omega arith)))
 
     -- ---- every request
     serves : (v : Wanted) → Goes a.left Fewer v → Numbered N v

@@ -1,4 +1,5 @@
 -- What the entry of a call does, whatever is lent: it refuses and alters nothing, it ends the objective, or it goes on to the requests from a place that they are enough for. Assumes nothing.
+use Rattle.std.specs.Prelude.{Err, None, Ok, Option}
 use mathlib.Core.Path.{◌≡◌, refl, sym, ap, subst, ◌∙◌}
 use mathlib.Core.Bool.{true}
 use mathlib.Core.List.{List}
@@ -12,11 +13,7 @@ use Rattle.float64.specs.Pick.{both, cases}
 use Rattle.matrix.specs.declared.Pair.{Pair}
 use Rattle.likelihood.specs.declared.population_focei.Observation.{Observation}
 use Rattle.subject.specs.Claim.{Evaluates}
-use Rattle.subject.specs.Subject.{begin, add_observations, evaluating, finish}
-use Rattle.subject.specs.declared.Check.{Check}
-use Rattle.subject.specs.declared.Check.TheVariants.{Sound, Unsound}
-use Rattle.subject.specs.declared.Evaluation.{Evaluation}
-use Rattle.subject.specs.declared.Evaluation.TheVariants as E
+use Rattle.subject.specs.Subject.{begin, add_observations, evaluating, finish, Evaluation}
 use Rattle.subject.specs.declared.Sums.{Sums}
 use Rattle.subject.specs.declared.Trial.{Trial}
 use Rattle.subject.proofs.Ends.{evaluates}
@@ -24,11 +21,7 @@ use Rattle.cache.specs.Kept.{Evaluated}
 use Rattle.cache.proofs.Run.{refinement}
 use Rattle.words.specs.Words.{zeros}
 use Rattle.work.specs.Work.{block}
-use Rattle.setup.specs.Admission.{is_cohort, roomy, checks_of, checks, admitted}
-use Rattle.setup.specs.declared.Admission.{Admission}
-use Rattle.setup.specs.declared.Admission.TheVariants as A
-use Rattle.setup.specs.declared.Counts.{Counts}
-use Rattle.setup.specs.declared.Counts.TheVariants.{Within, Outside}
+use Rattle.setup.specs.Admission.{is_cohort, roomy, checks_of, checks, admitted, Admission}
 use Rattle.setup.specs.declared.Lent.{Lent}
 use Rattle.setup.specs.declared.Parameters.{Parameters}
 use Rattle.setup.specs.declared.Setup.{Setup}
@@ -56,38 +49,41 @@ use Rattle.session_theorems.proofs.Lengths.{move_rows_length}
 use Rattle.session_theorems.proofs.Plain.{false_not_true}
 use Rattle.session_theorems.proofs.Remaining.{Goes, StandsBy, LeftBy, points, begins, placed}
 use Rattle.session_theorems.proofs.Standing.{advanced_alike}
+use Rattle.subject.specs.declared.EvaluationError.TheVariants as E
+use Rattle.setup.specs.declared.AdmissionError.TheVariants as A
+use Rattle.subject.specs.Observations.{Check}
 
 -- ---- 1 to 5: accepted only with 4,096 subjects at most
 unfoldable pub Judged : ℕ → Admission → Type 0
-Judged subjects A.Accepted = subjects ≤ 4096
-Judged subjects (A.Refused n) = (AltersNothing n) × (Carries n At.Nowhere)
-Judged subjects (A.Unsound place) = Unit
+Judged subjects (Ok tt) = subjects ≤ 4096
+Judged subjects (Err (A.Refused n)) = (AltersNothing n) × (Carries n At.Nowhere)
+Judged subjects (Err (A.Unsound place)) = Unit
 
-pub plain : (subjects n : ℕ) → 1 ≤ n → n ≤ 5 → Carries n At.Nowhere → Judged subjects (A.Refused n)
+pub plain : (subjects n : ℕ) → 1 ≤ n → n ≤ 5 → Carries n At.Nowhere → Judged subjects (Err (A.Refused n))
 unfolding Judged
 plain subjects n low high carries = (inl (low, omega (arith, high)), carries)
 
-pub one : (subjects : ℕ) → Judged subjects (A.Refused 1)
+pub one : (subjects : ℕ) → Judged subjects (Err (A.Refused 1))
 one subjects = plain subjects 1 (omega arith) (omega arith) (inl (omega arith, omega arith))
 
-pub unheard : (subjects : ℕ) → Judged subjects (A.Refused 19)
+pub unheard : (subjects : ℕ) → Judged subjects (Err (A.Refused 19))
 unfolding Judged
 unheard subjects = (inr refl, inr (inr (inr refl)))
 
 room_judged : (setup : Setup) (subjects total largest : ℕ) (lent : Lent) → subjects ≤ 4096 → (check : Check) → Judged subjects (roomy setup subjects total largest lent check)
 unfolding Judged roomy
-room_judged setup subjects total largest lent few (Sound place) = both (Judged subjects) _ (plain subjects 5 (omega arith) (omega arith) (inr (inl refl))) few
-room_judged setup subjects total largest lent few (Unsound place) = tt
+room_judged setup subjects total largest lent few (Ok place) = both (Judged subjects) _ (plain subjects 5 (omega arith) (omega arith) (inr (inl refl))) few
+room_judged setup subjects total largest lent few (Err place) = tt
 
-pub counts_judged : (setup : Setup) (subjects : ℕ) (lent : Lent) (check : Check) (c : Counts) → Judged subjects (checks_of setup subjects lent check c)
+pub counts_judged : (setup : Setup) (subjects : ℕ) (lent : Lent) (check : Check) (c : Option Counts) → Judged subjects (checks_of setup subjects lent check c)
 unfolding checks_of admitted
-counts_judged setup subjects lent check (Within total largest) =
+counts_judged setup subjects lent check (Some n) =
     let P = Judged subjects in
-    cases P (is_cohort setup.effects subjects total lent.observations)
+    cases P (is_cohort setup.effects subjects n.total lent.observations)
     (λ t. both P _ (plain subjects 2 (omega arith) (omega arith) (inl (omega arith, omega arith))) (both P _ (plain subjects 3 (omega arith) (omega arith) (inl (omega arith, omega arith)))
-    (room_judged setup subjects total largest lent (cohort_low {b = true} setup.effects subjects total lent.observations (sym t) refl).1 check)))
+    (room_judged setup subjects n.total n.largest lent (cohort_low {b = true} setup.effects subjects n.total lent.observations (sym t) refl).1 check)))
     (λ f. one subjects)
-counts_judged setup subjects lent check Outside = one subjects
+counts_judged setup subjects lent check None = one subjects
 
 rows_few : (counts : List ℕ) (i : ℕ) → rows_of counts i ≤ 100000
 unfolding rows_of
@@ -98,9 +94,9 @@ abbrev Refusal : ℕ → Place → Type 0
 Refusal n place = (8 ≤ n) × (n ≤ 12) × Carries n place
 
 unfoldable pub Late : Evaluation → Type 0
-Late (E.Running sums) = Unit
-Late (E.Refused n) = (subject : ℕ) → Refusal n (At.Subject subject)
-Late (E.RefusedAt n i) = (subject : ℕ) → Refusal n (At.Observation subject i)
+Late (Ok sums) = Unit
+Late (Err (E.Refused n)) = (subject : ℕ) → Refusal n (At.Subject subject)
+Late (Err (E.RefusedAt n i)) = (subject : ℕ) → Refusal n (At.Observation subject i)
 
 one_of : (P : ℕ → Type 0) (n a b c : ℕ) → (n ≡ a) ⊎ ((n ≡ b) ⊎ (n ≡ c)) → P a → P b → P c → P n
 one_of P n a b c (inl e) i j k = subst P (sym e) i
@@ -116,10 +112,10 @@ late trial budget said os work few = by _ refl
     numbers = evaluates trial budget said os work few
 
     by : (x : Evaluation) → finish (add_observations trial said os (evaluating (begin said trial.width trial.effects budget) work)).evaluation ≡ x → Late x
-    by (E.Running sums) d = tt
-    by (E.Refused n) d = λ subject. one_of (λ (k : ℕ). Refusal k (At.Subject subject)) n 8 9 12 (numbers.numbers n d)
+    by (Ok sums) d = tt
+    by (Err (E.Refused n)) d = λ subject. one_of (λ (k : ℕ). Refusal k (At.Subject subject)) n 8 9 12 (numbers.numbers n d)
         (omega arith, omega arith, inl (omega arith, omega arith)) (omega arith, omega arith, inl (omega arith, omega arith)) (omega arith, omega arith, inr (omega arith, omega arith))
-    by (E.RefusedAt n i) d = λ subject. one_of (λ (k : ℕ). Refusal k (At.Observation subject i)) n 10 11 12 (numbers.places n i d).0
+    by (Err (E.RefusedAt n i)) d = λ subject. one_of (λ (k : ℕ). Refusal k (At.Observation subject i)) n 10 11 12 (numbers.places n i d).0
         (omega arith, omega arith, inr (omega arith, omega arith)) (omega arith, omega arith, inr (omega arith, omega arith)) (omega arith, omega arith, inr (omega arith, omega arith))
 
 -- ---- the numbers of a call's end, with c evaluations in the tally before
@@ -202,11 +198,11 @@ module _ (setup : Setup) (counts : List ℕ) (h : Held words) where
   pub nineteen : Enters (S.unaltered words 19 At.Nowhere h)
   nineteen = stays 19 (inr refl) (inr (inr (inr refl)))
 
-  pub admits : (go : Moved (Held words) Step) (a : Admission) → Judged (length counts) a → (a ≡ A.Accepted → length counts ≤ 4096 → Enters go) → Enters (when_admitted words h go a)
+  pub admits : (go : Moved (Held words) Step) (a : Admission) → Judged (length counts) a → (a ≡ (Ok tt) → length counts ≤ 4096 → Enters go) → Enters (when_admitted words h go a)
   unfolding when_admitted Judged Enters
-  admits go A.Accepted j f = f refl j
-  admits go (A.Refused n) j f = stays n j.0 j.1
-  admits go (A.Unsound at) j f =
+  admits go (Ok tt) j f = f refl j
+  admits go (Err (A.Refused n)) j f = stays n j.0 j.1
+  admits go (Err (A.Unsound at)) j f =
       inl (record { number = 4; place = _; answer = refl; same = refl; unaltering = inl (omega arith, omega arith); carries = inl refl })
 
   -- ---- an evaluation's refusal, and the simulator's: u holds as much
@@ -278,9 +274,9 @@ module _ (setup : Setup) (counts : List ℕ) (h : Held words) where
 
     pub replies : (work : List ℕ) → length work ≡ L → (x : Evaluation) → Late x → Enters (S.replied words counts fit eta u work x)
     unfolding Enters S.replied Late receive takes
-    replies work long (E.Running sums) z = (few, record { ahead = ahead sums; work = move_rows_length _ _ work ∙ long; calls = l.calls; rows = few_kept sums work })
-    replies work long (E.Refused n) z = over u l n _ (z p.subject)
-    replies work long (E.RefusedAt n i) z = over u l n _ (z p.subject)
+    replies work long (Ok sums) z = (few, record { ahead = ahead sums; work = move_rows_length _ _ work ∙ long; calls = l.calls; rows = few_kept sums work })
+    replies work long (Err (E.Refused n)) z = over u l n _ (z p.subject)
+    replies work long (Err (E.RefusedAt n i)) z = over u l n _ (z p.subject)
 
   -- ---- the calls of a session, with n observations lent, of which `check` was found
   module _ (n : ℕ) (check : Check) where

@@ -1,9 +1,9 @@
 -- Every entry into a session's machine goes one of the ways that `Lawful` names: refused with nothing changed, an objective begins, a reply goes on, or ends the objective. Assumes nothing.
+use Rattle.std.specs.Prelude.{Err, Ok, None}
 use mathlib.Core.Path.{◌≡◌, refl, sym, ap, subst, ◌∙◌}
 use mathlib.Core.Bool.{true, false}
 use mathlib.Core.List.{List}
 use mathlib.Core.Logic.{◌⊎◌, inl, inr}
-use mathlib.Core.Option.{none}
 use Prim.Native.Nat.{ℕ, suc, ◌+◌, ◌*◌, ◌≤◌, ◌<◌}
 use native.Mathlib.Omega.{arith}
 use lib.Dec.{T}
@@ -11,21 +11,17 @@ use lib.ListN.{length, take, drop, length-take}
 use Rattle.float64.specs.Pick.{both, cases}
 use Rattle.matrix.specs.declared.Pair.{Pair}
 use Rattle.likelihood.specs.declared.population_focei.Observation.{Observation}
-use Rattle.subject.specs.Subject.{Evaluating, has_nonfinite_sum, finish}
+use Rattle.subject.specs.Subject.{Evaluating, has_nonfinite_sum, finish, Evaluation}
 use Rattle.subject.specs.declared.Trial.{Trial}
 use Rattle.subject.specs.declared.Sums.{Sums}
-use Rattle.subject.specs.declared.Evaluation.{Evaluation}
-use Rattle.subject.specs.declared.Evaluation.TheVariants as E
 use Rattle.subject.specs.Claim.{Evaluates}
 use Rattle.subject.proofs.Ends.{finite_sums, evaluates}
 use Rattle.words.specs.Words.{zeros}
 use Rattle.work.specs.Work.{block, move_rows}
 use Rattle.cache.specs.Cache.{row_words}
-use Rattle.setup.specs.Admission.{with_parameters}
+use Rattle.setup.specs.Admission.{with_parameters, Admission}
 use Rattle.setup.specs.declared.Setup.{Setup}
 use Rattle.setup.specs.declared.Parameters.{Parameters}
-use Rattle.setup.specs.declared.Admission.{Admission}
-use Rattle.setup.specs.declared.Admission.TheVariants as A
 use Rattle.search.specs.Subjects as B
 use Rattle.search.specs.declared.Fit.{Fit}
 use Rattle.search.specs.declared.Place.{Place}
@@ -54,6 +50,8 @@ use Rattle.session_theorems.proofs.Searches.{Suits}
 use Rattle.session_theorems.proofs.Standing.{Alike, advanced_alike, recall_of, Waiting, Standing, still}
 use Rattle.session_theorems.proofs.Stores.{Fine, Trusted}
 use Rattle.session_theorems.proofs.Turns.{key_fine, warm_of_fits}
+use Rattle.subject.specs.declared.EvaluationError.TheVariants as E
+use Rattle.setup.specs.declared.AdmissionError.TheVariants as A
 
 -- the trial block is the last of four
 pub block_end : (rows : ℕ) → rows ≤ 100000 → block rows 3 + row_words * rows ≡ 12 * rows
@@ -88,11 +86,11 @@ module _ (S : Store) (setup : Setup) (counts : List ℕ) (observations : List Ob
     unaltered : (number : ℕ) (place : Place) → Goes c h (N.unaltered S number place h)
     unaltered number place = same refl
 
-    when_admitted_lem : (go : Moved (Held S) Step) (a : Admission) → (a ≡ A.Accepted → Goes c h go) → Goes c h (N.when_admitted S h go a)
+    when_admitted_lem : (go : Moved (Held S) Step) (a : Admission) → (a ≡ (Ok tt) → Goes c h go) → Goes c h (N.when_admitted S h go a)
     unfolding N.when_admitted
-    when_admitted_lem go A.Accepted f = f refl
-    when_admitted_lem go (A.Refused n) f = unaltered n At.Nowhere
-    when_admitted_lem go (A.Unsound place) f = unaltered 4 _
+    when_admitted_lem go (Ok tt) f = f refl
+    when_admitted_lem go (Err (A.Refused n)) f = unaltered n At.Nowhere
+    when_admitted_lem go (Err (A.Unsound place)) f = unaltered 4 _
 
     -- a refusal that ends the objective
     over : p.awaits ≡ true → (number : ℕ) → OfEvaluation number → (place : Place) → Goes c h (N.over S number place h)
@@ -105,7 +103,7 @@ module _ (S : Store) (setup : Setup) (counts : List ℕ) (observations : List Ob
     })
 
     -- ---- an objective
-    starts : (parameters : Parameters) → p.awaits ≡ false → N.admitted S setup counts (length observations) (N.all_checked setup counts observations) parameters w ≡ A.Accepted → Goes c h
+    starts : (parameters : Parameters) → p.awaits ≡ false → N.admitted S setup counts (length observations) (N.all_checked setup counts observations) parameters w ≡ (Ok tt) → Goes c h
         (on (N.begun S setup counts parameters w))
     unfolding N.begun N.admitted B.begin_subject
     starts parameters idle e =
@@ -198,7 +196,7 @@ module _ (S : Store) (setup : Setup) (counts : List ℕ) (observations : List Ob
       long : AsLong v.work ended.work
       long = work_length trial words setup.width setup.effects setup.output_budget lists v.work
 
-      module _ (sums : Sums) (d : finish ended.evaluation ≡ E.Running sums) where
+      module _ (sums : Sums) (d : finish ended.evaluation ≡ Ok sums) where
         finite : has_nonfinite_sum sums ≡ false
         finite = finite_sums ended.evaluation sums d
 
@@ -219,10 +217,10 @@ module _ (S : Store) (setup : Setup) (counts : List ℕ) (observations : List Ob
         long_on : AsLong v.work (move_rows rows (B.advance_by own r eta sums).sources ended.work)
         long_on = move_rows_length rows (B.advance_by own r eta sums).sources ended.work ∙ long
 
-        missing : S.recall v.kept setup.k (B.key_of own r.subject eta) rows v.work (block rows 3) ≡ none
+        missing : S.recall v.kept setup.k (B.key_of own r.subject eta) rows v.work (block rows 3) ≡ None
         missing =
-            subst (λ (k : ℕ). S.recall v.kept k (B.key_of own r.subject eta) rows v.work (block rows 3) ≡ none) (fit_k setup h.parameters)
-            (subst (λ (x : Pair). recall_of S setup counts observations I Q U h x ≡ none) same_eta waits.missing)
+            subst (λ (k : ℕ). S.recall v.kept k (B.key_of own r.subject eta) rows v.work (block rows 3) ≡ None) (fit_k setup h.parameters)
+            (subst (λ (x : Pair). recall_of S setup counts observations I Q U h x ≡ None) same_eta waits.missing)
 
         abbrev keep : ℕ → S.Kept
         keep k = S.keep v.kept k (B.key_of own r.subject eta) (B.terms_of sums) rows ended.work (block rows 3)
@@ -237,7 +235,7 @@ module _ (S : Store) (setup : Setup) (counts : List ℕ) (observations : List Ob
             v.work (block rows 3)
             missing fine (each r.subject s.subject).0 lent)
 
-        goes : Goes (reply words) h (N.replied S counts own eta h ended.work (E.Running sums))
+        goes : Goes (reply words) h (N.replied S counts own eta h ended.work (Ok sums))
         unfolding N.replied receive takes
         goes = replied t
             (subst (I.rules.Answers _) (sym given_is) (Q.answers own r eta sums effects_are (Q.domain setup h.parameters r refl bound s.omega_in s.shape_in s.warm_fits)
@@ -279,9 +277,9 @@ module _ (S : Store) (setup : Setup) (counts : List ℕ) (observations : List Ob
       placed (inr (inr e)) = (omega (arith, e), omega (arith, e))
 
       by_end : (x : Evaluation) → finish ended.evaluation ≡ x → Goes (reply words) h (N.replied S counts own eta h ended.work x)
-      by_end (E.Running sums) d = goes sums d
-      by_end (E.Refused n) d = unfold N.replied in over (reply words) h s t n (numbered (ends.numbers n d)) _
-      by_end (E.RefusedAt n i) d = unfold N.replied in over (reply words) h s t n (placed (ends.places n i d).0) _
+      by_end (Ok sums) d = goes sums d
+      by_end (Err (E.Refused n)) d = unfold N.replied in over (reply words) h s t n (numbered (ends.numbers n d)) _
+      by_end (Err (E.RefusedAt n i)) d = unfold N.replied in over (reply words) h s t n (placed (ends.places n i d).0) _
 
       pub answers : Goes (reply words) h (N.answered S setup counts observations words eta h)
       unfolding N.answered

@@ -1,4 +1,5 @@
 -- An evaluation's sums are floats of the format, so that their bits tell them, and it keeps the number of work words. Assumes nothing.
+use Rattle.std.specs.Prelude.{Err, None, Ok, Option, Some, ℕ}
 use mathlib.Core.Path.{◌≡◌, refl, subst, ◌∙◌}
 use mathlib.Core.Bool.{false}
 use mathlib.Core.List.{List, [], ◌∷◌}
@@ -16,20 +17,17 @@ use Rattle.likelihood.specs.declared.population_focei.RowTerms.{RowTerms}
 use Rattle.likelihood.specs.declared.population_focei_2d.Row2.{Row2}
 use Rattle.subject.specs.Claim.{reply_rows}
 use Rattle.subject.specs.Reply.{written}
-use Rattle.subject.specs.Subject.{begin, at_observation, with_terms, add_row, with_row, add_row2, add_row_at, Evaluating, evaluating, add_at, add_to, add_after, add_observation, add_observations, has_nonfinite_sum}
+use Rattle.subject.specs.Subject.{begin, at_observation, with_terms, add_row, with_row, add_row2, add_row_at, Evaluating, evaluating, add_at, add_to, add_after, add_observation, add_observations, has_nonfinite_sum, Evaluation}
 use Rattle.subject.specs.Subject.{finish}
 use Rattle.subject.specs.declared.Trial.{Trial}
 use Rattle.subject.specs.declared.Sums.{Sums}
-use Rattle.subject.specs.declared.Evaluation.{Evaluation}
-use Rattle.subject.specs.declared.Evaluation.TheVariants.{Running, Refused, RefusedAt}
-use Rattle.subject.specs.declared.RowAt.{RowAt}
-use Rattle.subject.specs.declared.RowAt.TheVariants.{Word, Missing}
 use Rattle.subject.specs.declared.PredictionRow.{PredictionRow}
 use Rattle.cache.specs.Cache.{row_words}
 use Rattle.search.specs.Subjects.{sums_of, terms_of}
 use Rattle.state_words.proofs.Back.{FitsMatrix}
 use Rattle.session_theorems.proofs.Fitting.{Fits}
 use Rattle.session_theorems.proofs.Lengths.{AsLong}
+use Rattle.subject.specs.declared.EvaluationError.TheVariants.{Refused, RefusedAt}
 
 pub record FitsSums (s : Sums) : Type 0 where
   pub nll : Fits s.nll
@@ -38,9 +36,9 @@ pub record FitsSums (s : Sums) : Type 0 where
   pub information : FitsMatrix s.information
 
 unfoldable FitsRunning : Evaluation → Type 0
-FitsRunning (Running s) = FitsSums s
-FitsRunning (Refused n) = Unit
-FitsRunning (RefusedAt n i) = Unit
+FitsRunning (Ok s) = FitsSums s
+FitsRunning (Err (Refused n)) = Unit
+FitsRunning (Err (RefusedAt n i)) = Unit
 
 -- ---- a row
 row_fits : {X : Type 0} (n : ℕ) (f : X → Sums) → ((x : X) → FitsSums (f x)) → (a : Answer X) → FitsRunning (at_observation n (through f a))
@@ -86,16 +84,16 @@ record Kept (x y : Evaluating) : Type 0 where
   long : AsLong x.work y.work
 
 module _ (trial : Trial) (reply : List ℕ) where
-  at_row : (s : Sums) → FitsSums s → (o : Observation) (work : List ℕ) (r : RowAt) → Kept (evaluating (Running s) work) (add_at s o trial reply work r)
+  at_row : (s : Sums) → FitsSums s → (o : Observation) (work : List ℕ) (r : Option ℕ) → Kept (evaluating (Ok s) work) (add_at s o trial reply work r)
   unfolding add_at FitsRunning
-  at_row s f o work (Word p) = record { fits = added_fits s f o trial reply p; long = written_length _ _ _ work }
-  at_row s f o work Missing = record { fits = tt; long = refl }
+  at_row s f o work (Some p) = record { fits = added_fits s f o trial reply p; long = written_length _ _ _ work }
+  at_row s f o work None = record { fits = tt; long = refl }
 
   one_more : (o : Observation) (work : List ℕ) (e : Evaluation) → FitsRunning e → Kept (evaluating e work) (add_observation trial reply o (evaluating e work))
   unfolding add_observation add_after add_to FitsRunning
-  one_more o work (Running s) f = at_row s f o work _
-  one_more o work (Refused n) f = record { fits = tt; long = refl }
-  one_more o work (RefusedAt n i) f = record { fits = tt; long = refl }
+  one_more o work (Ok s) f = at_row s f o work _
+  one_more o work (Err (Refused n)) f = record { fits = tt; long = refl }
+  one_more o work (Err (RefusedAt n i)) f = record { fits = tt; long = refl }
 
   all : (os : List Observation) (x : Evaluating) → FitsRunning x.evaluation → Kept x (add_observations trial reply os x)
   all [] x f = record { fits = f; long = refl }
@@ -120,14 +118,14 @@ module _ (trial : Trial) (reply : List ℕ) (width effects budget : ℕ) (os : L
   pub work_length : AsLong work end.work
   work_length = kept.long
 
-  finished_fits : (e : Evaluation) → FitsRunning e → (s : Sums) → finish e ≡ Running s → FitsSums s
+  finished_fits : (e : Evaluation) → FitsRunning e → (s : Sums) → finish e ≡ Ok s → FitsSums s
   unfolding finish FitsRunning
-  finished_fits (Running t) f s q = cases (λ (z : Evaluation). z ≡ Running s → FitsSums s) (has_nonfinite_sum t) (λ h w. absurd (let z : ◌≡◌ {A = ℕ} 0 1 = cc in omega arith))
+  finished_fits (Ok t) f s q = cases (λ (z : Evaluation). z ≡ Ok s → FitsSums s) (has_nonfinite_sum t) (λ h w. absurd (let z : ◌≡◌ {A = ℕ} 0 1 = cc in omega arith))
       (λ h w. let d : t ≡ s = cc in subst FitsSums d f) q
-  finished_fits (Refused n) f s q = absurd (let z : ◌≡◌ {A = ℕ} 0 1 = cc in omega arith)
-  finished_fits (RefusedAt n i) f s q = absurd (let z : ◌≡◌ {A = ℕ} 0 1 = cc in omega arith)
+  finished_fits (Err (Refused n)) f s q = absurd (let z : ◌≡◌ {A = ℕ} 0 1 = cc in omega arith)
+  finished_fits (Err (RefusedAt n i)) f s q = absurd (let z : ◌≡◌ {A = ℕ} 0 1 = cc in omega arith)
 
-  pub sums_fit : (s : Sums) → finish end.evaluation ≡ Running s → FitsSums s
+  pub sums_fit : (s : Sums) → finish end.evaluation ≡ Ok s → FitsSums s
   sums_fit s q = finished_fits end.evaluation kept.fits s q
 
 -- ---- as words, and back

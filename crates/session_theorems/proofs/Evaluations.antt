@@ -1,9 +1,9 @@
 -- What is asked for and what is kept, in every session: `every_evaluation` (specs/Evaluations.antt). Assumes nothing.
+use Rattle.std.specs.Prelude.{Err, Float, None, Ok, Option, Some}
 use mathlib.Core.Path.{◌≡◌, refl, sym, ap, subst, ◌∙◌}
 use mathlib.Core.Bool.{Bool, true, false}
 use mathlib.Core.List.{List, [], ◌∷◌, ◌++◌}
 use mathlib.Core.Logic.{⊎_elim}
-use mathlib.Core.Option.{none}
 use Prim.Native.Nat.{ℕ, ◌+◌, ◌-◌, ◌*◌, ◌≤◌, ◌<◌}
 use native.Mathlib.Omega.{arith}
 use borrow.Author.Tests.{ltb-true, ltb-false}
@@ -19,11 +19,7 @@ use Rattle.cache.specs.Claim.{Room}
 use Rattle.cache.specs.Kept.{Entry, Evaluated, entry_for, cached_rows, drop_to, appended, lookup, words_from, Stands}
 use Rattle.cache.proofs.Run.{refinement}
 use Rattle.subject.specs.Claim.{Evaluates as Ends, reply_rows}
-use Rattle.subject.specs.Subject.{Evaluating, finish}
-use Rattle.subject.specs.declared.AdditiveSd.{AdditiveSd}
-use Rattle.subject.specs.declared.AdditiveSd.TheVariants.{Own, Override}
-use Rattle.subject.specs.declared.Evaluation.{Evaluation}
-use Rattle.subject.specs.declared.Evaluation.TheVariants as E
+use Rattle.subject.specs.Subject.{Evaluating, finish, Evaluation}
 use Rattle.subject.specs.declared.Sums.{Sums}
 use Rattle.subject.specs.declared.Trial.{Trial}
 use Rattle.subject.proofs.Ends.{evaluates}
@@ -55,6 +51,7 @@ use Rattle.session_theorems.proofs.Session.{some_room}
 use Rattle.session_theorems.proofs.Standing.{Standing}
 use Rattle.session_theorems.proofs.Stores.{words_trusted, kept_few, kept_rows_lem, not_found, cleared_words}
 use Rattle.session_theorems.proofs.Asked.{fit_given, Values, Good, Leaves, Left, over, objectives, failures, unawaited, called}
+use Rattle.subject.specs.declared.EvaluationError.TheVariants as E
 
 -- ---- an awaited reply
 module _ (setup : Setup) (counts : List ℕ) (observations : List Observation) (I : Inner) (Q : Suits I setup.effects) (lent : Lent) (many : length observations ≡ lent.observations)
@@ -103,20 +100,20 @@ module _ (setup : Setup) (counts : List ℕ) (observations : List Observation) (
   block_there = let b = block_end rows small in let l = s.roomy p.subject s.subject in omega (arith, b, l)
 
   -- ---- what is kept of it
-  module _ (sums : Sums) (d : finish end.evaluation ≡ E.Running sums) where
+  module _ (sums : Sums) (d : finish end.evaluation ≡ Ok sums) where
     abbrev kept_as : Evaluated
     kept_as = record { key = B.key_of fit p.subject eta; terms = B.terms_of sums; n = rows; rows = end.work; from = block rows 3 }
 
     abbrev told_as_lem : Evaluated
     told_as_lem = kept_of setup counts observations said h sums
 
-    has_same : (sd : AdditiveSd) → B.has_additive sd ≡ has_override sd
-    has_same Own = refl
-    has_same (Override x) = refl
+    has_same : (sd : Option Float) → B.has_additive sd ≡ has_override sd
+    has_same None = refl
+    has_same (Some x) = refl
 
-    word_same : (sd : AdditiveSd) → B.additive_word sd ≡ override sd
-    word_same Own = refl
-    word_same (Override x) = refl
+    word_same : (sd : Option Float) → B.additive_word sd ≡ override sd
+    word_same None = refl
+    word_same (Some x) = refl
 
     by_effects : (t : Bool) → eqb setup.effects 2 ≡ t → pick t (B.key2 fit p.subject eta) (B.key1 fit p.subject eta) ≡ told_as_lem.key
     unfolding B.key1 B.key2
@@ -165,10 +162,10 @@ module _ (setup : Setup) (counts : List ℕ) (observations : List Observation) (
       abbrev next : Cache
       next = words.keep h.whole.kept setup.k (B.key_of fit p.subject eta) (B.terms_of sums) rows end.work (block rows 3)
 
-      missing : lookup (B.key_of fit p.subject eta) l ≡ none
+      missing : lookup (B.key_of fit p.subject eta) l ≡ None
       missing = not_found setup.k room.some room.most h.whole.kept l st (B.key_of fit p.subject eta) rows h.whole.work (block rows 3) _ refl
-          (subst (λ (x : Pair). words.recall h.whole.kept setup.k (B.key_of fit p.subject x) rows h.whole.work (block rows 3) ≡ none) same_eta
-          (subst (λ (k : ℕ). words.recall h.whole.kept k (B.key_of fit p.subject (s.waiting waits).eta) rows h.whole.work (block rows 3) ≡ none) (fit_k setup h.parameters)
+          (subst (λ (x : Pair). words.recall h.whole.kept setup.k (B.key_of fit p.subject x) rows h.whole.work (block rows 3) ≡ None) same_eta
+          (subst (λ (k : ℕ). words.recall h.whole.kept k (B.key_of fit p.subject (s.waiting waits).eta) rows h.whole.work (block rows 3) ≡ None) (fit_k setup h.parameters)
           (s.waiting waits).missing))
 
       few : h.whole.kept.order.next < half
@@ -194,9 +191,9 @@ module _ (setup : Setup) (counts : List ℕ) (observations : List Observation) (
 
   by_end : (e : Evaluation) → finish end.evaluation ≡ e → (c : Cache) × Kept_with e c × Leaves setup counts observations c (N.replied words counts fit eta h end.work e)
   unfolding N.replied receive takes Leaves
-  by_end (E.Running sums) d = (
+  by_end (Ok sums) d = (
     next_of,
-    λ l st. subst (λ (k : ℕ). Stands (keep k).words setup.k (keep k).order (with_reply setup counts observations said h l (E.Running sums))) (sym (fit_k setup h.parameters))
+    λ l st. subst (λ (k : ℕ). Stands (keep k).words setup.k (keep k).order (with_reply setup counts observations said h l (Ok sums))) (sym (fit_k setup h.parameters))
         (appends sums d l st),
     refl,
   )
@@ -206,8 +203,8 @@ module _ (setup : Setup) (counts : List ℕ) (observations : List Observation) (
 
       next_of : Cache
       next_of = keep fit.k
-  by_end (E.Refused n) d = (h.whole.kept, λ l st. st, over setup counts observations h n _)
-  by_end (E.RefusedAt n i) d = (h.whole.kept, λ l st. st, over setup counts observations h n _)
+  by_end (Err (E.Refused n)) d = (h.whole.kept, λ l st. st, over setup counts observations h n _)
+  by_end (Err (E.RefusedAt n i)) d = (h.whole.kept, λ l st. st, over setup counts observations h n _)
 
   record Replied : Type 0 where
     keeps : (l : List Entry) → Keeping setup counts observations h l

@@ -1,8 +1,8 @@
 -- A session's state stays of the format from call to call, so that its words tell it. Assumes nothing.
+use Rattle.std.specs.Prelude.{Err, Float, None, Ok, Option, Some}
 use mathlib.Core.Path.{◌≡◌, refl, sym, ap, subst}
 use mathlib.Core.Bool.{true, false}
 use mathlib.Core.List.{List}
-use mathlib.Core.Option.{Option, none, some}
 use mathlib.Core.Logic.{◌⊎◌, inl, inr}
 use Prim.Native.Nat.{ℕ, ◌+◌, ◌≤◌}
 use native.Mathlib.Omega.{arith}
@@ -21,22 +21,14 @@ use Rattle.mode.specs.declared.population_focei.Stage.{Stage}
 use Rattle.mode.specs.declared.population_focei.Stage.TheVariants.{Grid, Warm, Secant, Halving}
 use Rattle.mode_2d.specs.declared.population_focei_2d.Stage2.{Stage2}
 use Rattle.mode_2d.specs.declared.population_focei_2d.Stage2.TheVariants as S2
-use Rattle.subject.specs.Subject.{individual, individual_values}
-use Rattle.subject.specs.declared.AdditiveSd.{AdditiveSd}
-use Rattle.subject.specs.declared.AdditiveSd.TheVariants.{Own, Override}
+use Rattle.subject.specs.Subject.{individual, individual_values, Evaluation}
 use Rattle.subject.specs.declared.Sums.{Sums}
-use Rattle.subject.specs.declared.Evaluation.{Evaluation}
-use Rattle.subject.specs.declared.Evaluation.TheVariants as E
 use Rattle.work.specs.Work.{is_same_grid}
 use Rattle.setup.specs.declared.Lent.{Lent}
 use Rattle.setup.specs.declared.Setup.{Setup}
 use Rattle.setup.specs.declared.Parameters.{Parameters}
-use Rattle.setup.specs.declared.Admission.{Admission}
-use Rattle.setup.specs.declared.Admission.TheVariants as A
 use Rattle.search.specs.Subjects as B
 use Rattle.search.specs.declared.Advanced.{Advanced}
-use Rattle.search.specs.declared.Closed.{Closed}
-use Rattle.search.specs.declared.Closed.TheVariants.{Positive, NotPositive}
 use Rattle.search.specs.declared.Fit.{Fit}
 use Rattle.search.specs.declared.Halted.{Halted}
 use Rattle.search.specs.declared.Mode.{Mode}
@@ -50,9 +42,7 @@ use Rattle.search.specs.declared.Wanted.TheVariants as Wants
 use Rattle.search.proofs.Fits.{fit_effects, fit_bound}
 use Rattle.machine.specs.Machine.{Moved, on}
 use Rattle.population.specs.Kept.{Recalled, words}
-use Rattle.population.specs.Population.{rows_of, Worked, answered, at_point, next_subject, Ended, closing, at_mode, served_by, served, turned, Whole, moved, turn, receive, take as takes}
-use Rattle.population.specs.declared.Turned.{Turned}
-use Rattle.population.specs.declared.Turned.TheVariants.{On, Halt}
+use Rattle.population.specs.Population.{rows_of, Worked, answered, at_point, next_subject, Ended, closing, at_mode, served_by, served, turned, Whole, moved, turn, receive, take as takes, Turned}
 use Rattle.session.specs.Session as N
 use Rattle.session.specs.Session.{Held, Call, objective, reply, failure, count_within, search_within}
 use Rattle.session.specs.Calls.{state_of}
@@ -70,6 +60,10 @@ use Rattle.session_theorems.proofs.Placed.{Going}
 use Rattle.session_theorems.proofs.Searches.{Suits}
 use Rattle.session_theorems.proofs.Standing.{Standing}
 use Rattle.session_theorems.proofs.Stores.{Trusted}
+use Rattle.core.specs.declared.ops.ControlFlow.TheVariants.{Break, Continue}
+use Rattle.subject.specs.declared.EvaluationError.TheVariants as E
+use Rattle.setup.specs.declared.AdmissionError.TheVariants as A
+use Rattle.setup.specs.Admission.{Admission}
 
 zero_fits : Fits (word 0)
 zero_fits = of_bits-fits binary64 0
@@ -132,9 +126,9 @@ valued theta eta effects = both Valued _ tt (both Valued _ (both Valued _ tt (re
     (record { first = mul-fits binary64 _ _; second = zero_fits }))
 
 -- ---- an objective's parameters
-abbrev pub FitsSd : AdditiveSd → Type 0
-FitsSd Own = Unit
-FitsSd (Override additive) = Fits additive
+abbrev pub FitsSd : Option Float → Type 0
+FitsSd None = Unit
+FitsSd (Some additive) = Fits additive
 
 pub record FitsParameters (p : Parameters) : Type 0 where
   pub theta : Fits p.theta.first
@@ -170,13 +164,13 @@ module _ (setup : Setup) (counts : List ℕ) (observations : List Observation) (
   point_fits eta e = let f = Q.points fit p eta (fit_effects setup h.parameters) limit s.warm_fits s.pointed e in record { first = f.first; second = f.second }
 
   FitsTurned : Turned → Type 0
-  FitsTurned (On q) = FitsProgress q
-  FitsTurned (Halt x) = FitsProgress x.progress
+  FitsTurned (Continue q) = FitsProgress q
+  FitsTurned (Break x) = FitsProgress x.progress
 
   closes : (t : Turned) (work warm results : List ℕ) → FitsTurned t → After Formatted (N.held_by words h.parameters (moved words w.tally w.kept work warm results t))
   unfolding After N.held_by moved FitsTurned
-  closes (On q) work warm results f = record { parameters = g.parameters; progress = f }
-  closes (Halt x) work warm results f = record { parameters = g.parameters; progress = f }
+  closes (Continue q) work warm results f = record { parameters = g.parameters; progress = f }
+  closes (Break x) work warm results f = record { parameters = g.parameters; progress = f }
 
   -- ---- a point
   refuses : (tally : Tally) (number : ℕ) (place : Place) → FitsProgress (B.refused_by p tally number place).progress
@@ -194,8 +188,8 @@ module _ (setup : Setup) (counts : List ℕ) (observations : List Observation) (
 
   by_recall : (eta : Pair) → FitsPair eta → (o : Option Recalled) → FitsTurned (answered fit rows p w.tally eta w.work o).value
   unfolding answered takes FitsTurned
-  by_recall eta e (some r) = advances p g.progress fit eta (B.sums_of r.terms) limit e (kept_sums r.terms)
-  by_recall eta e none = asked eta
+  by_recall eta e (Some r) = advances p g.progress fit eta (B.sums_of r.terms) limit e (kept_sums r.terms)
+  by_recall eta e None = asked eta
 
   -- ---- a mode
   objective_ends : (ofv squares : Float) → Fits ofv → Fits squares → FitsProgress (B.objective_of p w.tally ofv squares).progress
@@ -207,10 +201,10 @@ module _ (setup : Setup) (counts : List ℕ) (observations : List Observation) (
   next_ends m warm = both (λ (x : Worked Turned). FitsTurned x.value) _ (begins _ _ _ _ _ _ (add-fits binary64 _ _) (add-fits binary64 _ _))
       (objective_ends _ _ (add-fits binary64 _ _) (add-fits binary64 _ _))
 
-  by_closed : (c : Closed) → FitsTurned (closing fit counts p w.tally rows w.work w.warm w.results c).turned
+  by_closed : (c : Option Mode) → FitsTurned (closing fit counts p w.tally rows w.work w.warm w.results c).turned
   unfolding closing FitsTurned
-  by_closed NotPositive = refuses w.tally 16 _
-  by_closed (Positive m) = both (λ (e : Ended). FitsTurned e.turned) (is_same_grid w.work rows) (next_ends m _) (refuses w.tally 17 _)
+  by_closed None = refuses w.tally 16 _
+  by_closed (Some m) = both (λ (e : Ended). FitsTurned e.turned) (is_same_grid w.work rows) (next_ends m _) (refuses w.tally 17 _)
 
   by_wanted : (v : Wanted) → B.wanted_by fit p ≡ v → FitsTurned (served_by words fit counts p w.tally w.kept w.work w.warm w.results v).turned
   unfolding served_by at_mode at_point FitsTurned
@@ -233,9 +227,9 @@ module _ (setup : Setup) (counts : List ℕ) (observations : List Observation) (
 
   when_admitted_lem : (go : Moved (Held words) Step) (a : Admission) → After Formatted go → After Formatted (N.when_admitted words h go a)
   unfolding N.when_admitted
-  when_admitted_lem go A.Accepted f = f
-  when_admitted_lem go (A.Refused n) f = unaltered n _
-  when_admitted_lem go (A.Unsound place) f = unaltered 4 _
+  when_admitted_lem go (Ok tt) f = f
+  when_admitted_lem go (Err (A.Refused n)) f = unaltered n _
+  when_admitted_lem go (Err (A.Unsound place)) f = unaltered 4 _
 
   begun_fits : (parameters : Parameters) → FitsParameters parameters → After {Answer = Step} Formatted (on (N.begun words setup counts parameters w))
   unfolding N.begun After
@@ -253,11 +247,11 @@ module _ (setup : Setup) (counts : List ℕ) (observations : List Observation) (
   unfolding N.when_awaited
   when_awaited_lem go f n = both (After Formatted) _ (both (After Formatted) _ (at_wanted_lem go (B.wanted_by fit p) f n) (unaltered 19 _)) (unaltered 19 _)
 
-  replied : (eta : Pair) → FitsPair eta → (work : List ℕ) (e : Evaluation) → ((sums : Sums) → e ≡ E.Running sums → FitsSums sums) → After Formatted (N.replied words counts fit eta h work e)
+  replied : (eta : Pair) → FitsPair eta → (work : List ℕ) (e : Evaluation) → ((sums : Sums) → e ≡ Ok sums → FitsSums sums) → After Formatted (N.replied words counts fit eta h work e)
   unfolding N.replied receive takes After
-  replied eta f work (E.Running sums) k = record { parameters = g.parameters; progress = advances p g.progress fit eta sums limit f (k sums refl) }
-  replied eta f work (E.Refused n) k = over n _
-  replied eta f work (E.RefusedAt n i) k = over n _
+  replied eta f work (Ok sums) k = record { parameters = g.parameters; progress = advances p g.progress fit eta sums limit f (k sums refl) }
+  replied eta f work (Err (E.Refused n)) k = over n _
+  replied eta f work (Err (E.RefusedAt n i)) k = over n _
 
   answered_fits : (said : List ℕ) (eta : Pair) → B.wanted_by fit p ≡ Wants.Point eta → After Formatted (N.answered words setup counts observations said eta h)
   unfolding N.answered
@@ -302,10 +296,10 @@ stage_known S2.Trial n = refl
 stage_known S2.Found n = refl
 stage_known (S2.Halted k) n = halted_known k n
 
-additive_fits : (a : AdditiveSd) → FitsSd a → FitsAdditive a
+additive_fits : (a : Option Float) → FitsSd a → FitsAdditive a
 unfolding FitsAdditive
-additive_fits Own f = tt
-additive_fits (Override x) f = f
+additive_fits None f = tt
+additive_fits (Some x) f = f
 
 pub state_fits : (setup : Setup) (counts : List ℕ) (observations : List Observation) (lent : Lent) (a : Accepts setup counts lent) (h : Held words) → Going setup counts observations lent a h
     → FitsPair h.whole.progress.warm

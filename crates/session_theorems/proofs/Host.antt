@@ -1,4 +1,5 @@
 -- Demand 3 of what a host sees, `every_host` (specs/Host.antt): the words that it has are the machine's state, from call to call. Assumes nothing.
+use Rattle.std.specs.Prelude.{Err, Ok, Result}
 use mathlib.Core.Path.{◌≡◌, refl, sym, ap, subst, ◌∙◌}
 use mathlib.Core.Bool.{Bool, true, false}
 use mathlib.Core.List.{List, [], ◌∷◌, ◌++◌, append_assoc, append-nil}
@@ -16,10 +17,8 @@ use Rattle.float64.specs.Arithmetic.{word}
 use Rattle.float64.specs.Pick.{pick, both, cases, pick_yes}
 use Rattle.likelihood.specs.declared.population_focei.Observation.{Observation}
 use Rattle.subject.specs.Subject.{additive_sd}
-use Rattle.setup.specs.Admission.{checks, count_observations}
+use Rattle.setup.specs.Admission.{checks, count_observations, Admission}
 use Rattle.setup.specs.declared.Setup.{Setup}
-use Rattle.setup.specs.declared.Admission.{Admission}
-use Rattle.setup.specs.declared.Admission.TheVariants as A
 use Rattle.setup.proofs.Bounds.{shape_low}
 use Rattle.search.specs.Subjects as B
 use Rattle.search.specs.declared.Progress.{Progress}
@@ -32,8 +31,6 @@ use Rattle.population.specs.Population.{rows_of}
 use Rattle.session.specs.Session as N
 use Rattle.session.specs.Session.{Held, Call, objective, reply, failure, all_checked}
 use Rattle.session.specs.Calls.{held_of, state_of, Setting, opening, opened_by}
-use Rattle.session.specs.declared.Opening.{Opening}
-use Rattle.session.specs.declared.Opening.TheVariants as Opens
 use Rattle.session.specs.declared.State.{State}
 use Rattle.state_words.specs.SessionWords.{state_size, loaded_state, saved_state}
 use Rattle.state_words.proofs.Back.{FitsState, back}
@@ -70,6 +67,8 @@ use Rattle.session_theorems.proofs.Turns.{turns}
 use Rattle.session_theorems.proofs.Runs.{every_run}
 use Rattle.session_theorems.proofs.Unwritten.{every_unwritten}
 use Rattle.session_theorems.proofs.Written.{every_word}
+use Rattle.session.specs.declared.Refusal.{Refusal}
+use Rattle.setup.specs.declared.AdmissionError.TheVariants as A
 
 -- two picks by one test
 alike : {X Y : Type 0} (P : X → Y → Type 0) (b : Bool) {x x' : X} {y y' : Y} → P x y → P x' y' → P (pick b x x') (pick b y y')
@@ -166,11 +165,11 @@ module _ (l : Lending) where
   run_set s (sets w ∷ xs) v = run_set (set (M l) w s) xs v
 
 -- ---- the session, where setup let it in
-granted : (l : Lending) → FitsSetup l.setup → N.opens words l.setup l.counts l.observations (lent l) ≡ A.Accepted
+granted : (l : Lending) → FitsSetup l.setup → N.opens words l.setup l.counts l.observations (lent l) ≡ (Ok tt)
     → Granted l.setup l.counts l.observations (lent l) l.results
 granted l f passes = record { bound = f.bound; limit = f.most; many = refl; long = refl; passes = passes }
 
-module _ (l : Lending) (I : Inner) (Q : Suits I l.setup.effects) (f : FitsSetup l.setup) (passes : N.opens words l.setup l.counts l.observations (lent l) ≡ A.Accepted) where
+module _ (l : Lending) (I : Inner) (Q : Suits I l.setup.effects) (f : FitsSetup l.setup) (passes : N.opens words l.setup l.counts l.observations (lent l) ≡ (Ok tt)) where
   abbrev a : Accepts l.setup l.counts (lent l)
   a = accepts l.setup l.counts (lent l) (all_checked l.setup l.counts l.observations) passes
 
@@ -324,31 +323,31 @@ module _ (l : Lending) (f : FitsSetup l.setup) (e : number l opens ≡ 0) where
 
   opened_by_lem : (adm : Admission) → Judged (length l.counts) adm → (H.opened (opening l.setup l.counts (lent l) l.tally l.cache l.work l.warm l.results adm).begun
       l.state l.answer).done.number ≡ 0
-      → (opening l.setup l.counts (lent l) l.tally l.cache l.work l.warm l.results adm).begun.opening ≡ Opens.Opened next
+      → (opening l.setup l.counts (lent l) l.tally l.cache l.work l.warm l.results adm).begun.opening ≡ Ok next
   unfolding Judged opening H.opened opened_to
-  opened_by_lem A.Accepted n q = refl
-  opened_by_lem (A.Refused k) n q = absurd (nothing_at_0 n.0 q)
+  opened_by_lem (Ok tt) n q = refl
+  opened_by_lem (Err (A.Refused k)) n q = absurd (nothing_at_0 n.0 q)
     where
       nothing_at_0 : AltersNothing k → k ≡ 0 → ⊥
       nothing_at_0 (inl r) z = let low = r.0 in omega (arith, low, z)
       nothing_at_0 (inr r) z = omega (arith, r, z)
-  opened_by_lem (A.Unsound place) n q = absurd (omega (arith, q))
+  opened_by_lem (Err (A.Unsound place)) n q = absurd (omega (arith, q))
 
-  is_opened_lem : setting.begun.opening ≡ Opens.Opened next
+  is_opened_lem : setting.begun.opening ≡ Ok next
   unfolding opened_by checks
   is_opened_lem = opened_by_lem _ (counts_judged l.setup (length l.counts) (lent l) (all_checked l.setup l.counts l.observations) (count_observations l.counts))
       (ap (λ (o : Out). o.told.done.number) (sym settled_by.same) ∙ e)
 
-  abbrev passes : N.opens words l.setup l.counts l.observations (lent l) ≡ A.Accepted
+  abbrev passes : N.opens words l.setup l.counts l.observations (lent l) ≡ (Ok tt)
   passes = (every_setup l.setup l.counts l.observations l.tally l.cache l.work l.warm l.results next is_opened_lem).passes
 
   first_state_lem : settled_out.told.state ≡ saved_state next l.state
   unfolding H.opened opened_to
-  first_state_lem = ap (λ (o : Opening). (opened_to setting.begun.tally l.state l.answer o).state) is_opened_lem
+  first_state_lem = ap (λ (o : Result State Refusal). (opened_to setting.begun.tally l.state l.answer o).state) is_opened_lem
 
   first_tally : settled_out.told.done.tally ≡ setting.begun.tally
   unfolding H.opened opened_to
-  first_tally = ap (λ (o : Opening). (opened_to setting.begun.tally l.state l.answer o).done.tally) is_opened_lem
+  first_tally = ap (λ (o : Result State Refusal). (opened_to setting.begun.tally l.state l.answer o).done.tally) is_opened_lem
 
   module _ (I : Inner) (Q : Suits I l.setup.effects) where
     first_is : Is (left settled_out) (first l)

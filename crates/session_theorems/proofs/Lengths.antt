@@ -1,7 +1,7 @@
 -- What a step writes keeps the number of words that are lent. Assumes nothing.
+use Rattle.std.specs.Prelude.{None, Option, Some, ℕ}
 use mathlib.Core.Path.{◌≡◌, refl, ap, ◌∙◌}
 use mathlib.Core.List.{List}
-use mathlib.Core.Option.{some}
 use Prim.Native.Nat.{ℕ, zero, suc, ◌+◌, ◌*◌}
 use native.Mathlib.Omega.{arith}
 use lib.Dec.{ltb, eqb}
@@ -10,8 +10,6 @@ use lib.Ieee.{Float}
 use Rattle.float64.specs.Pick.{both}
 use Rattle.matrix.specs.declared.Pair.{Pair}
 use Rattle.cache.specs.Cache.{row_words, rows_from, is_room, copied, copy_from, rows_to, first_of}
-use Rattle.cache.specs.declared.Found.{Found}
-use Rattle.cache.specs.declared.Found.TheVariants.{At, Nothing}
 use Rattle.words.specs.Words.{zeros}
 use Rattle.work.specs.Work.{rows_length, block, copy_words, copy_block, move_rows, result_written, fitted_row, fitted_from, fitted_written}
 use Rattle.work.specs.declared.Sources.{Sources}
@@ -54,10 +52,10 @@ copied_length w k slot n out to =
     both (AsLong out) (is_room k) (both (AsLong out) (ltb k n) refl (both (AsLong out) (ltb (length w) ((rows_from + row_words) * k)) refl
     (both (AsLong out) (ltb (length out) (to + row_words * n)) refl (copy_from_length (row_words * n) w k (row_words * first_of w k slot) out to 0)))) refl
 
-pub recalled_length : (w : List ℕ) (k rows : ℕ) (work : List ℕ) (to : ℕ) (f : Found) (r : Recalled) → recall_at w k rows work to f ≡ some r → AsLong work r.work
+pub recalled_length : (w : List ℕ) (k rows : ℕ) (work : List ℕ) (to : ℕ) (f : Option ℕ) (r : Recalled) → recall_at w k rows work to f ≡ Some r → AsLong work r.work
 unfolding recall_at
-recalled_length w k rows work to (At slot) r q = let v : r.work ≡ copied w k slot rows work to = cc in ap length v ∙ copied_length w k slot rows work to
-recalled_length w k rows work to Nothing r q = absurd (let z : ◌≡◌ {A = ℕ} 0 1 = cc in omega arith)
+recalled_length w k rows work to (Some slot) r q = let v : r.work ≡ copied w k slot rows work to = cc in ap length v ∙ copied_length w k slot rows work to
+recalled_length w k rows work to None r q = absurd (let z : ◌≡◌ {A = ℕ} 0 1 = cc in omega arith)
 
 -- ---- a mode's warm start and results
 pub warm_stored_length : (effects subject : ℕ) (eta : Pair) (warm : List ℕ) → AsLong warm (warm_stored effects subject eta warm)

@@ -1,4 +1,5 @@
 -- A session lets in what it awaits, `let_in` (specs/LetIn.antt). Assumes nothing.
+use Rattle.std.specs.Prelude.{Err, None, Ok, Option}
 use mathlib.Core.Path.{◌≡◌, refl, sym, ap, subst, ◌∙◌}
 use mathlib.Core.Bool.{Bool, true, false}
 use mathlib.Core.List.{List}
@@ -12,21 +13,13 @@ use Rattle.float64.specs.Pick.{both, cases, pick_yes, pick_no}
 use Rattle.matrix.specs.declared.Pair.{Pair}
 use Rattle.likelihood.specs.declared.population_focei.Observation.{Observation}
 use Rattle.subject.specs.Claim.{Evaluates}
-use Rattle.subject.specs.Subject.{Evaluating, finish}
-use Rattle.subject.specs.declared.Check.{Check}
-use Rattle.subject.specs.declared.Check.TheVariants.{Sound, Unsound}
-use Rattle.subject.specs.declared.Evaluation.{Evaluation}
-use Rattle.subject.specs.declared.Evaluation.TheVariants as E
+use Rattle.subject.specs.Subject.{Evaluating, finish, Evaluation}
 use Rattle.subject.proofs.Ends.{evaluates}
 use Rattle.cache.specs.Claim.{Room}
-use Rattle.setup.specs.Admission.{is_no_omega, is_no_shape, is_cohort, admitted, checks_of, checks, count_observations, roomy, is_short, with_parameters}
+use Rattle.setup.specs.Admission.{is_no_omega, is_no_shape, is_cohort, admitted, checks_of, checks, count_observations, roomy, is_short, with_parameters, within, Admission}
 use Rattle.setup.specs.declared.Setup.{Setup}
 use Rattle.setup.specs.declared.Parameters.{Parameters}
 use Rattle.setup.specs.declared.Lent.{Lent}
-use Rattle.setup.specs.declared.Counts.{Counts}
-use Rattle.setup.specs.declared.Counts.TheVariants.{Within, Outside}
-use Rattle.setup.specs.declared.Admission.{Admission}
-use Rattle.setup.specs.declared.Admission.TheVariants as A
 use Rattle.setup.proofs.Bounds.{not_first, shape_low}
 use Rattle.search.specs.Subjects as B
 use Rattle.search.specs.declared.Fit.{Fit}
@@ -57,51 +50,54 @@ use Rattle.session_theorems.proofs.Standing.{Standing}
 use Rattle.session_theorems.proofs.Stores.{Trusted, words_trusted, kept_rows_lem, kept_lent}
 use Rattle.session_theorems.proofs.Turns.{turns}
 use Rattle.session_theorems.proofs.Plain.{Not19, before_19, one_not_19}
+use Rattle.subject.specs.declared.EvaluationError.TheVariants as E
+use Rattle.setup.specs.declared.AdmissionError.TheVariants as A
+use Rattle.subject.specs.Observations.{Check}
 
 -- ---- the numbers of 1 to 5
 unfoldable pub NumberOther : Admission → Type 0
-NumberOther A.Accepted = Unit
-NumberOther (A.Refused n) = Not19 n
-NumberOther (A.Unsound place) = Unit
+NumberOther (Ok tt) = Unit
+NumberOther (Err (A.Refused n)) = Not19 n
+NumberOther (Err (A.Unsound place)) = Unit
 
 roomy_other : (setup : Setup) (subjects total largest : ℕ) (lent : Lent) (check : Check) → NumberOther (roomy setup subjects total largest lent check)
 unfolding NumberOther roomy
-roomy_other setup subjects total largest lent (Sound place) = both NumberOther _ (before_19 (omega arith)) tt
-roomy_other setup subjects total largest lent (Unsound place) = tt
+roomy_other setup subjects total largest lent (Ok place) = both NumberOther _ (before_19 (omega arith)) tt
+roomy_other setup subjects total largest lent (Err place) = tt
 
-pub checks_other : (setup : Setup) (subjects : ℕ) (lent : Lent) (check : Check) (c : Counts) → NumberOther (checks_of setup subjects lent check c)
+pub checks_other : (setup : Setup) (subjects : ℕ) (lent : Lent) (check : Check) (c : Option Counts) → NumberOther (checks_of setup subjects lent check c)
 unfolding NumberOther checks_of admitted
-checks_other setup subjects lent check (Within total largest) = both NumberOther _ (both NumberOther _ (before_19 (omega arith))
-    (both NumberOther _ (before_19 (omega arith)) (roomy_other setup subjects total largest lent check))) (before_19 (omega arith))
-checks_other setup subjects lent check Outside = before_19 (omega arith)
+checks_other setup subjects lent check (Some n) = both NumberOther _ (both NumberOther _ (before_19 (omega arith))
+    (both NumberOther _ (before_19 (omega arith)) (roomy_other setup subjects n.total n.largest lent check))) (before_19 (omega arith))
+checks_other setup subjects lent check None = before_19 (omega arith)
 
 -- ---- 1 to 5 with an objective's own parameters: only 2 and 3 can refuse where the setup's own pass
 module _ (setup : Setup) (parameters : Parameters) (subjects : ℕ) (lent : Lent) (o : is_no_omega (with_parameters setup parameters) ≡ false) (s : is_no_shape (with_parameters setup parameters) ≡ false)
   where
     own_room : (total largest : ℕ) (check : Check) → roomy (with_parameters setup parameters) subjects total largest lent check ≡ roomy setup subjects total largest lent check
     unfolding roomy is_short with_parameters
-    own_room total largest (Sound place) = refl
-    own_room total largest (Unsound place) = refl
+    own_room total largest (Ok place) = refl
+    own_room total largest (Err place) = refl
 
-    own_admitted : (total largest : ℕ) (check : Check) → admitted setup subjects total largest lent check ≡ A.Accepted → admitted (with_parameters setup parameters) subjects total largest lent check ≡
-        A.Accepted
+    own_admitted : (total largest : ℕ) (check : Check) → admitted setup subjects total largest lent check ≡ (Ok tt) → admitted (with_parameters setup parameters) subjects total largest lent check ≡
+        (Ok tt)
     unfolding admitted
     own_admitted total largest check e =
         let a = not_first (is_no_omega setup) _ (λ q. let z : ◌≡◌ {A = ℕ} 0 1 = cc in omega arith) e in
         let b = not_first (is_no_shape setup) _ (λ q. let z : ◌≡◌ {A = ℕ} 0 1 = cc in omega arith) a.1 in
         pick_no _ _ _ o ∙ pick_no _ _ _ s ∙ own_room total largest check ∙ b.1
 
-    own_checks : (check : Check) (c : Counts) → checks_of setup subjects lent check c ≡ A.Accepted → checks_of (with_parameters setup parameters) subjects lent check c ≡ A.Accepted
+    own_checks : (check : Check) (c : Option Counts) → checks_of setup subjects lent check c ≡ (Ok tt) → checks_of (with_parameters setup parameters) subjects lent check c ≡ (Ok tt)
     unfolding checks_of with_parameters
-    own_checks check (Within total largest) e =
-        cases (λ (x : Admission). x ≡ A.Accepted → checks_of (with_parameters setup parameters) subjects lent check (Within total largest) ≡ A.Accepted)
-        (is_cohort setup.effects subjects total lent.observations)
-        (λ t q. pick_yes _ _ _ t ∙ own_admitted total largest check q) (λ t q. absurd (let z : ◌≡◌ {A = ℕ} 0 1 = cc in omega arith)) e
-    own_checks check Outside e = e
+    own_checks check (Some n) e =
+        cases (λ (x : Admission). x ≡ (Ok tt) → checks_of (with_parameters setup parameters) subjects lent check (within n.total n.largest) ≡ (Ok tt))
+        (is_cohort setup.effects subjects n.total lent.observations)
+        (λ t q. pick_yes _ _ _ t ∙ own_admitted n.total n.largest check q) (λ t q. absurd (let z : ◌≡◌ {A = ℕ} 0 1 = cc in omega arith)) e
+    own_checks check None e = e
 
 module _ (setup : Setup) (counts : List ℕ) (observations : List Observation) (I : Inner) (Q : Suits I setup.effects) (bound : Fits setup.eta_bound)
     (limit : setup.max_evaluations < 4294967296)
-    (lent : Lent) (results : List ℕ) (many : length observations ≡ lent.observations) (long : length results ≡ lent.results) (opens : N.opens words setup counts observations lent ≡ A.Accepted)
+    (lent : Lent) (results : List ℕ) (many : length observations ≡ lent.observations) (long : length results ≡ lent.results) (opens : N.opens words setup counts observations lent ≡ (Ok tt))
     (a : Accepts setup counts lent) (room : Room setup.k) where
   abbrev U : Trusted words setup.k
   U = words_trusted setup.k room.some room.most
@@ -155,14 +151,14 @@ module _ (setup : Setup) (counts : List ℕ) (observations : List Observation) (
         ∙ both (λ (b : Bool). b ≡ true) (eqb setup.effects 2) (within2_true _ g.place.two) g.place.one
 
     others : (parameters : Parameters) → is_no_omega (with_parameters setup parameters) ≡ false → is_no_shape (with_parameters setup parameters) ≡ false → admission setup counts observations parameters h ≡
-        A.Accepted
+        (Ok tt)
     unfolding N.admitted with_parameters checks
     others parameters o k =
         checks_same (with_parameters setup parameters) (N.lent_of words setup n h.whole) lent g.work g.warm g.results many
         (kept_lent setup.k room.some room.most s.count h.whole.kept s.trust) a.cache_lent counts check
         ∙ own_checks setup parameters (length counts) lent o k check (count_observations counts) opens
 
-    accepted : admission setup counts observations h.parameters h ≡ A.Accepted
+    accepted : admission setup counts observations h.parameters h ≡ (Ok tt)
     accepted = others h.parameters s.omega_in s.shape_in
 
     awaited : h.whole.progress.awaits ≡ true → (go : Pair → Moved (Held words) Step) → N.when_awaited words setup counts n check h go ≡ go (wanted_point setup counts observations h)
@@ -181,9 +177,9 @@ module _ (setup : Setup) (counts : List ℕ) (observations : List Observation) (
 
     admitted_says : (go : Moved (Held words) Step) → Says Other19 go → (m : Admission) → NumberOther m → Says Other19 (N.when_admitted words h go m)
     unfolding Says Other19 NumberOther N.when_admitted
-    admitted_says go l A.Accepted b = l
-    admitted_says go l (A.Refused n) b = b
-    admitted_says go l (A.Unsound place) b = before_19 (omega arith)
+    admitted_says go l (Ok tt) b = l
+    admitted_says go l (Err (A.Refused n)) b = b
+    admitted_says go l (Err (A.Unsound place)) b = before_19 (omega arith)
 
     begun_says : (parameters : Parameters) → Says Other19 (N.when_admitted words h (on (N.begun words setup counts parameters h.whole))
         (admission setup counts observations parameters h))
@@ -213,9 +209,9 @@ module _ (setup : Setup) (counts : List ℕ) (observations : List Observation) (
         numbers = evaluates _ setup.output_budget said os h.whole.work few
 
         by_end : (x : Evaluation) → finish ended.evaluation ≡ x → Says Other19 (N.replied words counts fit eta h ended.work x)
-        by_end (E.Running sums) d = unfold Says N.replied in tt
-        by_end (E.Refused n) d = unfold N.replied in over_says n (one_not_19 n 8 9 12 (numbers.numbers n d) (before_19 (omega arith)) (before_19 (omega arith)) (before_19 (omega arith))) _
-        by_end (E.RefusedAt n i) d = unfold N.replied in over_says n (one_not_19 n 10 11 12 (numbers.places n i d).0 (before_19 (omega arith)) (before_19 (omega arith)) (before_19 (omega arith))) _
+        by_end (Ok sums) d = unfold Says N.replied in tt
+        by_end (Err (E.Refused n)) d = unfold N.replied in over_says n (one_not_19 n 8 9 12 (numbers.numbers n d) (before_19 (omega arith)) (before_19 (omega arith)) (before_19 (omega arith))) _
+        by_end (Err (E.RefusedAt n i)) d = unfold N.replied in over_says n (one_not_19 n 10 11 12 (numbers.places n i d).0 (before_19 (omega arith)) (before_19 (omega arith)) (before_19 (omega arith))) _
 
     enters_say : (c : Call) → Ruled setup counts observations c h → Says Other19 (N.enter words setup counts observations c h)
     unfolding N.enter N.enter_reply N.enter_failure N.enter_objective

@@ -1,4 +1,5 @@
 -- What a mode's words, settings and trials are in a session, with one effect and with two: what `Tells` asks of a reading. Assumes nothing.
+use Rattle.std.specs.Prelude.{None, Option, Some}
 use mathlib.Core.Path.{◌≡◌, refl, sym, ap, subst, ◌∙◌}
 use mathlib.Core.Bool.{false}
 use mathlib.Core.List.{List, [], ◌∷◌, ◌++◌}
@@ -36,8 +37,6 @@ use Rattle.setup.specs.declared.Parameters.{Parameters}
 use Rattle.setup.proofs.Bounds.{not_first}
 use Rattle.search.specs.Subjects as B
 use Rattle.search.specs.declared.Advanced.{Advanced}
-use Rattle.search.specs.declared.Closed.{Closed}
-use Rattle.search.specs.declared.Closed.TheVariants.{Positive, NotPositive}
 use Rattle.search.specs.declared.Fit.{Fit}
 use Rattle.search.specs.declared.Mode.{Mode}
 use Rattle.search.specs.declared.Progress.{Progress}
@@ -67,15 +66,15 @@ module _ (I : Inner) (L : Reads I) where
   pub record Tells (effects : ℕ) : Type 1 where
     pub starts : (setup : Setup) (parameters : Parameters) (q : Progress) (warm : List ℕ) (i : ℕ) → setup.effects ≡ effects → q.warm ≡ warm_of warm effects i → I.settings_of
         (B.fit_of setup parameters) q ≡ L.settings setup parameters warm i
-    pub modes : (fit : Fit) (p : Progress) (rows : ℕ) (m : Mode) → fit.effects ≡ effects → B.closed_by fit p rows ≡ Positive m → OfMode m (I.rules.best (I.search_of p))
-    pub flat : (fit : Fit) (p : Progress) (rows : ℕ) → fit.effects ≡ effects → B.closed_by fit p rows ≡ NotPositive → L.Flat (I.settings_of fit p) (I.rules.best (I.search_of p))
+    pub modes : (fit : Fit) (p : Progress) (rows : ℕ) (m : Mode) → fit.effects ≡ effects → B.closed_by fit p rows ≡ Some m → OfMode m (I.rules.best (I.search_of p))
+    pub flat : (fit : Fit) (p : Progress) (rows : ℕ) → fit.effects ≡ effects → B.closed_by fit p rows ≡ None → L.Flat (I.settings_of fit p) (I.rules.best (I.search_of p))
     pub stores : (j : ℕ) (m : Mode) (b : I.rules.Conditional) (warm : List ℕ) → OfMode m b → effects * suc j ≤ length warm → L.Warm j b (warm_stored effects j m.eta warm)
     pub others : (setup : Setup) (parameters : Parameters) (i j : ℕ) → (i ≡ j → ⊥) → (eta : Pair) (warm : List ℕ) → L.settings setup parameters
         (warm_stored effects j eta warm) i ≡ L.settings setup parameters warm i
     pub stays : (i j : ℕ) → (i ≡ j → ⊥) → (eta : Pair) (warm : List ℕ) (b : I.rules.Conditional) → L.Warm i b warm → L.Warm i b (warm_stored effects j eta warm)
     -- a mode's part of the objective
     pub adds : (setup : Setup) (parameters : Parameters) (p : Progress) (rows : ℕ) (m : Mode) → setup.effects ≡ effects → is_no_omega (with_parameters setup parameters) ≡ false → B.closed_by
-        (B.fit_of setup parameters) p rows ≡ Positive m
+        (B.fit_of setup parameters) p rows ≡ Some m
         → m.term ≡ L.term setup (I.settings_of (B.fit_of setup parameters) p) rows (I.rules.best (I.search_of p))
     -- what a state tells of its own sum of squares
     pub shrinks : (state : State) (n : ℕ) → L.Shrinks state n state.progress.eta_squares
@@ -92,33 +91,33 @@ module _ (I : Inner) (L : Reads I) where
         → Carried (I.settings_of fit p) ts (I.search_of p) rows → NthHas I.rules L.Zero L.zero_at ts (rows 0) × Has I.rules ts (I.rules.best (I.search_of p)) (rows 1)
 
 -- one effect
-not_positive : {m : Mode} → NotPositive ≡ Positive m → ⊥
+not_positive : {m : Mode} → None ≡ Some m → ⊥
 not_positive e = let z : ◌≡◌ {A = ℕ} 0 1 = cc in omega arith
 
-same_mode : {x m : Mode} → Positive x ≡ Positive m → x ≡ m
+same_mode : {x m : Mode} → Some x ≡ Some m → x ≡ m
 same_mode e = cc
 
 zero_bits : to_bits binary64 (word 0) ≡ 0
 unfolding is_nan of_bits
 zero_bits = to_bits-of_bits binary64 0 (omega arith) tt
 
-one_mode : (fit : Fit) (best : Conditional) (rows : ℕ) (m : Mode) → B.closed1 fit best rows ≡ Positive m → OfMode inner1 reads1 m best
+one_mode : (fit : Fit) (best : Conditional) (rows : ℕ) (m : Mode) → B.closed1 fit best rows ≡ Some m → OfMode inner1 reads1 m best
 unfolding B.closed1
 one_mode fit best rows m =
-    cases (λ (c : Closed). c ≡ Positive m → OfMode inner1 reads1 m best) (nonfinite (one /ᶠ fit.omega +ᶠ best.information)) (λ t q. absurd (not_positive q))
-    (λ t. cases (λ (c : Closed). c ≡ Positive m → OfMode inner1 reads1 m best) (le (one /ᶠ fit.omega +ᶠ best.information) (word 0)) (λ z q. absurd (not_positive q))
+    cases (λ (c : Option Mode). c ≡ Some m → OfMode inner1 reads1 m best) (nonfinite (one /ᶠ fit.omega +ᶠ best.information)) (λ t q. absurd (not_positive q))
+    (λ t. cases (λ (c : Option Mode). c ≡ Some m → OfMode inner1 reads1 m best) (le (one /ᶠ fit.omega +ᶠ best.information) (word 0)) (λ z q. absurd (not_positive q))
     (λ z q. subst (λ (x : Mode). OfMode inner1 reads1 x best) (same_mode q) (record { first = refl; second = zero_bits; nll = refl; square = refl })))
 
-positive_not : {m : Mode} → Positive m ≡ NotPositive → ⊥
+positive_not : {m : Mode} → Some m ≡ None → ⊥
 positive_not e = not_positive (sym e)
 
-one_flat : (fit : Fit) (best : Conditional) (rows : ℕ) → B.closed1 fit best rows ≡ NotPositive
+one_flat : (fit : Fit) (best : Conditional) (rows : ℕ) → B.closed1 fit best rows ≡ None
     → let c = one /ᶠ fit.omega +ᶠ best.information in T (nonfinite c) ⊎ T (le c (word 0))
 unfolding B.closed1
 one_flat fit best rows =
     let c = one /ᶠ fit.omega +ᶠ best.information in
-    cases (λ (x : Closed). x ≡ NotPositive → T (nonfinite c) ⊎ T (le c (word 0))) (nonfinite c) (λ t q. inl (subst T (sym t) tt))
-    (λ t. cases (λ (x : Closed). x ≡ NotPositive → T (nonfinite c) ⊎ T (le c (word 0))) (le c (word 0)) (λ z q. inr (subst T (sym z) tt)) (λ z q. absurd (positive_not q)))
+    cases (λ (x : Option Mode). x ≡ None → T (nonfinite c) ⊎ T (le c (word 0))) (nonfinite c) (λ t q. inl (subst T (sym t) tt))
+    (λ t. cases (λ (x : Option Mode). x ≡ None → T (nonfinite c) ⊎ T (le c (word 0))) (le c (word 0)) (λ z q. inr (subst T (sym z) tt)) (λ z q. absurd (positive_not q)))
 
 starts1 : (setup : Setup) (parameters : Parameters) (q : Progress) (warm : List ℕ) (i : ℕ) → setup.effects ≡ 1 → q.warm ≡ warm_of warm 1 i → B.settings
     (B.fit_of setup parameters) q ≡ reads1.settings setup parameters warm i
@@ -129,7 +128,7 @@ starts1 setup parameters q warm i e v =
     let own = pick_yes _ parameters.omega setup.omega00 (ap (λ (n : ℕ). eqb n 1) e) in
     ap (λ (f : Fit). B.settings f q) fit ∙ cc
 
-one_term : (fit : Fit) (best : Conditional) (rows : ℕ) (m : Mode) → B.closed1 fit best rows ≡ Positive m
+one_term : (fit : Fit) (best : Conditional) (rows : ℕ) (m : Mode) → B.closed1 fit best rows ≡ Some m
     → m.term ≡ two *ᶠ best.nll -ᶠ of_int binary64 (pos rows) *ᶠ log2pi +ᶠ best.eta *ᶠ best.eta /ᶠ fit.omega +ᶠ log (fit.omega *ᶠ (one /ᶠ fit.omega +ᶠ best.information))
 unfolding B.closed1
 one_term fit best rows m e =
@@ -167,7 +166,7 @@ unfolding B.advance1
 moves_one s p c = movable1 (B.one_of p.search) c
 
 adds_one : (setup : Setup) (parameters : Parameters) (p : Progress) (rows : ℕ) (m : Mode) → setup.effects ≡ 1 → is_no_omega (with_parameters setup parameters) ≡ false → B.closed_by
-    (B.fit_of setup parameters) p rows ≡ Positive m
+    (B.fit_of setup parameters) p rows ≡ Some m
     → m.term ≡ reads1.term setup (B.settings (B.fit_of setup parameters) p) rows (B.one_of p.search).best
 unfolding B.closed_by B.settings
 adds_one setup parameters p rows m e o q =
@@ -196,7 +195,7 @@ tells1 = record {
 }
 
 -- two effects
-with_mode : (fit : Fit) (best : Conditional2) (rows : ℕ) (m : Mode) (i : Inverse) → B.closed_with fit best rows i ≡ Positive m → OfMode inner2 reads2 m best
+with_mode : (fit : Fit) (best : Conditional2) (rows : ℕ) (m : Mode) (i : Inverse) → B.closed_with fit best rows i ≡ Some m → OfMode inner2 reads2 m best
 unfolding B.closed_with
 with_mode fit best rows m (inverted inverse det) e =
     subst (λ (x : Mode). OfMode inner2 reads2 x best) (same_mode e) (record { first = refl; second = refl; nll = refl; square = refl })
@@ -250,7 +249,7 @@ same_omega : (setup : Setup) (parameters : Parameters) → setup.effects ≡ 2 �
 unfolding with_parameters
 same_omega setup parameters e = ap (λ (x : Float). pair (pair x setup.omega01) (pair setup.omega10 setup.omega11)) (pick_no _ parameters.omega setup.omega00 (ap (λ (n : ℕ). eqb n 1) e))
 
-two_term : (fit : Fit) (best : Conditional2) (rows : ℕ) (m : Mode) (i : Inverse) → inverse_positive (B.curvature_of fit best) ≡ i → B.closed_with fit best rows i ≡ Positive m
+two_term : (fit : Fit) (best : Conditional2) (rows : ℕ) (m : Mode) (i : Inverse) → inverse_positive (B.curvature_of fit best) ≡ i → B.closed_with fit best rows i ≡ Some m
     → m.term ≡ two *ᶠ best.nll -ᶠ of_int binary64 (pos rows) *ᶠ log2pi +ᶠ dot (pair best.eta.first best.eta.second) (product (B.precision_of fit) (pair best.eta.first best.eta.second))
     +ᶠ log (fit.det_omega *ᶠ determinant (B.curvature_of fit best))
 unfolding B.closed_with
@@ -261,7 +260,7 @@ two_term fit best rows m (inverted i det) q e =
     (product (B.precision_of fit) (pair best.eta.first best.eta.second))
     +ᶠ log (fit.det_omega *ᶠ d)) (sym (det_is (B.curvature_of fit best) i det q))
 
-two_flat : (fit : Fit) (best : Conditional2) (rows : ℕ) (i : Inverse) → inverse_positive (B.curvature_of fit best) ≡ i → B.closed_with fit best rows i ≡ NotPositive
+two_flat : (fit : Fit) (best : Conditional2) (rows : ℕ) (i : Inverse) → inverse_positive (B.curvature_of fit best) ≡ i → B.closed_with fit best rows i ≡ None
     → inverse_positive (B.curvature_of fit best) ≡ singular
 unfolding B.closed_with
 two_flat fit best rows singular q e = q
@@ -293,7 +292,7 @@ steps_two fit p eta sums e w ts rows after t is own m h =
     (subst (λ (c : Conditional2). Carried2 (ts ++ (t ∷ [])) (R2.advance s x c) after) is (step2 s ts x rows t own after eta (ap (λ (c : Conditional2). c.eta) is) q n h))
 
 adds_two : (setup : Setup) (parameters : Parameters) (p : Progress) (rows : ℕ) (m : Mode) → setup.effects ≡ 2 → is_no_omega (with_parameters setup parameters) ≡ false → B.closed_by
-    (B.fit_of setup parameters) p rows ≡ Positive m
+    (B.fit_of setup parameters) p rows ≡ Some m
     → m.term ≡ reads2.term setup (B.settings2 (B.fit_of setup parameters) p) rows (B.two_of p.search).best
 unfolding B.closed_by B.closed2 B.settings2 R2.curvature sum dot product determinant
 adds_two setup parameters p rows m e o q =

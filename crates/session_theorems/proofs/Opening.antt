@@ -1,34 +1,33 @@
 -- An accepted setup opens the session of demand 3. Assumes nothing.
+use Rattle.std.specs.Prelude.{Err, Ok, Result}
 use mathlib.Core.Path.{◌≡◌, refl, sym, ap, ◌∙◌, subst}
 use mathlib.Core.Bool.{Bool, true, false}
 use mathlib.Core.List.{List}
 use Prim.Native.Nat.{ℕ}
 use lib.Dec.{T}
 use lib.ListN.{length}
-use Rattle.setup.specs.Admission.{checks}
-use Rattle.setup.specs.declared.Admission.{Admission}
-use Rattle.setup.specs.declared.Admission.TheVariants as A
+use Rattle.setup.specs.Admission.{checks, Admission}
 use Rattle.setup.specs.declared.Lent.{Lent}
 use Rattle.setup.specs.declared.Setup.{Setup}
 use Rattle.search.specs.declared.Tally.{Tally}
 use Rattle.population.specs.Kept.{words}
 use Rattle.session.specs.Calls.{held_of, lent_by, Setting, opening, opened_by}
 use Rattle.session.specs.Session.{all_checked, opened}
-use Rattle.session.specs.declared.Opening.{Opening}
-use Rattle.session.specs.declared.Opening.TheVariants as Opens
 use Rattle.session.specs.declared.State.{State}
 use Rattle.session_theorems.specs.Setup.{EverySetup}
+use Rattle.session.specs.declared.Refusal.{Refusal}
+use Rattle.setup.specs.declared.AdmissionError.TheVariants as A
 
-is_opened : Opening → Bool
-is_opened (Opens.Opened s) = true
-is_opened (Opens.Refused number place) = false
+is_opened : Result State Refusal → Bool
+is_opened (Ok s) = true
+is_opened (Err e) = false
 
 -- the state of an opening that is one, else s
-state_from : State → Opening → State
-state_from s (Opens.Opened t) = t
-state_from s (Opens.Refused number place) = s
+state_from : State → Result State Refusal → State
+state_from s (Ok t) = t
+state_from s (Err e) = s
 
-refused_never : {X : Type 0} {o : Opening} {s : State} → is_opened o ≡ false → o ≡ Opens.Opened s → X
+refused_never : {X : Type 0} {o : Result State Refusal} {s : State} → is_opened o ≡ false → o ≡ Ok s → X
 unfolding is_opened
 refused_never f e = absurd (subst T (sym (ap is_opened e) ∙ f) tt)
 
@@ -36,19 +35,19 @@ module _ (setup : Setup) (counts : List ℕ) (lent : Lent) (tally : Tally) (cach
   abbrev gives : Admission → Setting
   gives a = opening setup counts lent tally cache work warm results a
 
-  accepted : (a : Admission) → (gives a).begun.opening ≡ Opens.Opened s → a ≡ A.Accepted
+  accepted : (a : Admission) → (gives a).begun.opening ≡ Ok s → a ≡ (Ok tt)
   unfolding opening is_opened
-  accepted A.Accepted e = refl
-  accepted (A.Refused number) e = refused_never refl e
-  accepted (A.Unsound at) e = refused_never refl e
+  accepted (Ok tt) e = refl
+  accepted (Err (A.Refused number)) e = refused_never refl e
+  accepted (Err (A.Unsound at)) e = refused_never refl e
 
-  begins_with : (a : Admission) → (gives a).begun.opening ≡ Opens.Opened s
+  begins_with : (a : Admission) → (gives a).begun.opening ≡ Ok s
       → held_of s (gives a).begun.tally (gives a).cache (gives a).work (gives a).warm results ≡ opened words setup counts lent results
   unfolding opening is_opened state_from
-  begins_with A.Accepted e =
-      ap (λ (t : State). held_of t (gives A.Accepted).begun.tally (gives A.Accepted).cache (gives A.Accepted).work (gives A.Accepted).warm results) (sym (ap (state_from s) e))
-  begins_with (A.Refused number) e = refused_never refl e
-  begins_with (A.Unsound at) e = refused_never refl e
+  begins_with (Ok tt) e =
+      ap (λ (t : State). held_of t (gives (Ok tt)).begun.tally (gives (Ok tt)).cache (gives (Ok tt)).work (gives (Ok tt)).warm results) (sym (ap (state_from s) e))
+  begins_with (Err (A.Refused number)) e = refused_never refl e
+  begins_with (Err (A.Unsound at)) e = refused_never refl e
 
 pub every_setup : EverySetup
 unfolding opened_by

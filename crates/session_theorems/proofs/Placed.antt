@@ -1,9 +1,9 @@
 -- Where a session stands keeps to what is lent: its subject, its first observation and its searches stay in their limits, the lent words as many, and the tally's kept rows those of the kept
 -- evaluations. Every turn, entry and setting of warm starts keeps that, and no turn answers with 19. Assumes nothing.
+use Rattle.std.specs.Prelude.{Err, None, Ok, Option, Some}
 use mathlib.Core.Path.{◌≡◌, refl, sym, ap, ◌∙◌}
 use mathlib.Core.List.{List, [], ◌∷◌}
 use mathlib.Core.Logic.{⊎_elim}
-use mathlib.Core.Option.{Option, none, some}
 use Prim.Native.Nat.{ℕ, zero, suc, ◌+◌, ◌-◌, ◌≤◌, ◌<◌}
 use native.Mathlib.Nat.{not-suc-le-zero, le_of_suc-le-suc, mod-eq_of_lt}
 use native.Mathlib.Omega.{arith}
@@ -16,25 +16,17 @@ use Rattle.float64.specs.Float64.{nonfinite}
 use Rattle.float64.specs.Pick.{both, cases}
 use Rattle.matrix.specs.declared.Pair.{Pair}
 use Rattle.likelihood.specs.declared.population_focei.Observation.{Observation}
-use Rattle.subject.specs.Subject.{individual_values}
-use Rattle.subject.specs.declared.Check.{Check}
+use Rattle.subject.specs.Subject.{individual_values, Evaluation}
 use Rattle.subject.specs.declared.Sums.{Sums}
-use Rattle.subject.specs.declared.Evaluation.{Evaluation}
-use Rattle.subject.specs.declared.Evaluation.TheVariants as E
 use Rattle.words.specs.Words.{zeros}
 use Rattle.work.specs.Work.{most_rows, block, is_same_grid}
-use Rattle.setup.specs.Admission.{larger, count_from, count_observations}
+use Rattle.setup.specs.Admission.{larger, count_from, count_observations, within, Admission}
 use Rattle.setup.specs.declared.Setup.{Setup}
 use Rattle.setup.specs.declared.Lent.{Lent}
 use Rattle.setup.specs.declared.Parameters.{Parameters}
-use Rattle.setup.specs.declared.Admission.{Admission}
-use Rattle.setup.specs.declared.Admission.TheVariants as A
-use Rattle.setup.specs.declared.Counts.TheVariants.{Within as CountsWithin, Outside}
 use Rattle.setup.proofs.Bounds.{not_first}
 use Rattle.search.specs.Subjects as B
 use Rattle.search.specs.declared.Advanced.{Advanced}
-use Rattle.search.specs.declared.Closed.{Closed}
-use Rattle.search.specs.declared.Closed.TheVariants.{Positive, NotPositive}
 use Rattle.search.specs.declared.Fit.{Fit}
 use Rattle.search.specs.declared.Halted.{Halted}
 use Rattle.search.specs.declared.Mode.{Mode}
@@ -48,10 +40,8 @@ use Rattle.search.specs.declared.Wanted.{Wanted}
 use Rattle.search.specs.declared.Wanted.TheVariants as Wants
 use Rattle.machine.specs.Machine.{Moved}
 use Rattle.population.specs.Kept.{Recalled, words, order_rows}
-use Rattle.population.specs.Population.{rows_of, take as takes, answered, at_point, Worked, next_subject, raised, Ended, ended, closing, at_mode, served_by, served, turned, Whole, whole_of, moved, turn}
+use Rattle.population.specs.Population.{rows_of, take as takes, answered, at_point, Worked, next_subject, raised, Ended, ended, closing, at_mode, served_by, served, turned, Whole, whole_of, moved, turn, Turned}
 use Rattle.population.specs.Population.{receive}
-use Rattle.population.specs.declared.Turned.{Turned}
-use Rattle.population.specs.declared.Turned.TheVariants.{On, Halt}
 use Rattle.session.specs.Session as N
 use Rattle.session.specs.Session.{Held, held, Call, objective, reply, failure}
 use Rattle.session_theorems.specs.Shown.{before}
@@ -62,6 +52,10 @@ use Rattle.session_theorems.proofs.Evaluated.{work_length}
 use Rattle.session_theorems.proofs.Lengths.{AsLong, zeros_length, move_rows_length, recalled_length, warm_stored_length, results_length}
 use Rattle.session_theorems.proofs.Limits.{Within, start_within, advance_within, Within2, start_within2, advance_within2, Other, wanted_other}
 use Rattle.session_theorems.proofs.Plain.{split, Not19, before_19}
+use Rattle.core.specs.declared.ops.ControlFlow.TheVariants.{Break, Continue}
+use Rattle.subject.specs.declared.EvaluationError.TheVariants as E
+use Rattle.setup.specs.declared.AdmissionError.TheVariants as A
+use Rattle.subject.specs.Observations.{Check}
 
 -- ---- the observations of the subjects before one
 before_rest : (count : ℕ) (rest : List ℕ) (i : ℕ) → before (count ∷ rest) (suc i) ≡ count + before rest i
@@ -69,15 +63,15 @@ unfolding before
 before_rest count rest zero = omega arith
 before_rest count rest (suc i) = let e = before_rest count rest i in omega (arith, e)
 
-counted_rest : (count : ℕ) (rest : List ℕ) (total largest : ℕ) {t l : ℕ} → count_from total largest (count ∷ rest) ≡ CountsWithin t l → count_from (total + count)
-    (larger largest count) rest ≡ CountsWithin t l
+counted_rest : (count : ℕ) (rest : List ℕ) (total largest : ℕ) {t l : ℕ} → count_from total largest (count ∷ rest) ≡ within t l → count_from (total + count)
+    (larger largest count) rest ≡ within t l
 unfolding count_from
 counted_rest count rest total largest {t} {l} e =
-    let never : Outside ≡ CountsWithin t l → ⊥ = λ q. let z : ◌≡◌ {A = ℕ} 0 1 = cc in omega arith in
+    let never : None ≡ within t l → ⊥ = λ q. let z : ◌≡◌ {A = ℕ} 0 1 = cc in omega arith in
     (not_first (ltb (most_rows - total) count) _ never (not_first (eqb count 0) _ never e).1).1
 
 -- are no more than there are in all
-pub before_most : (counts : List ℕ) (i total largest : ℕ) {t l : ℕ} → count_from total largest counts ≡ CountsWithin t l → i ≤ length counts → total + before counts i ≤ t
+pub before_most : (counts : List ℕ) (i total largest : ℕ) {t l : ℕ} → count_from total largest counts ≡ within t l → i ≤ length counts → total + before counts i ≤ t
 unfolding count_from before
 before_most [] zero total largest {t} {l} e m = let q : total ≡ t = cc in omega arith
 before_most [] (suc i) total largest e m = absurd (not-suc-le-zero m)
@@ -190,8 +184,8 @@ module _ (setup : Setup) (counts : List ℕ) (observations : List Observation) (
       other : Other19 x.step
 
     PlacedTurned : Turned → Type 0
-    PlacedTurned (On q) = Placed counts q
-    PlacedTurned (Halt x) = Halts x
+    PlacedTurned (Continue q) = Placed counts q
+    PlacedTurned (Break x) = Halts x
 
     record Ends (e : Ended) : Type 0 where
       turned : PlacedTurned e.turned
@@ -207,13 +201,13 @@ module _ (setup : Setup) (counts : List ℕ) (observations : List Observation) (
     closes : (t : Turned) (work warm results : List ℕ) → PlacedTurned t → AsLong w.work work → AsLong w.warm warm → AsLong w.results results
         → After Going (N.held_by words h.parameters (moved words w.tally w.kept work warm results t))
     unfolding After N.held_by moved PlacedTurned
-    closes (On q) work warm results f a b c = goes q w.tally work warm results f refl a b c
-    closes (Halt x) work warm results f a b c = goes x.progress x.tally work warm results f.place f.same a b c
+    closes (Continue q) work warm results f a b c = goes q w.tally work warm results f refl a b c
+    closes (Break x) work warm results f a b c = goes x.progress x.tally work warm results f.place f.same a b c
 
     closes_says : (t : Turned) (work warm results : List ℕ) → PlacedTurned t → Says Other19 (N.held_by words h.parameters (moved words w.tally w.kept work warm results t))
     unfolding Says N.held_by moved PlacedTurned
-    closes_says (On q) work warm results f = tt
-    closes_says (Halt x) work warm results f = f.other
+    closes_says (Continue q) work warm results f = tt
+    closes_says (Break x) work warm results f = f.other
 
     -- ---- a point
     refuses : (tally : Tally) → tally.cached_rows ≡ w.tally.cached_rows → (number : ℕ) → Not19 number → (place : Place) → Halts (B.refused_by p tally number place)
@@ -229,18 +223,18 @@ module _ (setup : Setup) (counts : List ℕ) (observations : List Observation) (
     unfolding B.ask
     asked eta = both Halts _ (asks eta _ (values_other _ eta _)) (refuses w.tally refl 6 (before_19 (omega arith)) _)
 
-    by_recall : (eta : Pair) (o : Option Recalled) → ((r : Recalled) → o ≡ some r → AsLong w.work r.work)
+    by_recall : (eta : Pair) (o : Option Recalled) → ((r : Recalled) → o ≡ Some r → AsLong w.work r.work)
         → Ends (ended (answered fit rows p w.tally eta w.work o).value (answered fit rows p w.tally eta w.work o).work w.warm w.results)
     unfolding answered takes PlacedTurned
-    by_recall eta (some r) f = record { turned = advances counts p g.place fit eta (B.sums_of r.terms); work = move_rows_length rows _ r.work ∙ f r refl; warm = refl; results = refl }
-    by_recall eta none f = record { turned = asked eta; work = refl; warm = refl; results = refl }
+    by_recall eta (Some r) f = record { turned = advances counts p g.place fit eta (B.sums_of r.terms); work = move_rows_length rows _ r.work ∙ f r refl; warm = refl; results = refl }
+    by_recall eta None f = record { turned = asked eta; work = refl; warm = refl; results = refl }
 
     at_point_lem : (eta : Pair) → Ends (served_by words fit counts p w.tally w.kept w.work w.warm w.results (Wants.Point eta))
     unfolding served_by at_point
     at_point_lem eta = by_recall eta _ (λ r q. recalled_length _ _ rows w.work (block rows 3) _ r q)
 
     -- ---- a mode
-    refused_ends : (number : ℕ) → Not19 number → (place : Place) (warm : List ℕ) → AsLong w.warm warm → Ends (ended (Halt (B.refused_by p w.tally number place)) w.work warm w.results)
+    refused_ends : (number : ℕ) → Not19 number → (place : Place) (warm : List ℕ) → AsLong w.warm warm → Ends (ended (Break (B.refused_by p w.tally number place)) w.work warm w.results)
     unfolding PlacedTurned
     refused_ends number l place warm a = record { turned = refuses w.tally refl number l place; work = refl; warm = a; results = refl }
 
@@ -265,10 +259,10 @@ module _ (setup : Setup) (counts : List ℕ) (observations : List Observation) (
             let a : raised p.subject 1 ≡ suc p.subject = mod-eq_of_lt (omega (arith, g.place.subject, accepted.most)) ∙ omega arith in
             ap (λ (i : ℕ). raised i rows) g.place.first ∙ first_exact accepted p.subject g.place.subject ∙ ap (before counts) (sym a)
 
-    by_closed : (c : Closed) → Ends (closing fit counts p w.tally rows w.work w.warm w.results c)
+    by_closed : (c : Option Mode) → Ends (closing fit counts p w.tally rows w.work w.warm w.results c)
     unfolding closing
-    by_closed NotPositive = refused_ends 16 (before_19 (omega arith)) _ w.warm refl
-    by_closed (Positive m) =
+    by_closed None = refused_ends 16 (before_19 (omega arith)) _ w.warm refl
+    by_closed (Some m) =
         let a = warm_stored_length fit.effects p.subject m.eta w.warm in
         both Ends (is_same_grid w.work rows) (next_ends m _ _ a (results_length (length counts) p.first w.work rows p.subject m.eta m.nll w.results))
         (refused_ends 17 (before_19 (omega arith)) _ _ a)
@@ -300,9 +294,9 @@ module _ (setup : Setup) (counts : List ℕ) (observations : List Observation) (
 
     when_admitted_lem : (go : Moved (Held words) Step) (a : Admission) → After Going go → After Going (N.when_admitted words h go a)
     unfolding N.when_admitted
-    when_admitted_lem go A.Accepted f = f
-    when_admitted_lem go (A.Refused n) f = unaltered_going n _
-    when_admitted_lem go (A.Unsound place) f = unaltered_going 4 _
+    when_admitted_lem go (Ok tt) f = f
+    when_admitted_lem go (Err (A.Refused n)) f = unaltered_going n _
+    when_admitted_lem go (Err (A.Unsound place)) f = unaltered_going 4 _
 
     over_going : (number : ℕ) (place : Place) → After Going (N.over words number place h)
     unfolding After N.over
@@ -329,7 +323,7 @@ module _ (setup : Setup) (counts : List ℕ) (observations : List Observation) (
 
     replied_going : (eta : Pair) (work : List ℕ) → AsLong w.work work → (e : Evaluation) → After Going (N.replied words counts fit eta h work e)
     unfolding After N.replied receive takes
-    replied_going eta work a (E.Running sums) = record {
+    replied_going eta work a (Ok sums) = record {
       place = advances counts p g.place fit eta sums;
       work = move_rows_length rows _ work ∙ a
           ∙ g.work;
@@ -337,8 +331,8 @@ module _ (setup : Setup) (counts : List ℕ) (observations : List Observation) (
       results = g.results;
       rows = refl;
     }
-    replied_going eta work a (E.Refused n) = over_going n _
-    replied_going eta work a (E.RefusedAt n i) = over_going n _
+    replied_going eta work a (Err (E.Refused n)) = over_going n _
+    replied_going eta work a (Err (E.RefusedAt n i)) = over_going n _
 
     answered_going : (said : List ℕ) (eta : Pair) → After Going (N.answered words setup counts observations said eta h)
     unfolding N.answered
@@ -362,7 +356,7 @@ module _ (setup : Setup) (counts : List ℕ) (observations : List Observation) (
   opens_going results e = record { place = begins counts setup.effects 0 0 _ _ _ accepted.some (unfold before in refl); work = zeros_length _; warm = zeros_length _; results = e; rows = refl }
 
   -- ---- the subject's observations are lent
-  pub observations_lent : (n largest : ℕ) → count_observations counts ≡ CountsWithin n largest → (h : Held words) → Going h → h.whole.progress.first + rows_of counts h.whole.progress.subject ≤ n
+  pub observations_lent : (n largest : ℕ) → count_observations counts ≡ within n largest → (h : Held words) → Going h → h.whole.progress.first + rows_of counts h.whole.progress.subject ≤ n
   unfolding count_observations before
   observations_lent n largest e h g =
       let i = h.whole.progress.subject in

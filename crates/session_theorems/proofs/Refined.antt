@@ -1,9 +1,9 @@
 -- A session over the cache's words and one over the list that they stand for go alike, `over_the_list` (specs/Refined.antt). Assumes nothing.
+use Rattle.std.specs.Prelude.{Err, None, Ok, Option, Some, ℕ}
 use mathlib.Core.Path.{◌≡◌, refl, sym, ap, ap₂, subst, ◌∙◌}
 use mathlib.Core.Bool.{Bool, true, false}
 use mathlib.Core.List.{List, [], ◌∷◌, ◌++◌}
 use mathlib.Core.Logic.{⊎_elim}
-use mathlib.Core.Option.{Option, none, some}
 use Prim.Native.Nat.{ℕ, zero, suc, ◌+◌, ◌-◌, ◌*◌, ◌≤◌, ◌<◌}
 use native.Mathlib.Omega.{arith}
 use borrow.Author.Tests.{lt-ltb, le-ltb}
@@ -12,11 +12,7 @@ use lib.ListN.{length, take, drop}
 use Rattle.float64.specs.Pick.{pick, cases, pick_yes, pick_no, both as both_of}
 use Rattle.matrix.specs.declared.Pair.{Pair}
 use Rattle.likelihood.specs.declared.population_focei.Observation.{Observation}
-use Rattle.subject.specs.Subject.{Evaluating, finish}
-use Rattle.subject.specs.declared.Check.{Check}
-use Rattle.subject.specs.declared.Check.TheVariants.{Sound, Unsound}
-use Rattle.subject.specs.declared.Evaluation.{Evaluation}
-use Rattle.subject.specs.declared.Evaluation.TheVariants as E
+use Rattle.subject.specs.Subject.{Evaluating, finish, Evaluation}
 use Rattle.subject.specs.declared.Sums.{Sums}
 use Rattle.words.specs.Words.{zeros}
 use Rattle.work.specs.Work.{block, move_rows}
@@ -25,18 +21,12 @@ use Rattle.cache.specs.Claim.{Room}
 use Rattle.cache.specs.Kept.{Entry, lookup, cached_rows, drop_to, appended, Evaluated, Lent as LentRows, entry_for, entry_of, found_entry, Stands}
 use Rattle.cache.specs.declared.CacheKey.{CacheKey}
 use Rattle.cache.specs.declared.CachedTerms.{CachedTerms}
-use Rattle.cache.specs.declared.Found.{Found}
-use Rattle.cache.specs.declared.Found.TheVariants.{At, Nothing}
 use Rattle.cache.proofs.Run.{refinement}
 use Rattle.cache.proofs.Walked.{same_true}
-use Rattle.setup.specs.Admission.{is_short, roomy, admitted, checks_of, checks, count_observations, with_parameters}
+use Rattle.setup.specs.Admission.{is_short, roomy, admitted, checks_of, checks, count_observations, with_parameters, Admission}
 use Rattle.setup.specs.declared.Setup.{Setup}
 use Rattle.setup.specs.declared.Parameters.{Parameters}
 use Rattle.setup.specs.declared.Lent.{Lent}
-use Rattle.setup.specs.declared.Counts.{Counts}
-use Rattle.setup.specs.declared.Counts.TheVariants.{Within, Outside}
-use Rattle.setup.specs.declared.Admission.{Admission}
-use Rattle.setup.specs.declared.Admission.TheVariants as A
 use Rattle.search.specs.Subjects as B
 use Rattle.search.specs.declared.Fit.{Fit}
 use Rattle.search.specs.declared.Tally.{Tally}
@@ -50,9 +40,7 @@ use Rattle.machine.specs.Log.{Every, none as no-entry, more}
 use Rattle.machine.specs.Machine.{Moved, on, halt, Ran, onward, loop, Machine, call, run, set}
 use Rattle.machine.specs.Observed.{View}
 use Rattle.population.specs.Kept.{Recalled, words, entries, recall_at, recall_entry, order_rows}
-use Rattle.population.specs.Population.{rows_of, take as takes, answered, at_point, Ended, ended, is_over, served_by, served, turned, moved, turn, spent, receive, whole_of}
-use Rattle.population.specs.declared.Turned.{Turned}
-use Rattle.population.specs.declared.Turned.TheVariants.{On, Halt}
+use Rattle.population.specs.Population.{rows_of, take as takes, answered, at_point, Ended, ended, is_over, served_by, served, turned, moved, turn, spent, receive, whole_of, Turned}
 use Rattle.session.specs.Session as N
 use Rattle.session.specs.Session.{Held, held, Call, objective, reply, failure, session}
 use Rattle.session_theorems.specs.Refined.{Deed, does, warms, acts_of, Alike, alike, SameAnswers, OverTheList}
@@ -70,13 +58,17 @@ use Rattle.setup.proofs.Bounds.{shape_low}
 use Rattle.session_theorems.proofs.Standing.{Standing, Waiting}
 use Rattle.session_theorems.proofs.Stores.{every_append, every_drop, Trusted, words_trusted, kept_few, not_found, cleared_words}
 use Rattle.session_theorems.proofs.Turns.{turns}
+use Rattle.core.specs.declared.ops.ControlFlow.TheVariants.{Break, Continue}
+use Rattle.subject.specs.declared.EvaluationError.TheVariants as E
+use Rattle.setup.specs.declared.AdmissionError.TheVariants as A
+use Rattle.subject.specs.Observations.{Check}
 
 -- ---- one key, one entry
-entry_of_lem : (P : Entry → Type 0) (key : CacheKey) (l : List Entry) (x : Entry) → Every P l → lookup key l ≡ some x → P x × (x.key ≡ key)
+entry_of_lem : (P : Entry → Type 0) (key : CacheKey) (l : List Entry) (x : Entry) → Every P l → lookup key l ≡ Some x → P x × (x.key ≡ key)
 unfolding lookup
 entry_of_lem P key [] x h e = absurd (let z : ◌≡◌ {A = ℕ} 0 1 = cc in omega arith)
 entry_of_lem P key (y ∷ l) x (more p h) q =
-    cases (λ (o : Option Entry). o ≡ some x → P x × (x.key ≡ key)) (same_key y.key key)
+    cases (λ (o : Option Entry). o ≡ Some x → P x × (x.key ≡ key)) (same_key y.key key)
     (λ t e. let d : y ≡ x = cc in subst (λ (z : Entry). P z × (z.key ≡ key)) d (p, same_true _ _ t))
     (λ t e. entry_of_lem P key l x h e) q
 
@@ -95,17 +87,17 @@ module _ (setup : Setup) (lent lent' : Lent) (w : lent.work ≡ lent'.work) (v :
 
   roomy_same : (subjects total largest : ℕ) (k : Check) → roomy setup subjects total largest lent k ≡ roomy setup subjects total largest lent' k
   unfolding roomy
-  roomy_same subjects total largest (Unsound place) = refl
-  roomy_same subjects total largest (Sound place) = ap (λ (b : Bool). pick b (A.Refused 5) A.Accepted) (short_same subjects total largest)
+  roomy_same subjects total largest (Err place) = refl
+  roomy_same subjects total largest (Ok place) = ap (λ (b : Bool). pick b (Err (A.Refused 5)) (Ok tt)) (short_same subjects total largest)
 
   admitted_same : (subjects total largest : ℕ) (k : Check) → admitted setup subjects total largest lent k ≡ admitted setup subjects total largest lent' k
   unfolding admitted
   admitted_same subjects total largest k = let a = roomy_same subjects total largest k in cc
 
-  checks_of_same : (subjects : ℕ) (k : Check) (n : Counts) → checks_of setup subjects lent k n ≡ checks_of setup subjects lent' k n
+  checks_of_same : (subjects : ℕ) (k : Check) (n : Option Counts) → checks_of setup subjects lent k n ≡ checks_of setup subjects lent' k n
   unfolding checks_of
-  checks_of_same subjects k (Within total largest) = let a = admitted_same subjects total largest k in cc
-  checks_of_same subjects k Outside = refl
+  checks_of_same subjects k (Some n) = let a = admitted_same subjects n.total n.largest k in cc
+  checks_of_same subjects k None = refl
 
   pub checks_same : (counts : List ℕ) (k : Check) → checks setup counts lent k ≡ checks setup counts lent' k
   unfolding checks
@@ -139,19 +131,19 @@ module _ (k : ℕ) (counts : List ℕ) where
 
   -- what is kept for a point is the same
   module _ (room : Room k) (c : Cache) (l : List Entry) (st : Stands c.words k c.order l) (own : Every OwnRows l) where
-    recall_by : (key : CacheKey) (rows : ℕ) (work : List ℕ) (to : ℕ) → rows ≡ rows_of counts key.subject → to + row_words * rows ≤ length work → (f : Found) → find c.words k c.order key ≡ f
+    recall_by : (key : CacheKey) (rows : ℕ) (work : List ℕ) (to : ℕ) → rows ≡ rows_of counts key.subject → to + row_words * rows ≤ length work → (f : Option ℕ) → find c.words k c.order key ≡ f
         → recall_at c.words k rows work to f ≡ recall_entry rows work to (lookup key l)
     unfolding recall_at found_entry recall_entry
-    recall_by key rows work to r lent (At slot) e =
+    recall_by key rows work to r lent (Some slot) e =
         let x = entry_of c.words k slot in
-        let g : lookup key l ≡ some x = sym (refinement.finds c.words k c.order l st key) ∙ ap (found_entry c.words k) e in
+        let g : lookup key l ≡ Some x = sym (refinement.finds c.words k c.order l st key) ∙ ap (found_entry c.words k) e in
         let o = entry_of_lem OwnRows key l x own g in
         let n : x.n ≡ rows = o.0.0 ∙ ap (λ (q : CacheKey). rows_of counts q.subject) o.1 ∙ sym r in
         let m = o.0.1 in
         let t = refinement.reads_terms c.words k slot room in
         let v = same_copy c.words k slot rows work to room st.good.long (omega (arith, n, m)) lent (omega (arith, n)) in
-        ap₂ (λ (a : CachedTerms) (b : List ℕ). some (record { terms = a; work = b })) t v ∙ ap (recall_entry rows work to) (sym g)
-    recall_by key rows work to r lent Nothing e = ap (recall_entry rows work to) (ap (found_entry c.words k) (sym e) ∙ refinement.finds c.words k c.order l st key)
+        ap₂ (λ (a : CachedTerms) (b : List ℕ). Some (record { terms = a; work = b })) t v ∙ ap (recall_entry rows work to) (sym g)
+    recall_by key rows work to r lent None e = ap (recall_entry rows work to) (ap (found_entry c.words k) (sym e) ∙ refinement.finds c.words k c.order l st key)
 
     recall_same : (key : CacheKey) (rows : ℕ) (work : List ℕ) (to : ℕ) → rows ≡ rows_of counts key.subject → to + row_words * rows ≤ length work → words.recall c k key rows work to ≡ entries.recall
         l k key rows work to
@@ -159,7 +151,7 @@ module _ (k : ℕ) (counts : List ℕ) where
 
     -- and what is kept of an evaluation
     keep_same : (key : CacheKey) (terms : CachedTerms) (rows : ℕ) (work : List ℕ) (from : ℕ) → rows ≡ rows_of counts key.subject → 1 ≤ rows → from + row_words * rows ≤ length work → c.order.next <
-        half → lookup key l ≡ none
+        half → lookup key l ≡ None
         → let d = words.keep c k key terms rows work from in let m = entries.keep l k key terms rows work from in (Stands d.words k d.order m × Every OwnRows m) ×
         (words.rows d ≡ entries.rows m)
     unfolding appended order_rows
@@ -241,8 +233,8 @@ module _ (setup : Setup) (counts : List ℕ) (observations : List Observation) (
 
       moves : (t : Turned) (x y z : List ℕ) → Pair' (N.held_by words parameters (moved words tally c x y z t)) (N.held_by entries parameters (moved entries tally l x y z t))
       unfolding N.held_by moved
-      moves (On q) x y z = both_on (link q tally x y z)
-      moves (Halt x') x y z = both_halt (link x'.progress x'.tally x y z)
+      moves (Continue q) x y z = both_on (link q tally x y z)
+      moves (Break x') x y z = both_halt (link x'.progress x'.tally x y z)
 
       turn_both : Pair' (N.turn_held words setup counts h) (N.turn_held entries setup counts g)
       unfolding N.turn_held turn turned served
@@ -275,9 +267,9 @@ module _ (setup : Setup) (counts : List ℕ) (observations : List Observation) (
       when_admitted_lem : (x : Moved (Held words) Step) (y : Moved (Held entries) Step) → Pair' x y → (m : Admission) → Pair' (N.when_admitted words h x m)
           (N.when_admitted entries g y m)
       unfolding N.when_admitted
-      when_admitted_lem x y b A.Accepted = b
-      when_admitted_lem x y b (A.Refused n) = unaltered n _
-      when_admitted_lem x y b (A.Unsound place) = unaltered 4 _
+      when_admitted_lem x y b (Ok tt) = b
+      when_admitted_lem x y b (Err (A.Refused n)) = unaltered n _
+      when_admitted_lem x y b (Err (A.Unsound place)) = unaltered 4 _
 
       over : (number : ℕ) (place : Place) → Pair' (N.over words number place h) (N.over entries number place g)
       unfolding N.over
@@ -322,11 +314,11 @@ module _ (setup : Setup) (counts : List ℕ) (observations : List Observation) (
         same_eta : waits.eta ≡ eta
         same_eta = let b = waits.wants in cc
 
-        absent : lookup (B.key_of fit p.subject eta) l ≡ none
+        absent : lookup (B.key_of fit p.subject eta) l ≡ None
         absent =
-            let m : words.recall c setup.k (B.key_of fit p.subject eta) rows work (block rows 3) ≡ none =
-            subst (λ (k : ℕ). words.recall c k (B.key_of fit p.subject eta) rows work (block rows 3) ≡ none) (fit_k setup parameters)
-            (subst (λ (x : Pair). words.recall c fit.k (B.key_of fit p.subject x) rows work (block rows 3) ≡ none) same_eta waits.missing) in
+            let m : words.recall c setup.k (B.key_of fit p.subject eta) rows work (block rows 3) ≡ None =
+            subst (λ (k : ℕ). words.recall c k (B.key_of fit p.subject eta) rows work (block rows 3) ≡ None) (fit_k setup parameters)
+            (subst (λ (x : Pair). words.recall c fit.k (B.key_of fit p.subject x) rows work (block rows 3) ≡ None) same_eta waits.missing) in
             not_found setup.k room.some room.most c l st (B.key_of fit p.subject eta) rows work (block rows 3) _ refl m
 
         low : c.order.next < half
@@ -358,7 +350,7 @@ module _ (setup : Setup) (counts : List ℕ) (observations : List Observation) (
               own = k.0.1;
             }
 
-        received : (sums : Sums) → Pair' (N.replied words counts fit eta h ended'.work (E.Running sums)) (N.replied entries counts fit eta g ended'.work (E.Running sums))
+        received : (sums : Sums) → Pair' (N.replied words counts fit eta h ended'.work (Ok sums)) (N.replied entries counts fit eta g ended'.work (Ok sums))
         unfolding N.replied receive takes
         received sums =
             let q = (B.advance_by fit p eta sums).progress in
@@ -368,9 +360,9 @@ module _ (setup : Setup) (counts : List ℕ) (observations : List Observation) (
             (sym (fit_k setup parameters)) (kept_link sums q x warm results))
 
         by_end : (x : Evaluation) → Pair' (N.replied words counts fit eta h ended'.work x) (N.replied entries counts fit eta g ended'.work x)
-        by_end (E.Running sums) = received sums
-        by_end (E.Refused n) = unfold N.replied in over n _
-        by_end (E.RefusedAt n i) = unfold N.replied in over n _
+        by_end (Ok sums) = received sums
+        by_end (Err (E.Refused n)) = unfold N.replied in over n _
+        by_end (Err (E.RefusedAt n i)) = unfold N.replied in over n _
 
         answer_both : Pair' (N.answered words setup counts observations said eta h) (N.answered entries setup counts observations said eta g)
         unfolding N.answered
@@ -474,7 +466,7 @@ module _ (setup : Setup) (counts : List ℕ) (observations : List Observation) (
 pub over_the_list : OverTheList
 over_the_list setup counts observations effects bound limit lent results e deeds =
     let a = accepts setup counts lent (N.all_checked setup counts observations) e in
-    let room : Room setup.k = record { some = some_room setup a.shape_in; most = shape_low {b = false} setup (sym a.shape_in) refl } in
+    let room : Room setup.k = record { Some = some_room setup a.shape_in; most = shape_low {b = false} setup (sym a.shape_in) refl } in
     ⊎_elim (λ (one : setup.effects ≡ 1). holds_over setup counts observations inner1 (subst (Suits inner1) (sym one) suits1) bound limit lent a room results deeds)
     (λ (two : setup.effects ≡ 2). holds_over setup counts observations inner2 (subst (Suits inner2) (sym two) suits2) bound limit lent a room results deeds)
     effects

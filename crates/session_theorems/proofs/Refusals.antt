@@ -1,4 +1,5 @@
 -- Refusals and the end of an objective, for all that a host may lend: the proof of specs/Refusals. Assumes nothing.
+use Rattle.std.specs.Prelude.{Err, Ok}
 use mathlib.Core.Path.{◌≡◌, refl, sym, ap, subst, ◌∙◌}
 use mathlib.Core.Bool.{true, false}
 use mathlib.Core.List.{List}
@@ -13,15 +14,12 @@ use Rattle.float64.specs.Answer.{Answer, given, refused, through}
 use Rattle.float64.specs.Pick.{pick, both, cases, pick_yes, pick_no, pick_same}
 use Rattle.matrix.specs.declared.Pair.{Pair}
 use Rattle.likelihood.specs.declared.population_focei.Observation.{Observation}
-use Rattle.subject.specs.Subject.{Evaluating, evaluating, begin, add_observations, finish}
-use Rattle.subject.specs.declared.Evaluation.{Evaluation}
+use Rattle.subject.specs.Subject.{Evaluating, evaluating, begin, add_observations, finish, Evaluation}
 use Rattle.subject.specs.declared.Trial.{Trial}
 use Rattle.words.specs.Words.{zeros}
 use Rattle.work.specs.Work.{most_rows}
 use Rattle.cache.specs.declared.CacheOrder.{CacheOrder}
-use Rattle.setup.specs.Admission.{is_cohort, checks_of, checks, with_parameters}
-use Rattle.setup.specs.declared.Admission.{Admission}
-use Rattle.setup.specs.declared.Admission.TheVariants as A
+use Rattle.setup.specs.Admission.{is_cohort, checks_of, checks, with_parameters, Admission}
 use Rattle.setup.specs.declared.Lent.{Lent}
 use Rattle.setup.specs.declared.Parameters.{Parameters}
 use Rattle.setup.specs.declared.Setup.{Setup}
@@ -63,6 +61,7 @@ use Rattle.session_theorems.proofs.Entered.{Judged, counts_judged, one, unheard,
 use Rattle.session_theorems.proofs.Entered.{Answers_with}
 use Rattle.session_theorems.proofs.Evaluated.{work_length}
 use Rattle.session_theorems.proofs.Remaining.{lifts, placed}
+use Rattle.setup.specs.declared.AdmissionError.TheVariants as A
 
 -- ---- numbers
 unaltered_yes : (n : ℕ) → AltersNothing n → is_unaltered n ≡ true
@@ -222,7 +221,7 @@ module _ (setup : Setup) (counts : List ℕ) (observations : List Observation) (
   opens_way : W.state_size ≤ length state → (a : Admission) → Judged (length counts) a
       → Way (H.settled setup counts (length observations) (all_checked setup counts observations) tally state answer cache work warm results (opening setup counts lent tally cache work warm results a))
   unfolding Judged opening H.opened H.opened_to B.begin_subject
-  opens_way long A.Accepted j =
+  opens_way long (Ok tt) j =
       finishes (record {
         number = refl;
         said = _;
@@ -233,8 +232,8 @@ module _ (setup : Setup) (counts : List ℕ) (observations : List Observation) (
         rise = omega arith;
         rows = omega arith;
       })
-  opens_way long (A.Refused n) j = stays n At.Nowhere j.0 j.1 refl
-  opens_way long (A.Unsound at) j = stays 4 _ (inl (omega arith, omega arith)) (inl refl) refl
+  opens_way long (Err (A.Refused n)) j = stays n At.Nowhere j.0 j.1 refl
+  opens_way long (Err (A.Unsound at)) j = stays 4 _ (inl (omega arith, omega arith)) (inl refl) refl
 
   setup_way : Way (setup_over setup counts observations tally state answer cache work warm results)
   unfolding setup_over H.open_with opened_by checks
@@ -289,13 +288,13 @@ module _ (setup : Setup) (counts : List ℕ) (observations : List Observation) (
       abbrev count : ℕ
       count = get_or counts s.progress.subject 0
 
-      few_lent : judgement ≡ A.Accepted → length observations ≤ 100000
+      few_lent : judgement ≡ (Ok tt) → length observations ≤ 100000
       unfolding subject_checks checks_of
       few_lent e =
-          let never : A.Refused 1 ≡ A.Accepted → ⊥ = λ q. let z : ◌≡◌ {A = ℕ} 0 1 = cc in omega arith in
+          let never : Err (A.Refused 1) ≡ (Ok tt) → ⊥ = λ q. let z : ◌≡◌ {A = ℕ} 0 1 = cc in omega arith in
           let low = not_first _ _ never (not_first _ _ never e).1 in
           let n : count ≤ 100000 = ltb-false _ _ low.0 in
-          cases (λ (a : Admission). a ≡ A.Accepted → length observations ≤ 100000) (is_cohort (with_parameters setup s.parameters).effects (length counts) count (length observations))
+          cases (λ (a : Admission). a ≡ (Ok tt) → length observations ≤ 100000) (is_cohort (with_parameters setup s.parameters).effects (length counts) count (length observations))
           (λ t q. let m = (is_cohort_lem _ (length counts) count (length observations) t).adds in omega (arith, n, m)) (λ f q. absurd (never q)) low.1
 
       abbrev awaited : Admission → Pair → Awaited
@@ -308,29 +307,29 @@ module _ (setup : Setup) (counts : List ℕ) (observations : List Observation) (
       by_own a e u q = subst (λ (z : Ran (Held words) Step). Way (did z state answer)) (sym (own_finish setup counts a e u q))
 
       -- not let in
-      barred_way : W.state_size ≤ length state → (eta : Pair) (a : Admission) → (a ≡ A.Accepted → ⊥) → Judged (length counts) a → (n : ℕ)
+      barred_way : W.state_size ≤ length state → (eta : Pair) (a : Admission) → (a ≡ (Ok tt) → ⊥) → Judged (length counts) a → (n : ℕ)
           → Way (ends_as (nothing_admitted (awaited a eta) trial n) s)
       barred_way long eta a never j n = by_own (awaited a eta) _ _ refl (way s long _ (done setup counts (h s) _ (admits setup counts (h s) _ a j (λ q. absurd (never q)))))
 
-      refused_way : W.state_size ≤ length state → (eta : Pair) (n : ℕ) → Judged (length counts) (A.Refused n)
-          → Way (ends_as (admitted_over setup trial said (awaited (A.Refused n) eta) 0 (length observations) (A.Refused n)) s)
+      refused_way : W.state_size ≤ length state → (eta : Pair) (n : ℕ) → Judged (length counts) (Err (A.Refused n))
+          → Way (ends_as (admitted_over setup trial said (awaited (Err (A.Refused n)) eta) 0 (length observations) (Err (A.Refused n))) s)
       unfolding admitted_over
-      refused_way long eta n j = barred_way long eta (A.Refused n) (λ q. let z : ◌≡◌ {A = ℕ} 0 1 = cc in omega arith) j n
+      refused_way long eta n j = barred_way long eta (Err (A.Refused n)) (λ q. let z : ◌≡◌ {A = ℕ} 0 1 = cc in omega arith) j n
 
       point_way : W.state_size ≤ length state → (eta : Pair) → Like setup counts (h s) (h s) → Stood setup counts s.progress → wanted_at setup (h s) ≡ Wants.Point eta
           → (a : Admission) → judgement ≡ a → Judged (length counts) a → Way (ends_as (admitted_over setup trial said (awaited a eta) 0 (length observations) a) s)
       unfolding admitted_over Judged when_admitted
-      point_way long eta lk st wants A.Accepted q j =
+      point_way long eta lk st wants (Ok tt) q j =
           let os = take (length observations - 0) (drop 0 observations) in
           let e = add_observations trial said os (evaluating (begin said setup.width setup.effects setup.output_budget) work) in
           let l = work_length trial said setup.width setup.effects setup.output_budget os work in
           let n = length-take (length observations - 0) (drop 0 observations) in
           let few = few_lent q in
           let u = held_of s tally cache e.work warm results in
-          by_own (awaited A.Accepted eta) e.evaluation u refl (way s long _ (done setup counts (h s) _ (goes_on setup counts (h s) u (record { work = l; calls = refl; rows = lk.rows; kept = lk.kept }) st eta wants j e.work l _
+          by_own (awaited (Ok tt) eta) e.evaluation u refl (way s long _ (done setup counts (h s) _ (goes_on setup counts (h s) u (record { work = l; calls = refl; rows = lk.rows; kept = lk.kept }) st eta wants j e.work l _
           (late trial setup.output_budget said os work (omega (arith, n, few))))))
-      point_way long eta lk st wants (A.Refused n) q j = refused_way long eta n j
-      point_way long eta lk st wants (A.Unsound at) q j = barred_way long eta (A.Unsound at) (λ q. let z : ◌≡◌ {A = ℕ} 0 1 = cc in omega arith) j 4
+      point_way long eta lk st wants (Err (A.Refused n)) q j = refused_way long eta n j
+      point_way long eta lk st wants (Err (A.Unsound at)) q j = barred_way long eta (Err (A.Unsound at)) (λ q. let z : ◌≡◌ {A = ℕ} 0 1 = cc in omega arith) j 4
 
       -- a point is awaited only where the positions are right, and then it is what the search wants
       point_wanted_lem : (eta : Pair) → awaited_point setup counts most_rows (fit_of setup s.parameters) s tally ≡ Wants.Point eta

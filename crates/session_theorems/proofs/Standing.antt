@@ -1,8 +1,8 @@
 -- What stays true of a session's state from call to call: `Standing`. Assumes nothing.
+use Rattle.std.specs.Prelude.{Option, None}
 use mathlib.Core.Path.{◌≡◌, refl, sym, subst, ◌∙◌}
 use mathlib.Core.Bool.{true, false}
 use mathlib.Core.List.{List}
-use mathlib.Core.Option.{Option, none}
 use Prim.Native.Nat.{ℕ, suc, ◌*◌, ◌≤◌, ◌<◌}
 use native.Mathlib.Omega.{arith}
 use lib.Dec.{T}
@@ -55,7 +55,7 @@ module _ (S : Store) (setup : Setup) (counts : List ℕ) (observations : List Ob
     pub eta : Pair
     pub wants : B.wanted_by (fit_at S setup counts observations I h) h.whole.progress ≡ Wants.Point eta
     pub passed : Passed eta setup.effects
-    pub missing : recall_of h eta ≡ none
+    pub missing : recall_of h eta ≡ None
     pub fewer : suc n ≤ h.whole.tally.calls.0
 
   pub record Standing (h : Held S) : Type 0 where

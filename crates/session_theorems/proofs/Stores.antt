@@ -1,9 +1,9 @@
 -- What an objective needs of its kept evaluations, and that those in lent words have it: each was made at a point that passed 7, and its sums are finite. Assumes nothing.
+use Rattle.std.specs.Prelude.{None, Option, Some, ℕ}
 use mathlib.Core.Path.{◌≡◌, refl, sym, ap, subst, ◌∙◌}
 use mathlib.Core.Bool.{false}
 use mathlib.Core.List.{List, [], ◌∷◌, ◌++◌}
 use mathlib.Core.Logic.{⊎_elim}
-use mathlib.Core.Option.{Option, none, some}
 use Prim.Native.Nat.{ℕ, zero, suc, ◌+◌, ◌-◌, ◌*◌, ◌≤◌, ◌<◌}
 use native.Mathlib.Omega.{arith}
 use lib.Dec.{ltb}
@@ -16,8 +16,6 @@ use Rattle.cache.specs.Claim.{Room}
 use Rattle.cache.specs.Kept.{Entry, lookup, drop_to, cached_rows, Evaluated, Lent, entry_for, found_entry, entry_of, Stands}
 use Rattle.cache.specs.declared.CacheKey.{CacheKey}
 use Rattle.cache.specs.declared.CachedTerms.{CachedTerms}
-use Rattle.cache.specs.declared.Found.{Found}
-use Rattle.cache.specs.declared.Found.TheVariants.{At, Nothing}
 use Rattle.cache.proofs.Run.{refinement}
 use Rattle.cache.proofs.Walked.{same_true}
 use Rattle.search.specs.Subjects.{sums_of}
@@ -39,10 +37,10 @@ pub record Trusted (S : Store) (k : ℕ) : Type 1 where
   pub Holds : ℕ → S.Kept → Type 0
   pub opens : (n : ℕ) → 24 * k ≤ n → Holds 0 (S.cleared n)
   pub wider : (n : ℕ) (c : S.Kept) → Holds n c → Holds (suc n) c
-  pub recalls : (n : ℕ) (c : S.Kept) → Holds n c → (key : CacheKey) (rows : ℕ) (work : List ℕ) (to : ℕ) (r : Recalled) → S.recall c k key rows work to ≡ some r → Fine key r.terms × AsLong work
+  pub recalls : (n : ℕ) (c : S.Kept) → Holds n c → (key : CacheKey) (rows : ℕ) (work : List ℕ) (to : ℕ) (r : Recalled) → S.recall c k key rows work to ≡ Some r → Fine key r.terms × AsLong work
       r.work
   pub keeps : (n : ℕ) (c : S.Kept) → Holds n c → n < 4294967295 → (key : CacheKey) (terms : CachedTerms) (rows : ℕ) (work : List ℕ) (from : ℕ) (seen : List ℕ) (to : ℕ)
-      → S.recall c k key rows seen to ≡ none → Fine key terms → 1 ≤ rows → from + row_words * rows ≤ length work → Holds (suc n) (S.keep c k key terms rows work from)
+      → S.recall c k key rows seen to ≡ None → Fine key terms → 1 ≤ rows → from + row_words * rows ≤ length work → Holds (suc n) (S.keep c k key terms rows work from)
 
 -- ---- the list
 abbrev FineEntry : Entry → Type 0
@@ -57,18 +55,18 @@ unfolding drop_to
 every_drop P room [] h = h
 every_drop P room (x ∷ l) (more p h) = cases (Every P) (ltb room (cached_rows (x ∷ l))) (λ t. every_drop P room l h) (λ t. more p h)
 
-found_fine : (key : CacheKey) (l : List Entry) (x : Entry) → Every FineEntry l → lookup key l ≡ some x → Fine key x.terms
+found_fine : (key : CacheKey) (l : List Entry) (x : Entry) → Every FineEntry l → lookup key l ≡ Some x → Fine key x.terms
 unfolding lookup
 found_fine key [] x h e = absurd (let z : ◌≡◌ {A = ℕ} 0 1 = cc in omega arith)
 found_fine key (y ∷ l) x (more p h) q =
-    cases (λ (o : Option Entry). o ≡ some x → Fine key x.terms) (same_key y.key key)
+    cases (λ (o : Option Entry). o ≡ Some x → Fine key x.terms) (same_key y.key key)
     (λ t e. let d : y ≡ x = cc in subst (λ (z : Entry). Fine key z.terms) d (subst (λ (q : CacheKey). Fine q y.terms) (same_true _ _ t) p))
     (λ t e. found_fine key l x h e) q
 
 -- ---- the words
 module _ (k : ℕ) (some_room : 1 ≤ k) (most : k ≤ 100000) where
   abbrev room : Room k
-  room = record { some = some_room; most = most }
+  room = record { Some = some_room; most = most }
 
   pub record Stood (n : ℕ) (c : Cache) : Type 0 where
     pub list : List Entry
@@ -83,23 +81,23 @@ module _ (k : ℕ) (some_room : 1 ≤ k) (most : k ≤ 100000) where
   zeros_are (suc n) (suc i) = zeros_are n i
 
   recalled : (c : Cache) (l : List Entry) → Stands c.words k c.order l → Every FineEntry l → (key : CacheKey) (rows : ℕ) (work : List ℕ) (to : ℕ) (r : Recalled)
-      → (f : Found) → find c.words k c.order key ≡ f → recall_at c.words k rows work to f ≡ some r → Fine key r.terms × AsLong work r.work
+      → (f : Option ℕ) → find c.words k c.order key ≡ f → recall_at c.words k rows work to f ≡ Some r → Fine key r.terms × AsLong work r.work
   unfolding recall_at found_entry
-  recalled c l st h key rows work to r (At slot) e q =
+  recalled c l st h key rows work to r (Some slot) e q =
       let x = entry_of c.words k slot in
-      let g : lookup key l ≡ some x = sym (refinement.finds c.words k c.order l st key) ∙ ap (found_entry c.words k) e in
+      let g : lookup key l ≡ Some x = sym (refinement.finds c.words k c.order l st key) ∙ ap (found_entry c.words k) e in
       let d : r.terms ≡ x.terms = cc (refinement.reads_terms c.words k slot room) in
-      (subst (Fine key) (sym d) (found_fine key l x h g), recalled_length c.words k rows work to (At slot) r q)
-  recalled c l st h key rows work to r Nothing e q = absurd (let z : ◌≡◌ {A = ℕ} 0 1 = cc in omega arith)
+      (subst (Fine key) (sym d) (found_fine key l x h g), recalled_length c.words k rows work to (Some slot) r q)
+  recalled c l st h key rows work to r None e q = absurd (let z : ◌≡◌ {A = ℕ} 0 1 = cc in omega arith)
 
   pub not_found : (c : Cache) (l : List Entry) → Stands c.words k c.order l → (key : CacheKey) (rows : ℕ) (work : List ℕ) (to : ℕ)
-      → (f : Found) → find c.words k c.order key ≡ f → recall_at c.words k rows work to f ≡ none → lookup key l ≡ none
+      → (f : Option ℕ) → find c.words k c.order key ≡ f → recall_at c.words k rows work to f ≡ None → lookup key l ≡ None
   unfolding recall_at found_entry
-  not_found c l st key rows work to (At slot) e q = absurd (let z : ◌≡◌ {A = ℕ} 0 1 = cc in omega arith)
-  not_found c l st key rows work to Nothing e q = sym (refinement.finds c.words k c.order l st key) ∙ ap (found_entry c.words k) e
+  not_found c l st key rows work to (Some slot) e q = absurd (let z : ◌≡◌ {A = ℕ} 0 1 = cc in omega arith)
+  not_found c l st key rows work to None e q = sym (refinement.finds c.words k c.order l st key) ∙ ap (found_entry c.words k) e
 
   kept : (n : ℕ) (c : Cache) → Stood n c → n < 4294967295 → (key : CacheKey) (terms : CachedTerms) (rows : ℕ) (work : List ℕ) (from : ℕ) (seen : List ℕ) (to : ℕ)
-      → words.recall c k key rows seen to ≡ none → Fine key terms → 1 ≤ rows → from + row_words * rows ≤ length work → Stood (suc n) (words.keep c k key terms rows work from)
+      → words.recall c k key rows seen to ≡ None → Fine key terms → 1 ≤ rows → from + row_words * rows ≤ length work → Stood (suc n) (words.keep c k key terms rows work from)
   kept n c s m key terms rows work from seen to e fine one lent =
       let x : Evaluated = record { key = key; terms = terms; n = rows; rows = work; from = from } in
       let lone : Lent x = record { some_row = one; all_rows = lent } in

@@ -1,4 +1,5 @@
 -- Where checks 1 to 5 pass of all observations, they pass of one subject's. Assumes nothing.
+use Rattle.std.specs.Prelude.{Err, None, Ok, Option}
 use mathlib.Core.Path.{◌≡◌, refl, sym, subst, ◌∙◌}
 use mathlib.Core.Bool.{true, false}
 use mathlib.Core.List.{List, [], ◌∷◌}
@@ -9,17 +10,11 @@ use lib.Dec.{ltb}
 use lib.ListN.{get_or, length, take, drop}
 use Rattle.float64.specs.Pick.{yes, no, cases}
 use Rattle.likelihood.specs.declared.population_focei.Observation.{Observation}
-use Rattle.subject.specs.Observations.{is_sound, check_at, check_observation, check_observations}
-use Rattle.subject.specs.declared.Check.{Check}
-use Rattle.subject.specs.declared.Check.TheVariants.{Sound, Unsound}
+use Rattle.subject.specs.Observations.{is_sound, check_at, check_observation, check_observations, Check}
 use Rattle.subject.specs.declared.Position.{Position}
-use Rattle.setup.specs.Admission.{count_observations, is_cohort, is_no_omega, is_no_shape, is_short, roomy, admitted, checks_of, checks}
+use Rattle.setup.specs.Admission.{count_observations, is_cohort, is_no_omega, is_no_shape, is_short, roomy, admitted, checks_of, checks, within, Admission}
 use Rattle.setup.specs.declared.Setup.{Setup}
 use Rattle.setup.specs.declared.Lent.{Lent}
-use Rattle.setup.specs.declared.Counts.{Counts}
-use Rattle.setup.specs.declared.Counts.TheVariants.{Within, Outside}
-use Rattle.setup.specs.declared.Admission.{Admission}
-use Rattle.setup.specs.declared.Admission.TheVariants as A
 use Rattle.setup.proofs.Bounds.{not_first, counts_low}
 use Rattle.setup.specs.SubjectChecks.{subject_checks}
 use Rattle.session_theorems.proofs.Accepted.{each_count}
@@ -32,22 +27,22 @@ Sounds width (o ∷ os) = (is_sound o width ≡ true) × Sounds width os
 
 pub record IsSound (c : Check) : Type 0 where
   pub at : Position
-  pub is : c ≡ Sound at
+  pub is : c ≡ Ok at
 
 module _ (width : ℕ) (counts : List ℕ) where
-  stuck : (os : List Observation) (p : Position) → check_observations width counts os (Unsound p) ≡ Unsound p
+  stuck : (os : List Observation) (p : Position) → check_observations width counts os (Err p) ≡ Err p
   unfolding check_observation
   stuck [] p = refl
   stuck (o ∷ os) p = stuck os p
 
-  sounds : (os : List Observation) (p q : Position) → check_observations width counts os (Sound p) ≡ Sound q → Sounds width os
+  sounds : (os : List Observation) (p q : Position) → check_observations width counts os (Ok p) ≡ Ok q → Sounds width os
   unfolding check_observation check_at
   sounds [] p q e = tt
   sounds (o ∷ os) p q e =
-      cases (λ (c : Check). check_observations width counts os c ≡ Sound q → Sounds width (o ∷ os)) (is_sound o width)
-      (λ t e. (t, sounds os _ q e)) (λ f e. absurd (let z : Unsound p ≡ Sound q = sym (stuck os p) ∙ e in let n : ◌≡◌ {A = ℕ} 0 1 = cc in omega arith)) e
+      cases (λ (c : Check). check_observations width counts os c ≡ Ok q → Sounds width (o ∷ os)) (is_sound o width)
+      (λ t e. (t, sounds os _ q e)) (λ f e. absurd (let z : Err p ≡ Ok q = sym (stuck os p) ∙ e in let n : ◌≡◌ {A = ℕ} 0 1 = cc in omega arith)) e
 
-  passes : (os : List Observation) (p : Position) → Sounds width os → IsSound (check_observations width counts os (Sound p))
+  passes : (os : List Observation) (p : Position) → Sounds width os → IsSound (check_observations width counts os (Ok p))
   unfolding check_observation check_at
   passes [] p s = record { at = p; is = refl }
   passes (o ∷ os) p s =
@@ -64,8 +59,8 @@ module _ (width : ℕ) (counts : List ℕ) where
   part n (suc m) (o ∷ os) s = part n m os s.1
 
   -- wherever the check of the part begins
-  pub part_sound : (os : List Observation) (p q from : Position) (n m : ℕ) → check_observations width counts os (Sound p) ≡ Sound q → IsSound
-      (check_observations width counts (take n (drop m os)) (Sound from))
+  pub part_sound : (os : List Observation) (p q from : Position) (n m : ℕ) → check_observations width counts os (Ok p) ≡ Ok q → IsSound
+      (check_observations width counts (take n (drop m os)) (Ok from))
   part_sound os p q from n m e = passes (take n (drop m os)) from (part n m os (sounds os p q e))
 
 -- ---- 1 and 5, for a subject's count in place of all
@@ -102,21 +97,21 @@ module _ (setup : Setup) (counts : List ℕ) (lent lent' : Lent) (check : Check)
   pub record Passed : Type 0 where
     pub total : ℕ
     pub largest : ℕ
-    pub counted : count_observations counts ≡ Within total largest
+    pub counted : count_observations counts ≡ within total largest
     pub cohort : is_cohort setup.effects (length counts) total lent.observations ≡ true
     pub omega_in : is_no_omega setup ≡ false
     pub shape_in : is_no_shape setup ≡ false
     pub sound : IsSound check
     pub room : is_short setup (length counts) total largest lent ≡ false
 
-  by_check : (total largest : ℕ) (c : Check) → roomy setup (length counts) total largest lent c ≡ A.Accepted → IsSound c × (is_short setup (length counts) total largest lent ≡ false)
+  by_check : (total largest : ℕ) (c : Check) → roomy setup (length counts) total largest lent c ≡ (Ok tt) → IsSound c × (is_short setup (length counts) total largest lent ≡ false)
   unfolding roomy
-  by_check total largest (Unsound place) q = absurd (let z : ◌≡◌ {A = ℕ} 0 1 = cc in omega arith)
-  by_check total largest (Sound place) q =
-      (record { at = place; is = refl }, (not_first (is_short setup (length counts) total largest lent) A.Accepted (λ p. let z : ◌≡◌ {A = ℕ} 0 1 = cc in omega arith) q).0)
+  by_check total largest (Err place) q = absurd (let z : ◌≡◌ {A = ℕ} 0 1 = cc in omega arith)
+  by_check total largest (Ok place) q =
+      (record { at = place; is = refl }, (not_first (is_short setup (length counts) total largest lent) (Ok tt) (λ p. let z : ◌≡◌ {A = ℕ} 0 1 = cc in omega arith) q).0)
 
-  by_cohort : (total largest : ℕ) → count_observations counts ≡ Within total largest → is_cohort setup.effects (length counts) total lent.observations ≡ true → admitted setup (length counts) total
-      largest lent check ≡ A.Accepted → Passed
+  by_cohort : (total largest : ℕ) → count_observations counts ≡ within total largest → is_cohort setup.effects (length counts) total lent.observations ≡ true → admitted setup (length counts) total
+      largest lent check ≡ (Ok tt) → Passed
   unfolding admitted
   by_cohort total largest c h e =
       let o = not_first (is_no_omega setup) _ (λ q. let z : ◌≡◌ {A = ℕ} 0 1 = cc in omega arith) e in
@@ -124,14 +119,14 @@ module _ (setup : Setup) (counts : List ℕ) (lent lent' : Lent) (check : Check)
       let r = by_check total largest check s.1 in
       record { total = total; largest = largest; counted = c; cohort = h; omega_in = o.0; shape_in = s.0; sound = r.0; room = r.1 }
 
-  by_counts : (c : Counts) → count_observations counts ≡ c → checks_of setup (length counts) lent check c ≡ A.Accepted → Passed
+  by_counts : (c : Option Counts) → count_observations counts ≡ c → checks_of setup (length counts) lent check c ≡ (Ok tt) → Passed
   unfolding checks_of
-  by_counts (Within total largest) d e =
-      cases (λ (a : Admission). a ≡ A.Accepted → Passed) (is_cohort setup.effects (length counts) total lent.observations)
-      (λ h q. by_cohort total largest d h q) (λ h q. absurd (let z : ◌≡◌ {A = ℕ} 0 1 = cc in omega arith)) e
-  by_counts Outside d e = absurd (let z : ◌≡◌ {A = ℕ} 0 1 = cc in omega arith)
+  by_counts (Some n) d e =
+      cases (λ (a : Admission). a ≡ (Ok tt) → Passed) (is_cohort setup.effects (length counts) n.total lent.observations)
+      (λ h q. by_cohort n.total n.largest d h q) (λ h q. absurd (let z : ◌≡◌ {A = ℕ} 0 1 = cc in omega arith)) e
+  by_counts None d e = absurd (let z : ◌≡◌ {A = ℕ} 0 1 = cc in omega arith)
 
-  pub passed : checks setup counts lent check ≡ A.Accepted → Passed
+  pub passed : checks setup counts lent check ≡ (Ok tt) → Passed
   unfolding checks
   passed e = by_counts (count_observations counts) refl e
 
@@ -146,7 +141,7 @@ module _ (setup : Setup) (counts : List ℕ) (lent lent' : Lent) (check : Check)
         (each.0, each.1, low.1, low.0)
 
     pub subject_passes : (check' : Check) → IsSound check' → get_or counts subject 0 ≤ w.total → get_or counts subject 0 ≡ lent'.observations
-        → lent'.work ≡ lent.work → lent'.cache ≡ lent.cache → lent'.warm ≡ lent.warm → lent'.results ≡ lent.results → A.Accepted ≡ subject_checks setup counts subject lent' check'
+        → lent'.work ≡ lent.work → lent'.cache ≡ lent.cache → lent'.warm ≡ lent.warm → lent'.results ≡ lent.results → (Ok tt) ≡ subject_checks setup counts subject lent' check'
     unfolding subject_checks checks_of admitted roomy
     subject_passes check' sound most lends ew ec ea er =
         let c = get_or counts subject 0 in
@@ -157,5 +152,5 @@ module _ (setup : Setup) (counts : List ℕ) (lent lent' : Lent) (check : Check)
         (no _ (le-ltb _ _ few)
         (yes _ (sym (cohort_of setup.effects (length counts) w.total lent.observations c lent'.observations w.cohort lends))
         (no _ w.omega_in (no _ w.shape_in
-        (subst (λ (k : Check). A.Accepted ≡ roomy setup (length counts) c c lent' k) (sym sound.is)
+        (subst (λ (k : Check). (Ok tt) ≡ roomy setup (length counts) c c lent' k) (sym sound.is)
         (no _ (sym (room_of setup (length counts) w.total w.largest c lent lent' n.1 most ew ec ea er w.room)) refl))))))

@@ -1,4 +1,5 @@
 -- A reply that lends one subject's observations is the reply that lends all of them: the proof of specs/SubjectReply. Assumes nothing.
+use Rattle.std.specs.Prelude.{Err, Ok}
 use mathlib.Core.Path.{◌≡◌, refl, sym, ap, subst, ◌∙◌}
 use mathlib.Core.Bool.{Bool, true}
 use mathlib.Core.List.{List}
@@ -15,11 +16,9 @@ use Rattle.words.specs.Words.{smaller}
 use Rattle.subject.specs.Subject.{Evaluating, evaluating, begin, add_observations}
 use Rattle.subject.specs.declared.Trial.{Trial}
 use Rattle.work.specs.Work.{most_rows}
-use Rattle.setup.specs.Admission.{checks, with_parameters}
+use Rattle.setup.specs.Admission.{checks, with_parameters, Admission}
 use Rattle.setup.specs.declared.Setup.{Setup}
 use Rattle.setup.specs.declared.Lent.{Lent}
-use Rattle.setup.specs.declared.Admission.{Admission}
-use Rattle.setup.specs.declared.Admission.TheVariants as A
 use Rattle.setup.proofs.Bounds.{not_first}
 use Rattle.setup.specs.SubjectChecks.{subject_checks}
 use Rattle.search.specs.declared.Fit.{Fit}
@@ -46,6 +45,7 @@ use Rattle.session_theorems.proofs.Evaluated.{work_length}
 use Rattle.session_theorems.proofs.LetIn.{let_in}
 use Rattle.session_theorems.proofs.Plain.{false_not_true, only_first}
 use Rattle.session_theorems.proofs.SubjectChecks.{IsSound, part_sound, Passed, passed, count_in, subject_passes}
+use Rattle.setup.specs.declared.AdmissionError.TheVariants as A
 
 -- where the answer is not that of a test that fails, the test held
 -- ---- 19: the positions are right among all observations, and so among the most that there can be
@@ -82,7 +82,7 @@ same_point setup counts n m fit s tally a b =
 module _ (setup : Setup) (counts : List ℕ) (observations : List Observation) (tally : Tally) (state answer cache work warm results : List ℕ) (said : List ℕ) (s : State)
     (placing : stands setup counts (length observations) s tally ≡ true)
     (accepted : checks (with_parameters setup s.parameters) counts (lent_by (length observations) (length cache) (length work) (length warm) (length results)) (all_checked setup counts observations) ≡
-    A.Accepted) where
+    (Ok tt)) where
   abbrev own : List Observation
   own = own_of counts observations s
 
@@ -121,7 +121,7 @@ module _ (setup : Setup) (counts : List ℕ) (observations : List Observation) (
   unfolding subject_first
   own_sound = part_sound setup.width counts observations _ all.sound.at _ rows s.progress.first all.sound.is
 
-  own_accepted : A.Accepted ≡ subject_checks set counts subject (lent (length own)) (subject_checked setup counts own state)
+  own_accepted : (Ok tt) ≡ subject_checks set counts subject (lent (length own)) (subject_checked setup counts own state)
   own_accepted =
       subject_passes set counts (lent (length observations)) (lent (length own)) (all_checked setup counts observations) all subject inside.0 (subject_checked setup counts own state)
       own_sound (omega (arith, rows_are, inside.1, total_is)) (sym rows_are ∙ sym own_length) refl refl refl refl
@@ -158,20 +158,20 @@ module _ (setup : Setup) (counts : List ℕ) (observations : List Observation) (
   same_end : (w : Awaited) (v : Admission) → finishes own (admitted_over setup trial said w 0 (length own) v) ≡ finishes observations
       (admitted_over setup trial said w s.progress.first (smaller (s.progress.first + rows) (length observations)) v)
   unfolding admitted_over
-  same_end w A.Accepted =
+  same_end w (Ok tt) =
       let after : List Observation → Evaluating = λ os. add_observations trial said os (evaluating (begin said setup.width setup.effects setup.output_budget) work) in
       ap (λ (os : List Observation). finish_with counts w (after os).evaluation tally state answer cache (after os).work warm results) (of_own ∙ sym of_all)
-  same_end w (A.Refused number) = refl
-  same_end w (A.Unsound at) = refl
+  same_end w (Err (A.Refused number)) = refl
+  same_end w (Err (A.Unsound at)) = refl
 
   -- with all observations lent it is the call of the session
   long : (w : Awaited) (v : Admission) → length (evaluates observations (admitted_over setup trial said w s.progress.first (smaller (s.progress.first + rows) (length observations)) v)).work ≡
       length work
   unfolding admitted_over
-  long w A.Accepted = work_length trial said setup.width setup.effects setup.output_budget (take (smaller (s.progress.first + rows) (length observations) - s.progress.first)
+  long w (Ok tt) = work_length trial said setup.width setup.effects setup.output_budget (take (smaller (s.progress.first + rows) (length observations) - s.progress.first)
       (drop s.progress.first observations)) work
-  long w (A.Refused number) = refl
-  long w (A.Unsound at) = refl
+  long w (Err (A.Refused number)) = refl
+  long w (Err (A.Unsound at)) = refl
 
   module _ (loads : loaded_state state ≡ given s) where
     abbrev whole : Admitted
@@ -200,4 +200,4 @@ in_every_session setup counts observations lent before granted acts tally state 
     let here-stands = let_in setup counts observations lent before granted acts in
     every_subject_reply setup counts observations tally state answer cache work warm results said s loads
     (subst (λ (h : Held words). standing words setup counts (length observations) h.whole ≡ true) (sym here) here-stands.placed)
-    (subst (λ (h : Held words). admitted words setup counts (length observations) (all_checked setup counts observations) h.parameters h.whole ≡ A.Accepted) (sym here) here-stands.accepted)
+    (subst (λ (h : Held words). admitted words setup counts (length observations) (all_checked setup counts observations) h.parameters h.whole ≡ (Ok tt)) (sym here) here-stands.accepted)

@@ -1,8 +1,8 @@
 -- Every turn of a session's machine goes one of the ways that `Lawful` names. Assumes nothing.
+use Rattle.std.specs.Prelude.{None, Option, Some}
 use mathlib.Core.Path.{◌≡◌, refl, sym, ap, subst, ◌∙◌}
 use mathlib.Core.Bool.{true, false}
 use mathlib.Core.List.{List}
-use mathlib.Core.Option.{Option, none, some}
 use Prim.Native.Nat.{ℕ, suc, ◌≤◌, ◌<◌}
 use native.Mathlib.Nat.{mod-eq_of_lt}
 use native.Mathlib.Omega.{arith}
@@ -34,8 +34,6 @@ use Rattle.search.specs.declared.Halted.{Halted}
 use Rattle.search.specs.declared.Wanted.{Wanted}
 use Rattle.search.specs.declared.Wanted.TheVariants as Wants
 use Rattle.search.specs.declared.Mode.{Mode}
-use Rattle.search.specs.declared.Closed.{Closed}
-use Rattle.search.specs.declared.Closed.TheVariants.{Positive, NotPositive}
 use Rattle.search.proofs.Fits.{fit_effects, fit_k, fit_most, fit_bound}
 use Rattle.cache.specs.declared.CacheKey.{CacheKey}
 use Rattle.machine.specs.Lawful.{Over, Turn}
@@ -46,10 +44,8 @@ use Rattle.machine.specs.Observed.{View, wanted_at}
 use Rattle.machine.specs.Observed as Observed
 use Rattle.machine.specs.Rules.{point, mode}
 use Rattle.population.specs.Kept.{Recalled, Store}
-use Rattle.population.specs.Population.{rows_of, warm_of, take, answered, at_point, Worked, next_subject, raised, Ended, ended, closing, at_mode, served_by, served, is_over, turned, Whole, whole_of, moved}
+use Rattle.population.specs.Population.{rows_of, warm_of, take, answered, at_point, Worked, next_subject, raised, Ended, ended, closing, at_mode, served_by, served, is_over, turned, Whole, whole_of, moved, Turned}
 use Rattle.population.specs.Population.{turn}
-use Rattle.population.specs.declared.Turned.{Turned}
-use Rattle.population.specs.declared.Turned.TheVariants.{On, Halt}
 use Rattle.session.specs.Session.{Held, held, held_by, turn_held, session}
 use Rattle.session_theorems.specs.Inner.{Inner, recalled_sums, view}
 use Rattle.session_theorems.proofs.Fitting.{Fits, FitsBoth}
@@ -58,6 +54,7 @@ use Rattle.session_theorems.proofs.Points.{WithinEdge, zero_in_16, Passed, value
 use Rattle.session_theorems.proofs.Searches.{Suits, wants_of}
 use Rattle.session_theorems.proofs.Standing.{Alike, advanced_alike, recall_of, Standing, still}
 use Rattle.session_theorems.proofs.Stores.{Fine, Trusted}
+use Rattle.core.specs.declared.ops.ControlFlow.TheVariants.{Break, Continue}
 
 -- ---- the bits of a point tell it
 pub key_fine : (fit : Fit) (subject : ℕ) (eta : Pair) (effects : ℕ) → fit.effects ≡ effects → FitsBoth eta
@@ -149,11 +146,11 @@ module _ (S : Store) (setup : Setup) (counts : List ℕ) (observations : List Ob
     abbrev close_turn : Ended → Moved (Held S) Step
     close_turn e = held_by S h.parameters (moved S w.tally w.kept (pick (is_over e.turned) (zeros (length e.work)) e.work) e.warm e.results e.turned)
 
-    goes_on : (q : Progress) (work warm results : List ℕ) → close_turn (ended (On q) work warm results) ≡ on (held S h.parameters (whole_of S q w.tally w.kept work warm results))
+    goes_on : (q : Progress) (work warm results : List ℕ) → close_turn (ended (Continue q) work warm results) ≡ on (held S h.parameters (whole_of S q w.tally w.kept work warm results))
     unfolding held_by moved is_over pick
     goes_on q work warm results = refl
 
-    halts : (x : Halted) (work warm results : List ℕ) → close_turn (ended (Halt x) work warm results)
+    halts : (x : Halted) (work warm results : List ℕ) → close_turn (ended (Break x) work warm results)
         ≡ halt x.step (held S h.parameters (whole_of S x.progress x.tally w.kept (pick (B.is_over x.step) (zeros (length work)) work) warm results))
     unfolding held_by moved is_over
     halts x work warm results = refl
@@ -186,7 +183,7 @@ module _ (S : Store) (setup : Setup) (counts : List ℕ) (observations : List Ob
     refuses_with : (tally : Tally) (number : ℕ) (place : Place) (work warm results : List ℕ) (n : ℕ) → tally.calls.0 ≡ n
         → ((a : Step) (t : Held S) → Y.means a ≡ Observed.refused number → Over I.rules I.claims M Y Stands n t → Goes h (halt a t))
         → w.tally.calls.0 ≤ tally.calls.0 → tally.calls.0 ≤ setup.max_evaluations → AsLong w.work work → Goes h
-        (close_turn (ended (Halt (B.refused_by p tally number place)) work warm results))
+        (close_turn (ended (Break (B.refused_by p tally number place)) work warm results))
     refuses_with tally number place work warm results n e law more most long =
         let x = B.refused_by p tally number place in
         let t = held S h.parameters (whole_of S x.progress x.tally w.kept (pick (B.is_over x.step) (zeros (length work)) work) warm results) in
@@ -202,7 +199,7 @@ module _ (S : Store) (setup : Setup) (counts : List ℕ) (observations : List Ob
       eta_fits = Q.points fit p eta effects_are fits_bound s.warm_fits s.pointed e
 
       -- a kept evaluation
-      module _ (r : Recalled) (q : recall_of S setup counts observations I Q U h eta ≡ some r) where
+      module _ (r : Recalled) (q : recall_of S setup counts observations I Q U h eta ≡ Some r) where
         abbrev sums : Sums
         sums = B.sums_of r.terms
 
@@ -213,7 +210,7 @@ module _ (S : Store) (setup : Setup) (counts : List ℕ) (observations : List Ob
 
         found : Fine (B.key_of fit p.subject eta) r.terms × AsLong w.work r.work
         found = U.recalls s.count w.kept s.trust (B.key_of fit p.subject eta) rows w.work (block rows 3) r
-            (subst (λ (k : ℕ). S.recall w.kept k (B.key_of fit p.subject eta) rows w.work (block rows 3) ≡ some r) (fit_k setup h.parameters) q)
+            (subst (λ (k : ℕ). S.recall w.kept k (B.key_of fit p.subject eta) rows w.work (block rows 3) ≡ Some r) (fit_k setup h.parameters) q)
 
         passed : Passed eta setup.effects
         passed = (key_fine fit p.subject eta setup.effects effects_are eta_fits).0 found.0.first found.0.second
@@ -242,7 +239,7 @@ module _ (S : Store) (setup : Setup) (counts : List ℕ) (observations : List Ob
         })
 
       -- none is kept
-      module _ (q : recall_of S setup counts observations I Q U h eta ≡ none) where
+      module _ (q : recall_of S setup counts observations I Q U h eta ≡ None) where
         abbrev asking : Pair → Held S
         asking v = held S h.parameters (whole_of S (B.awaiting p v) (B.counted w.tally) w.kept w.work w.warm w.results)
 
@@ -267,16 +264,16 @@ module _ (S : Store) (setup : Setup) (counts : List ℕ) (observations : List Ob
         asks v l d = miss point_is refl (record { sound = stands_asking v l d; subject = refl; settings = Q.settings fit p (B.awaiting p v) refl }) (Q.waits p v) refl (omega arith)
 
         by_values : w.tally.calls.0 < setup.max_evaluations → (a : Answer Pair) → individual_values fit.theta eta fit.effects ≡ a
-            → Goes h (close_turn (ended (Halt (B.ask_for p (B.counted w.tally) eta a)) w.work w.warm w.results))
+            → Goes h (close_turn (ended (Break (B.ask_for p (B.counted w.tally) eta a)) w.work w.warm w.results))
         unfolding B.ask_for B.counted B.is_over pick
         by_values l (given v) d = subst (Goes h) (sym (halts (B.ask_for p (B.counted w.tally) eta (given v)) w.work w.warm w.results)) (asks v l d)
         by_values l (refused n) d =
             refuses_with (B.counted w.tally) n (At.Subject p.subject) w.work w.warm w.results (suc w.tally.calls.0) (omega arith)
             (λ a t m o. wild point_is m (seven fit.theta eta fit.effects n d) o) (omega arith) (omega (arith, l)) refl
 
-        by_limit : Goes h (close_turn (ended (Halt (B.ask fit p w.tally eta)) w.work w.warm w.results))
+        by_limit : Goes h (close_turn (ended (Break (B.ask fit p w.tally eta)) w.work w.warm w.results))
         unfolding B.ask
-        by_limit = cases (λ (x : Halted). Goes h (close_turn (ended (Halt x) w.work w.warm w.results))) (ltb w.tally.calls.0 fit.max_evaluations)
+        by_limit = cases (λ (x : Halted). Goes h (close_turn (ended (Break x) w.work w.warm w.results))) (ltb w.tally.calls.0 fit.max_evaluations)
             (λ l. by_values (subst (λ (m : ℕ). w.tally.calls.0 < m) (fit_most setup h.parameters) (ltb-true _ _ l)) (individual_values fit.theta eta fit.effects) refl)
             (λ l. refuses_with w.tally 6 (At.Subject p.subject) w.work w.warm w.results w.tally.calls.0 refl (λ a t m o. short point_is m (omega arith, omega arith) o)
             (omega arith) s.limit refl)
@@ -284,8 +281,8 @@ module _ (S : Store) (setup : Setup) (counts : List ℕ) (observations : List Ob
       by_recall : (o : Option Recalled) → recall_of S setup counts observations I Q U h eta ≡ o
           → Goes h (close_turn (ended (answered fit rows p w.tally eta w.work o).value (answered fit rows p w.tally eta w.work o).work w.warm w.results))
       unfolding answered take
-      by_recall (some r) q = subst (Goes h) (sym (goes_on _ _ w.warm w.results)) (hits r q)
-      by_recall none q = by_limit q
+      by_recall (Some r) q = subst (Goes h) (sym (goes_on _ _ w.warm w.results)) (hits r q)
+      by_recall None q = by_limit q
 
       at_point_lem : Goes h (close_turn (served_by S fit counts p w.tally w.kept w.work w.warm w.results (Wants.Point eta)))
       unfolding served_by at_point
@@ -329,9 +326,9 @@ module _ (S : Store) (setup : Setup) (counts : List ℕ) (observations : List Ob
             last mode_is refl (let g : length counts ≤ suc p.subject = subst (λ (i : ℕ). length counts ≤ i) raised_is last_one in omega (arith, s.subject, g))
             (over (B.finished p ofv squares) w.tally w.work warm results refl refl refl (Q.pointed_end p ofv squares s.pointed) (omega arith) s.limit refl)
 
-        finishes : (ofv squares : Float) → ltb subject (length counts) ≡ false → Goes h (close_turn (ended (Halt (B.objective_of p w.tally ofv squares)) w.work warm results))
+        finishes : (ofv squares : Float) → ltb subject (length counts) ≡ false → Goes h (close_turn (ended (Break (B.objective_of p w.tally ofv squares)) w.work warm results))
         unfolding B.objective_of B.is_over pick
-        finishes ofv squares l = cases (λ (x : Halted). Goes h (close_turn (ended (Halt x) w.work warm results))) (nonfinite ofv)
+        finishes ofv squares l = cases (λ (x : Halted). Goes h (close_turn (ended (Break x) w.work warm results))) (nonfinite ofv)
             (λ t. refuses_with w.tally 18 At.Nowhere w.work warm results w.tally.calls.0 refl (λ a t n o. barred mode_is n o) (omega arith) s.limit refl)
             (λ t. subst (Goes h) (sym (halts (record { progress = B.finished p ofv squares; tally = w.tally; step = Answers.Finished ofv }) w.work warm results)) (ends ofv squares l))
 
@@ -340,11 +337,11 @@ module _ (S : Store) (setup : Setup) (counts : List ℕ) (observations : List Ob
         next_or_end = cases (λ (x : Worked Turned). Goes h (close_turn (ended x.value x.work warm results))) (ltb subject (length counts))
             (λ l. subst (Goes h) (sym (goes_on _ _ warm results)) (begins _ _ _ l)) (λ l. finishes _ _ l)
 
-      by_closed : (c : Closed) → Goes h (close_turn (closing fit counts p w.tally rows w.work w.warm w.results c))
+      by_closed : (c : Option Mode) → Goes h (close_turn (closing fit counts p w.tally rows w.work w.warm w.results c))
       unfolding closing
-      by_closed NotPositive = refuses_with w.tally 16 (At.Subject p.subject) w.work w.warm w.results w.tally.calls.0 refl (λ a t n o. barred mode_is n o) (omega arith) s.limit
+      by_closed None = refuses_with w.tally 16 (At.Subject p.subject) w.work w.warm w.results w.tally.calls.0 refl (λ a t n o. barred mode_is n o) (omega arith) s.limit
           refl
-      by_closed (Positive m) = cases (λ (x : Ended). Goes h (close_turn x)) (is_same_grid w.work rows) (λ g. next_or_end m _ _)
+      by_closed (Some m) = cases (λ (x : Ended). Goes h (close_turn x)) (is_same_grid w.work rows) (λ g. next_or_end m _ _)
           (λ g. refuses_with w.tally 17 (At.Subject p.subject) w.work _ w.results w.tally.calls.0 refl (λ a t n o. barred mode_is n o) (omega arith) s.limit refl)
 
       at_mode_lem : Goes h (close_turn (served_by S fit counts p w.tally w.kept w.work w.warm w.results Wants.Mode))

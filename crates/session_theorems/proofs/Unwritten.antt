@@ -1,9 +1,9 @@
 -- A call writes the words of the subjects whose mode it reaches, and no other. Assumes nothing.
+use Rattle.std.specs.Prelude.{Err, None, Ok, Option, Some}
 use mathlib.Core.Path.{◌≡◌, refl, sym, ap, subst, ◌∙◌}
 use mathlib.Core.Bool.{false}
 use mathlib.Core.List.{List}
 use mathlib.Core.Logic.{◌⊎◌, inl, inr, ⊎_elim}
-use mathlib.Core.Option.{Option, none, some}
 use Prim.Native.Nat.{ℕ, zero, suc, ◌+◌, ◌*◌, ◌≤◌, ◌<◌}
 use native.Mathlib.Omega.{arith}
 use native.Mathlib.Nat.{mod-eq_of_lt}
@@ -16,18 +16,12 @@ use Rattle.float64.specs.Pick.{pick, both}
 use Rattle.matrix.specs.declared.Pair.{Pair}
 use Rattle.likelihood.specs.declared.population_focei.Observation.{Observation}
 use Rattle.cache.specs.Claim.{Room}
-use Rattle.subject.specs.declared.Evaluation.{Evaluation}
-use Rattle.subject.specs.declared.Evaluation.TheVariants as E
 use Rattle.work.specs.Work.{is_same_grid, result_written, fitted_written}
 use Rattle.setup.specs.declared.Setup.{Setup}
 use Rattle.setup.specs.declared.Lent.{Lent}
 use Rattle.setup.specs.declared.Parameters.{Parameters}
-use Rattle.setup.specs.declared.Admission.{Admission}
-use Rattle.setup.specs.declared.Admission.TheVariants as A
 use Rattle.setup.proofs.Bounds.{shape_low}
 use Rattle.search.specs.Subjects as B
-use Rattle.search.specs.declared.Closed.{Closed}
-use Rattle.search.specs.declared.Closed.TheVariants.{Positive, NotPositive}
 use Rattle.search.specs.declared.Fit.{Fit}
 use Rattle.search.specs.declared.Halted.{Halted}
 use Rattle.search.specs.declared.Mode.{Mode}
@@ -42,9 +36,7 @@ use Rattle.search.specs.declared.Wanted.TheVariants as Wants
 use Rattle.search.proofs.Fits.{fit_effects}
 use Rattle.machine.specs.Machine.{Moved, on, halt, Ran, onward, loop, call, run}
 use Rattle.population.specs.Kept.{Recalled, words}
-use Rattle.population.specs.Population.{rows_of, warm_stored, raised, Worked, answered, at_point, next_subject, Ended, closing, at_mode, served_by, served, turned, Whole, whole_of, moved, turn, spent, take}
-use Rattle.population.specs.declared.Turned.{Turned}
-use Rattle.population.specs.declared.Turned.TheVariants.{On, Halt}
+use Rattle.population.specs.Population.{rows_of, warm_stored, raised, Worked, answered, at_point, next_subject, Ended, closing, at_mode, served_by, served, turned, Whole, whole_of, moved, turn, spent, take, Turned}
 use Rattle.session.specs.Session as N
 use Rattle.session.specs.Session.{Held, held, Call, objective, reply, failure}
 use Rattle.session_theorems.specs.Inner.{Inner, inner1, inner2}
@@ -59,6 +51,11 @@ use Rattle.session_theorems.proofs.Results.{past_two, result_kept, result_past}
 use Rattle.session_theorems.proofs.Searches.{Suits, suits1, suits2}
 use Rattle.session_theorems.proofs.Session.{some_room}
 use Rattle.session_theorems.proofs.Standing.{advanced_alike}
+use Rattle.core.specs.declared.ops.ControlFlow.TheVariants.{Break, Continue}
+use Rattle.subject.specs.declared.EvaluationError.TheVariants as E
+use Rattle.setup.specs.declared.AdmissionError.TheVariants as A
+use Rattle.subject.specs.Subject.{Evaluation}
+use Rattle.setup.specs.Admission.{Admission}
 
 -- ---- the warm start of subject j is stored, and those of the later ones stay
 warm_past : (effects j : ℕ) (eta : Pair) (warm : List ℕ) (x : ℕ) → (effects ≡ 1) ⊎ (effects ≡ 2) → effects * suc j ≤ x → get_or (warm_stored effects j eta warm) x 0 ≡ get_or warm x 0
@@ -157,30 +154,30 @@ module _ (setup : Setup) (counts : List ℕ) where
       to q tally work warm results = held words h.parameters (whole_of words q tally w.kept work warm results)
 
       Ends : Turned → List ℕ → List ℕ → Type 0
-      Ends (On q) warm results = (work : List ℕ) → Rest (to q w.tally work warm results)
-      Ends (Halt x) warm results = (work : List ℕ) → Unwritten setup counts ref x.step (to x.progress x.tally work warm results)
+      Ends (Continue q) warm results = (work : List ℕ) → Rest (to q w.tally work warm results)
+      Ends (Break x) warm results = (work : List ℕ) → Unwritten setup counts ref x.step (to x.progress x.tally work warm results)
 
       closes : (t : Turned) (work warm results : List ℕ) → Ends t warm results → Follows (N.held_by words h.parameters (moved words w.tally w.kept work warm results t))
       unfolding Follows N.held_by moved Ends
-      closes (On q) work warm results e = e work
-      closes (Halt x) work warm results e = e work
+      closes (Continue q) work warm results e = e work
+      closes (Break x) work warm results e = e work
 
-      refuses : (tally : Tally) (number : ℕ) → Ends (Halt (B.refused_by p tally number (At.Subject j))) w.warm w.results
+      refuses : (tally : Tally) (number : ℕ) → Ends (Break (B.refused_by p tally number (At.Subject j))) w.warm w.results
       unfolding Ends B.refused_by Answers_at
       refuses tally number work = follows h _ (Answers.Refused number (At.Subject j)) (record { warm = refl; results = refl }) f refl
 
-      asks : (tally : Tally) (eta : Pair) (v : Answer Pair) → Ends (Halt (B.ask_for p tally eta v)) w.warm w.results
+      asks : (tally : Tally) (eta : Pair) (v : Answer Pair) → Ends (Break (B.ask_for p tally eta v)) w.warm w.results
       unfolding Ends B.ask_for Answers_at B.awaiting B.with_search
       asks tally eta (given v) work = follows h _ (Answers.Asked eta v) (record { warm = refl; results = refl }) f refl
       asks tally eta (refused n) work = refuses tally n work
 
       by_recall : (eta : Pair) (o : Option Recalled) → Ends (answered fit rows p w.tally eta w.work o).value w.warm w.results
       unfolding answered take Ends B.ask
-      by_recall eta (some r) =
+      by_recall eta (Some r) =
           let s = advanced_alike fit p eta (B.sums_of r.terms) in
           λ work. subst (λ (i : ℕ). Stays setup counts i i ref (to (B.advance_by fit p eta (B.sums_of r.terms)).progress w.tally work w.warm w.results)) (sym s.subject)
           (stays j j ref h _ (record { warm = refl; results = refl }) f)
-      by_recall eta none = both (λ (x : Halted). Ends (Halt x) w.warm w.results) _ (asks _ eta _) (refuses w.tally 6)
+      by_recall eta None = both (λ (x : Halted). Ends (Break x) w.warm w.results) _ (asks _ eta _) (refuses w.tally 6)
 
       -- ---- a mode
       module _ (m : Mode) where
@@ -220,9 +217,9 @@ module _ (setup : Setup) (counts : List ℕ) where
         refused_stays : (q : Progress) (work : List ℕ) → Stays setup counts j (suc j) ref (to q w.tally work stored w.results)
         refused_stays q work = record { results = f.results; predictions = f.predictions; warm = warm_stays }
 
-        ends : (ofv squares : Float) → Ends (Halt (B.objective_of p w.tally ofv squares)) stored written
+        ends : (ofv squares : Float) → Ends (Break (B.objective_of p w.tally ofv squares)) stored written
         unfolding Ends B.objective_of B.refused_by
-        ends ofv squares = both (λ (x : Halted). Ends (Halt x) stored written) _ (λ work. last work) (λ work. last work)
+        ends ofv squares = both (λ (x : Halted). Ends (Break x) stored written) _ (λ work. last work) (λ work. last work)
           where
             last : {q : Progress} (work : List ℕ) → StaysBeyond setup counts ref (to q w.tally work stored written)
             last {q} work = beyond (suc j) ref _ g.place.subject (next_stays q work)
@@ -230,7 +227,7 @@ module _ (setup : Setup) (counts : List ℕ) where
         next_subject_lem : raised j 1 ≡ suc j
         next_subject_lem = let q = g.place.subject in mod-eq_of_lt (omega (arith, q, a.most)) ∙ omega arith
 
-        next_begins : (effects i first : ℕ) (warm : Pair) (ofv squares : Float) → i ≡ suc j → Ends (On (B.begin_subject effects i first warm ofv squares)) stored written
+        next_begins : (effects i first : ℕ) (warm : Pair) (ofv squares : Float) → i ≡ suc j → Ends (Continue (B.begin_subject effects i first warm ofv squares)) stored written
         unfolding Ends B.begin_subject
         next_begins effects i first warm ofv squares e work =
             let q = B.begin_subject effects i first warm ofv squares in subst (λ (n : ℕ). Stays setup counts n n ref (to q w.tally work stored written)) (sym e) (next_stays q work)
@@ -239,14 +236,14 @@ module _ (setup : Setup) (counts : List ℕ) where
         unfolding next_subject
         next = both (λ (x : Worked Turned). Ends x.value stored written) _ (next_begins _ _ _ _ _ _ next_subject_lem) (ends _ _)
 
-        at_17 : Ends (Halt (B.refused_by p w.tally 17 (At.Subject j))) stored w.results
+        at_17 : Ends (Break (B.refused_by p w.tally 17 (At.Subject j))) stored w.results
         unfolding Ends B.refused_by pick
         at_17 work = refused_stays _ work
 
-      by_closed : (c : Closed) → let e = closing fit counts p w.tally rows w.work w.warm w.results c in Ends e.turned e.warm e.results
+      by_closed : (c : Option Mode) → let e = closing fit counts p w.tally rows w.work w.warm w.results c in Ends e.turned e.warm e.results
       unfolding closing
-      by_closed NotPositive = refuses w.tally 16
-      by_closed (Positive m) = both (λ (e : Ended). Ends e.turned e.warm e.results) (is_same_grid w.work rows) (next m) (at_17 m)
+      by_closed None = refuses w.tally 16
+      by_closed (Some m) = both (λ (e : Ended). Ends e.turned e.warm e.results) (is_same_grid w.work rows) (next m) (at_17 m)
 
       by_wanted : (v : Wanted) → let e = served_by words fit counts p w.tally w.kept w.work w.warm w.results v in Ends e.turned e.warm e.results
       unfolding served_by at_mode at_point
@@ -302,9 +299,9 @@ module _ (setup : Setup) (counts : List ℕ) where
 
     when_admitted_lem : (go : Moved (Held words) Step) (v : Admission) → Enters go → Enters (N.when_admitted words h go v)
     unfolding N.when_admitted
-    when_admitted_lem go A.Accepted f = f
-    when_admitted_lem go (A.Refused n) f = unaltered n _
-    when_admitted_lem go (A.Unsound place) f = unaltered 4 _
+    when_admitted_lem go (Ok tt) f = f
+    when_admitted_lem go (Err (A.Refused n)) f = unaltered n _
+    when_admitted_lem go (Err (A.Unsound place)) f = unaltered 4 _
 
     begun : (parameters : Parameters) → Enters (on (N.begun words setup counts parameters h.whole))
     unfolding Enters N.begun
@@ -312,9 +309,9 @@ module _ (setup : Setup) (counts : List ℕ) where
 
     replied : (fit : Fit) (eta : Pair) (work : List ℕ) (e : Evaluation) → Enters (N.replied words counts fit eta h work e)
     unfolding Enters N.replied
-    replied f eta work (E.Running sums) = record { warm = refl; results = refl }
-    replied f eta work (E.Refused n) = over n _
-    replied f eta work (E.RefusedAt n i) = over n _
+    replied f eta work (Ok sums) = record { warm = refl; results = refl }
+    replied f eta work (Err (E.Refused n)) = over n _
+    replied f eta work (Err (E.RefusedAt n i)) = over n _
 
     at_wanted_lem : (n : ℕ) (go : Pair → Moved (Held words) Step) → ((eta : Pair) → Enters (go eta)) → (v : Wanted)
         → Enters (N.at_wanted words setup counts n (N.all_checked setup counts observations) h go v)
@@ -343,7 +340,7 @@ module _ (setup : Setup) (counts : List ℕ) where
 pub every_unwritten : EveryUnwritten
 every_unwritten setup counts observations lent results b acts c =
     let a = accepts setup counts lent (N.all_checked setup counts observations) b.passes in
-    let room : Room setup.k = record { some = some_room setup a.shape_in; most = shape_low {b = false} setup (sym a.shape_in) refl } in
+    let room : Room setup.k = record { Some = some_room setup a.shape_in; most = shape_low {b = false} setup (sym a.shape_in) refl } in
     let from : (I : Inner) → Suits I setup.effects → Going setup counts observations lent a (run (N.session words setup counts observations) (N.opened words setup counts lent results) acts) =
     λ I Q. (both_hold setup counts observations I Q b.bound b.limit lent results b.many b.long b.passes a room acts).1 in
     called setup counts observations lent a c _ (⊎_elim

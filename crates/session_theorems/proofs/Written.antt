@@ -1,10 +1,10 @@
 -- What the lent words show of the log in every session, `every_word` (specs/Shown.antt): a turn writes a mode where the host reads it, the rows of its trials with it, and an objective begins with its
 -- own parameters and warm starts. Assumes nothing.
+use Rattle.std.specs.Prelude.{Err, None, Ok, Option, Some}
 use mathlib.Core.Path.{◌≡◌, refl, sym, ap, subst, ◌∙◌}
 use mathlib.Core.Bool.{true, false}
 use mathlib.Core.List.{List, [], ◌∷◌, ◌++◌}
 use mathlib.Core.Logic.{◌⊎◌, inl, inr}
-use mathlib.Core.Option.{Option, none, some}
 use Prim.Native.Nat.{ℕ, suc, ◌+◌, ◌-◌, ◌*◌, ◌≤◌, ◌<◌}
 use native.Mathlib.Nat.{mod-eq_of_lt, mul-le-mul_left, le_trans}
 use native.Mathlib.Omega.{arith}
@@ -19,9 +19,7 @@ use Rattle.float64.specs.Pick.{pick, both, cases}
 use Rattle.matrix.specs.declared.Pair.{Pair}
 use Rattle.likelihood.specs.declared.population_focei.Observation.{Observation}
 use Rattle.subject.specs.Claim.{Evaluates}
-use Rattle.subject.specs.Subject.{Evaluating, finish}
-use Rattle.subject.specs.declared.Evaluation.{Evaluation}
-use Rattle.subject.specs.declared.Evaluation.TheVariants as E
+use Rattle.subject.specs.Subject.{Evaluating, finish, Evaluation}
 use Rattle.subject.specs.declared.Sums.{Sums}
 use Rattle.subject.specs.declared.Trial as Eval
 use Rattle.subject.proofs.Ends.{evaluates}
@@ -34,13 +32,9 @@ use Rattle.work.specs.declared.Sources.{Sources}
 use Rattle.setup.specs.declared.Setup.{Setup}
 use Rattle.setup.specs.declared.Parameters.{Parameters}
 use Rattle.setup.specs.declared.Lent.{Lent}
-use Rattle.setup.specs.declared.Admission.{Admission}
-use Rattle.setup.specs.declared.Admission.TheVariants as A
 use Rattle.setup.proofs.Bounds.{shape_low}
 use Rattle.search.specs.Subjects as B
 use Rattle.search.specs.declared.Advanced.{Advanced}
-use Rattle.search.specs.declared.Closed.{Closed}
-use Rattle.search.specs.declared.Closed.TheVariants.{Positive, NotPositive}
 use Rattle.search.specs.declared.Fit.{Fit}
 use Rattle.search.specs.declared.Halted.{Halted}
 use Rattle.search.specs.declared.Mode.{Mode}
@@ -58,10 +52,8 @@ use Rattle.machine.specs.Machine.{Moved, on, Machine, Act}
 use Rattle.machine.specs.Observed.{View, wanted_at}
 use Rattle.machine.specs.Rules.{Trial, point, mode}
 use Rattle.population.specs.Kept.{Recalled, words}
-use Rattle.population.specs.Population.{rows_of, warm_of, warm_stored, take as takes, answered, Worked, next_subject, raised, Ended, ended, closing, at_mode, at_point, served_by, served, is_over, turned}
+use Rattle.population.specs.Population.{rows_of, warm_of, warm_stored, take as takes, answered, Worked, next_subject, raised, Ended, ended, closing, at_mode, at_point, served_by, served, is_over, turned, Turned}
 use Rattle.population.specs.Population.{Whole, whole_of, moved, turn, receive}
-use Rattle.population.specs.declared.Turned.{Turned}
-use Rattle.population.specs.declared.Turned.TheVariants.{On, Halt}
 use Rattle.session.specs.Session as N
 use Rattle.session.specs.Session.{Held, held, Call, objective, reply, failure, session}
 use Rattle.session_theorems.specs.Inner.{Inner, inner1, inner2, recalled_sums, recalled_work, recalled, running_sums, point_wanted, view}
@@ -83,6 +75,10 @@ use Rattle.session_theorems.proofs.Stores.{Trusted, words_trusted}
 use Rattle.session_theorems.proofs.Trials.{Has, NthHas, SameBlocks}
 use Rattle.session_theorems.proofs.Turns.{turns}
 use Rattle.session_theorems.proofs.Words.{Keeps, Of, Opens, Carried, Closes, shown}
+use Rattle.core.specs.declared.ops.ControlFlow.TheVariants.{Break, Continue}
+use Rattle.subject.specs.declared.EvaluationError.TheVariants as E
+use Rattle.setup.specs.declared.AdmissionError.TheVariants as A
+use Rattle.setup.specs.Admission.{Admission}
 
 -- the sums so far
 abbrev value_of : Progress → Summed
@@ -233,8 +229,8 @@ module _ (setup : Setup) (counts : List ℕ) (observations : List Observation) (
 
     keeps_turn : (t : Turned) (work warm results : List ℕ) → Writes warm results → After (Kept h) (N.held_by words h.parameters (moved words w.tally w.kept work warm results t))
     unfolding After N.held_by moved
-    keeps_turn (On q) work warm results v = keeps q w.tally w.kept work warm results v
-    keeps_turn (Halt x) work warm results v = keeps x.progress x.tally w.kept work warm results v
+    keeps_turn (Continue q) work warm results v = keeps q w.tally w.kept work warm results v
+    keeps_turn (Break x) work warm results v = keeps x.progress x.tally w.kept work warm results v
 
     -- ---- the mode's words
     module _ (m : Mode) (o : OfMode I L m (I.rules.best (I.search_of p))) where
@@ -363,7 +359,7 @@ module _ (setup : Setup) (counts : List ℕ) (observations : List Observation) (
         apart q tally work e = record { warm = at_own (λ (n : ℕ). L.Warm n best stored) warm_in; both = trials; other = rows_other e }
 
         -- its part of the sums
-        adds_up : B.closed_by fit p rows ≡ Positive m → with_mode p m ≡ shows.with_mode x best (value_of p)
+        adds_up : B.closed_by fit p rows ≡ Some m → with_mode p m ≡ shows.with_mode x best (value_of p)
         adds_up q =
             let st = i.settings in
             let squares = ap (λ (v : Float). p.eta_squares +ᶠ v) o.square in
@@ -372,7 +368,7 @@ module _ (setup : Setup) (counts : List ℕ) (observations : List Observation) (
             λ d. record { objective = sum d; squares = squares d }
 
         -- and what is given of them at the end, where the objective stands at q
-        gives_sums : B.closed_by fit p rows ≡ Positive m → (q : Progress) → q.eta_squares ≡ (with_mode p m).squares
+        gives_sums : B.closed_by fit p rows ≡ Some m → (q : Progress) → q.eta_squares ≡ (with_mode p m).squares
             → ((with_mode p m).objective ≡ (shows.with_mode x best (value_of p)).objective)
             × L.Shrinks (record { parameters = h.parameters; progress = q; order = w.kept.order }) (length counts) (shows.with_mode x best (value_of p)).squares
         gives_sums c q e =
@@ -381,10 +377,10 @@ module _ (setup : Setup) (counts : List ℕ) (observations : List Observation) (
             (ap (λ (v : Summed). v.objective) v, subst (λ (n : Float). L.Shrinks state (length counts) n) (e ∙ ap (λ (v : Summed). v.squares) v) (X.shrinks state (length counts)))
 
     -- ---- what a request writes
-    by_closed : (c : Closed) → B.closed_by fit p rows ≡ c → let e = closing fit counts p w.tally rows w.work w.warm w.results c in Writes e.warm e.results
+    by_closed : (c : Option Mode) → B.closed_by fit p rows ≡ c → let e = closing fit counts p w.tally rows w.work w.warm w.results c in Writes e.warm e.results
     unfolding closing
-    by_closed NotPositive q = nothing
-    by_closed (Positive m) q =
+    by_closed None q = nothing
+    by_closed (Some m) q =
         let o = X.modes fit p rows m effects_are q in
         both (λ (e : Ended). Writes e.warm e.results) (is_same_grid w.work rows) (writes_all m o) (writes_warm m o)
 
@@ -403,7 +399,7 @@ module _ (setup : Setup) (counts : List ℕ) (observations : List Observation) (
         → (let q = B.refused_by p w.tally n place in (k : ℕ) → k ≡ n → (x : Searched I.rules) → At_search x h
         → shows.Remains k x (I.rules.best (I.search_of p)) (shows.with_mode x (I.rules.best (I.search_of p)) (value_of p)) (held words h.parameters
         (whole_of words q.progress q.tally w.kept (pick (B.is_over q.step) (zeros (length work)) work) warm results)))
-        → Ends h (close_turn (ended (Halt (B.refused_by p w.tally n place)) work warm results))
+        → Ends h (close_turn (ended (Break (B.refused_by p w.tally n place)) work warm results))
     unfolding Closes N.held_by moved is_over B.refused_by
     refuses n place work warm results f = (λ e. absurd (let z : ◌≡◌ {A = ℕ} 0 1 = cc in omega arith), λ k e x i. f k (let q : k ≡ n = cc in q) x i)
 
@@ -413,7 +409,7 @@ module _ (setup : Setup) (counts : List ℕ) (observations : List Observation) (
     nothing_carried st effects subject first warm ofv squares rows =
         subst (λ (x : I.rules.Search). X.Carried st [] x rows) (sym (Q.starts effects subject first warm ofv squares)) (X.begun st rows)
 
-    module _ (m : Mode) (o : OfMode I L m (I.rules.best (I.search_of p))) (wants : B.wanted_by fit p ≡ Wants.Mode) (positive : B.closed_by fit p rows ≡ Positive m) where
+    module _ (m : Mode) (o : OfMode I L m (I.rules.best (I.search_of p))) (wants : B.wanted_by fit p ≡ Wants.Mode) (positive : B.closed_by fit p rows ≡ Some m) where
       abbrev next : ℕ
       next = raised j 1
 
@@ -428,7 +424,7 @@ module _ (setup : Setup) (counts : List ℕ) (observations : List Observation) (
 
       module _ (same : is_same_grid w.work rows ≡ true) where
         begins : (first : ℕ) (work : List ℕ) → Ends h
-            (close_turn (ended (On (B.begin_subject fit.effects next first (warm_of (stored m o) fit.effects next) sum squares)) work (stored m o) (written m o)))
+            (close_turn (ended (Continue (B.begin_subject fit.effects next first (warm_of (stored m o) fit.effects next) sum squares)) work (stored m o) (written m o)))
         unfolding Closes N.held_by moved is_over pick B.begin_subject
         begins first work = (
           λ x i. (in_words m o wants x i _ _ _ same, adds_up m o wants x i positive),
@@ -438,9 +434,9 @@ module _ (setup : Setup) (counts : List ℕ) (observations : List Observation) (
           nothing_carried _ fit.effects next first (warm_of (stored m o) fit.effects next) sum squares _,
         )
 
-        finishes : Ends h (close_turn (ended (Halt (B.objective_of p w.tally sum squares)) w.work (stored m o) (written m o)))
+        finishes : Ends h (close_turn (ended (Break (B.objective_of p w.tally sum squares)) w.work (stored m o) (written m o)))
         unfolding B.objective_of B.finished
-        finishes = cases (λ (x : Halted). Ends h (close_turn (ended (Halt x) w.work (stored m o) (written m o)))) (nonfinite sum)
+        finishes = cases (λ (x : Halted). Ends h (close_turn (ended (Break x) w.work (stored m o) (written m o)))) (nonfinite sum)
             (λ t. refuses 18 At.Nowhere w.work (stored m o) (written m o)
             (λ k e x i. inr (inr (e, in_words m o wants x i _ _ _ same, subst (λ (v : Summed). T (nonfinite v.objective)) (adds_up m o wants x i positive) (subst T (sym t) tt)))))
             (λ t. unfold Closes N.held_by moved is_over in (λ e x i. (in_words m o wants x i _ _ _ same, gives_sums m o wants x i positive (B.finished p sum squares) refl), λ k e. absurd (let z : ◌≡◌ {A = ℕ} 0 1 = cc in omega arith)))
@@ -451,11 +447,11 @@ module _ (setup : Setup) (counts : List ℕ) (observations : List Observation) (
         next_or_end = both (λ (x : Worked Turned). Ends h (close_turn (ended x.value x.work (stored m o) (written m o)))) (ltb next (length counts))
             (begins _ (zeros (length w.work))) finishes
 
-    mode_ends : B.wanted_by fit p ≡ Wants.Mode → (c : Closed) → B.closed_by fit p rows ≡ c → Ends h (close_turn (closing fit counts p w.tally rows w.work w.warm w.results c))
+    mode_ends : B.wanted_by fit p ≡ Wants.Mode → (c : Option Mode) → B.closed_by fit p rows ≡ c → Ends h (close_turn (closing fit counts p w.tally rows w.work w.warm w.results c))
     unfolding closing
-    mode_ends wants NotPositive q = refuses 16 (At.Subject p.subject) w.work w.warm w.results
+    mode_ends wants None q = refuses 16 (At.Subject p.subject) w.work w.warm w.results
         (λ k e x i. inl (e, subst (λ (st : I.rules.Settings). L.Flat st (I.rules.best (I.search_of p))) (sym i.settings) (X.flat fit p rows effects_are q)))
-    mode_ends wants (Positive m) q =
+    mode_ends wants (Some m) q =
         let o = X.modes fit p rows m effects_are q in
         cases (λ (x : Ended). Ends h (close_turn x)) (is_same_grid w.work rows) (next_or_end m o wants q)
         (λ e. refuses 17 (At.Subject p.subject) w.work (stored m o) w.results (λ k r x i. inr (inl (r, apart m o wants x i _ _ _ e))))
@@ -508,12 +504,12 @@ module _ (setup : Setup) (counts : List ℕ) (observations : List Observation) (
           (sym (Q.settings fit p then e.warm))
           (subst (λ (i : ℕ). X.Carried (I.settings_of fit p) (ts ++ (t ∷ [])) (I.search_of then) (rows_in (rows_of counts i) (move_rows rows moves work))) (sym e.subject) d)
 
-      goes_on_carries : Got h t (close_turn (ended (On then) (move_rows rows moves work) w.warm w.results))
+      goes_on_carries : Got h t (close_turn (ended (Continue then) (move_rows rows moves work) w.warm w.results))
       unfolding Carried N.held_by moved is_over pick
       goes_on_carries = (same_value fit p eta sums, λ ts c. carried ts c)
 
     -- a question leaves all as it is
-    asked_carries : (eta : Pair) (v : Answer Pair) → Got h (Y.kept h (I.point_of eta)) (close_turn (ended (Halt (B.ask_for p (B.counted w.tally) eta v)) w.work w.warm w.results))
+    asked_carries : (eta : Pair) (v : Answer Pair) → Got h (Y.kept h (I.point_of eta)) (close_turn (ended (Break (B.ask_for p (B.counted w.tally) eta v)) w.work w.warm w.results))
     unfolding Carried N.held_by moved is_over pick B.ask_for B.refused_by B.is_over B.idle B.with_search B.awaiting
     asked_carries eta (given v) t = (
       refl,
@@ -523,7 +519,7 @@ module _ (setup : Setup) (counts : List ℕ) (observations : List Observation) (
     )
     asked_carries eta (refused n) t = absurd (subst T (sym t) tt)
 
-    short_carries : (eta : Pair) → Got h (Y.kept h (I.point_of eta)) (close_turn (ended (Halt (B.refused_by p w.tally 6 (At.Subject p.subject))) w.work w.warm w.results))
+    short_carries : (eta : Pair) → Got h (Y.kept h (I.point_of eta)) (close_turn (ended (Break (B.refused_by p w.tally 6 (At.Subject p.subject))) w.work w.warm w.results))
     unfolding Carried N.held_by moved is_over pick B.refused_by B.is_over B.idle B.with_search
     short_carries eta t = absurd (subst T (sym t) tt)
 
@@ -533,10 +529,10 @@ module _ (setup : Setup) (counts : List ℕ) (observations : List Observation) (
     by_recall : (eta : Pair) → B.wanted_by fit p ≡ Wants.Point eta → (v : Option Recalled) → recalled_at eta ≡ v
         → Got h (Y.kept h (I.point_of eta)) (close_turn (ended (answered fit rows p w.tally eta w.work v).value (answered fit rows p w.tally eta w.work v).work w.warm w.results))
     unfolding answered takes
-    by_recall eta wants none q = unfold B.ask in both (λ (x : Halted). Got h (Y.kept h (I.point_of eta)) (close_turn (ended (Halt x) w.work w.warm w.results))) _
+    by_recall eta wants None q = unfold B.ask in both (λ (x : Halted). Got h (Y.kept h (I.point_of eta)) (close_turn (ended (Break x) w.work w.warm w.results))) _
         (asked_carries eta _) (short_carries eta)
-    by_recall eta wants (some r) q =
-        let same_point : recalled_at (I.pair_of (I.point_of eta)) ≡ some r = ap recalled_at (Q.pairs fit p eta effects_are wants) ∙ q in
+    by_recall eta wants (Some r) q =
+        let same_point : recalled_at (I.pair_of (I.point_of eta)) ≡ Some r = ap recalled_at (Q.pairs fit p eta effects_are wants) ∙ q in
         let is : (Y.kept h (I.point_of eta)).point ≡ I.conditional_of fit eta (B.sums_of r.terms) = ap (λ (x : Pair). I.conditional_of fit x (recalled_sums (recalled_at x)))
         (Q.pairs fit p eta effects_are wants) ∙ ap (λ (u : Option Recalled). I.conditional_of fit eta (recalled_sums u)) q in
         let own : (Y.kept h (I.point_of eta)).rows ≡ rows_in rows r.work 3 = ap (λ (u : Option Recalled). words_from (row_words * rows) (recalled_work u) (block rows 3)) same_point ∙ ap
@@ -569,9 +565,9 @@ module _ (setup : Setup) (counts : List ℕ) (observations : List Observation) (
 
     when_admitted_lem : (go : Moved (Held words) Step) (v : Admission) → After (Kept h) go → After (Kept h) (N.when_admitted words h go v)
     unfolding N.when_admitted
-    when_admitted_lem go A.Accepted f = f
-    when_admitted_lem go (A.Refused n) f = unaltered_kept n _
-    when_admitted_lem go (A.Unsound place) f = unaltered_kept 4 _
+    when_admitted_lem go (Ok tt) f = f
+    when_admitted_lem go (Err (A.Refused n)) f = unaltered_kept n _
+    when_admitted_lem go (Err (A.Unsound place)) f = unaltered_kept 4 _
 
     over_kept : (number : ℕ) (place : Place) → After (Kept h) (N.over words number place h)
     unfolding After N.over
@@ -579,9 +575,9 @@ module _ (setup : Setup) (counts : List ℕ) (observations : List Observation) (
 
     replied_kept : (eta : Pair) (work : List ℕ) (e : Evaluation) → After (Kept h) (N.replied words counts fit eta h work e)
     unfolding After N.replied
-    replied_kept eta work (E.Running sums) = keeps _ _ _ _ _ _ nothing
-    replied_kept eta work (E.Refused n) = over_kept n _
-    replied_kept eta work (E.RefusedAt n i) = over_kept n _
+    replied_kept eta work (Ok sums) = keeps _ _ _ _ _ _ nothing
+    replied_kept eta work (Err (E.Refused n)) = over_kept n _
+    replied_kept eta work (Err (E.RefusedAt n i)) = over_kept n _
 
     at_wanted_lem : (n : ℕ) (go : Pair → Moved (Held words) Step) → ((eta : Pair) → After (Kept h) (go eta)) → (v : Wanted) → After (Kept h)
         (N.at_wanted words setup counts n (N.all_checked setup counts observations) h go v)
@@ -608,9 +604,9 @@ module _ (setup : Setup) (counts : List ℕ) (observations : List Observation) (
 
     admitted_carries : (u : Trial I.rules) (go : Moved (Held words) Step) (v : Admission) → Got h u go → Got h u (N.when_admitted words h go v)
     unfolding N.when_admitted
-    admitted_carries u go A.Accepted f = f
-    admitted_carries u go (A.Refused n) f = unaltered_carries u n _
-    admitted_carries u go (A.Unsound place) f = unaltered_carries u 4 _
+    admitted_carries u go (Ok tt) f = f
+    admitted_carries u go (Err (A.Refused n)) f = unaltered_carries u n _
+    admitted_carries u go (Err (A.Unsound place)) f = unaltered_carries u 4 _
 
     over_carries : (u : Trial I.rules) (number : ℕ) (place : Place) → Got h u (N.over words number place h)
     unfolding Carried N.over B.idle B.with_search
@@ -652,7 +648,7 @@ module _ (setup : Setup) (counts : List ℕ) (observations : List Observation) (
 
       replied_carries : (x : Evaluation) → finish end.evaluation ≡ x → Got h (Y.given (reply said) h) (N.replied words counts fit eta h end.work x)
       unfolding Carried N.replied receive takes
-      replied_carries (E.Running sums) d =
+      replied_carries (Ok sums) d =
           let t = Y.given (reply said) h in
           let is : t.point ≡ I.conditional_of fit eta sums = ap (λ (x : Wanted). I.conditional_of fit (point_wanted x) (running_sums (finish end.evaluation))) wants ∙ ap
           (λ (x : Evaluation). I.conditional_of fit eta (running_sums x)) d in
@@ -662,8 +658,8 @@ module _ (setup : Setup) (counts : List ℕ) (observations : List Observation) (
             same_value fit p eta sums,
             λ ts c. carried eta sums wants end.work (work_length trial said setup.width setup.effects setup.output_budget lists w.work) (λ i l. ends.around i (inl l)) t is own ts c,
           )
-      replied_carries (E.Refused n) d = over_carries _ n _
-      replied_carries (E.RefusedAt n i) d = over_carries _ n _
+      replied_carries (Err (E.Refused n)) d = over_carries _ n _
+      replied_carries (Err (E.RefusedAt n i)) d = over_carries _ n _
 
     enters_carry : (c : Call) → p.awaits ≡ true → Got h (Y.given c h) (N.enter words setup counts observations c h)
     unfolding N.enter N.enter_reply N.enter_failure N.enter_objective N.answered
@@ -683,9 +679,9 @@ module _ (setup : Setup) (counts : List ℕ) (observations : List Observation) (
 
     admitted_opens : (parameters : Parameters) (v : Admission) → Begins (objective parameters) h (N.when_admitted words h (on (N.begun words setup counts parameters w)) v)
     unfolding N.when_admitted
-    admitted_opens parameters A.Accepted = begun_opens parameters
-    admitted_opens parameters (A.Refused n) = unaltered_opens _ n _
-    admitted_opens parameters (A.Unsound place) = unaltered_opens _ 4 _
+    admitted_opens parameters (Ok tt) = begun_opens parameters
+    admitted_opens parameters (Err (A.Refused n)) = unaltered_opens _ n _
+    admitted_opens parameters (Err (A.Unsound place)) = unaltered_opens _ 4 _
 
     none_awaited : (c : Call) (n : ℕ) (go : Pair → Moved (Held words) Step) → p.awaits ≡ false → Begins c h (N.when_awaited words setup counts n (N.all_checked setup counts observations) h go)
     unfolding N.when_awaited
@@ -722,7 +718,7 @@ for_words : (setup : Setup) (counts : List ℕ) (observations : List Observation
 for_words setup counts observations I L Q X lent results b o acts =
     let a = accepts setup counts lent (N.all_checked setup counts observations) b.passes in
     holds setup counts observations I Q L X b.bound b.limit lent results b.many b.long a (record {
-      some = some_room setup a.shape_in;
+      Some = some_room setup a.shape_in;
       most = shape_low {b = false} setup
           (sym a.shape_in) refl;
     }) o acts

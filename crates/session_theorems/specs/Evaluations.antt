@@ -1,6 +1,6 @@
 -- What is asked for and what is kept, in every session: a question has the individual values of the objective's own theta, and a reply's
 -- evaluation is kept under its point, without the prior.
-use Rattle.std.specs.Prelude.{◌≡◌, List, [], ℕ, ◌≤◌, eqb, get_or, take, drop}
+use Rattle.std.specs.Prelude.{◌≡◌, List, [], ℕ, ◌≤◌, eqb, get_or, take, drop, Err, Float, None, Ok, Option, Some}
 use Rattle.std.specs.Float.{binary64}
 use Rattle.std.specs.Float.Ieee.{to_bits}
 use Rattle.float64.specs.Arithmetic.{◌*ᶠ◌}
@@ -10,11 +10,7 @@ use Rattle.matrix.specs.declared.Pair.{Pair}
 use Rattle.likelihood.specs.declared.population_focei.Observation.{Observation}
 use Rattle.cache.specs.Kept.{Entry, Evaluated, cached_rows, appended, Stands}
 use Rattle.subject.specs.Claim.{reply_rows}
-use Rattle.subject.specs.Subject.{finish}
-use Rattle.subject.specs.declared.AdditiveSd.{AdditiveSd}
-use Rattle.subject.specs.declared.AdditiveSd.TheVariants.{Own, Override}
-use Rattle.subject.specs.declared.Evaluation.{Evaluation}
-use Rattle.subject.specs.declared.Evaluation.TheVariants as E
+use Rattle.subject.specs.Subject.{finish, Evaluation}
 use Rattle.subject.specs.declared.Sums.{Sums}
 use Rattle.setup.specs.declared.Setup.{Setup}
 use Rattle.setup.specs.declared.Lent.{Lent}
@@ -25,15 +21,16 @@ use Rattle.population.specs.Kept.{words}
 use Rattle.session.specs.Session.{Held, Call, objective, reply, failure, evaluated, session, opened}
 use Rattle.session_theorems.specs.LetIn.{wanted_point}
 use Rattle.session_theorems.specs.Setup.{Granted}
+use Rattle.subject.specs.declared.EvaluationError.TheVariants as E
 
 -- the words of an optional override: whether there is one, and which
-abbrev pub has_override : AdditiveSd → ℕ
-has_override Own = 0
-has_override (Override additive) = 1
+abbrev pub has_override : Option Float → ℕ
+has_override None = 0
+has_override (Some additive) = 1
 
-abbrev pub override : AdditiveSd → ℕ
-override Own = 0
-override (Override additive) = to_bits binary64 additive
+abbrev pub override : Option Float → ℕ
+override None = 0
+override (Some additive) = to_bits binary64 additive
 
 module _ (setup : Setup) (counts : List ℕ) (observations : List Observation) where
   abbrev pub M : Machine
@@ -87,9 +84,9 @@ module _ (setup : Setup) (counts : List ℕ) (observations : List Observation) w
 
   -- one that comes to its end is kept; one that is refused is not
   abbrev pub with_reply : List ℕ → Held words → List Entry → Evaluation → List Entry
-  with_reply said h l (E.Running sums) = appended setup.k l (kept_of said h sums)
-  with_reply said h l (E.Refused number) = l
-  with_reply said h l (E.RefusedAt number n) = l
+  with_reply said h l (Ok sums) = appended setup.k l (kept_of said h sums)
+  with_reply said h l (Err (E.Refused number)) = l
+  with_reply said h l (Err (E.RefusedAt number n)) = l
 
   -- the list after a call
   abbrev pub kept_by : Call → Held words → List Entry → List Entry

@@ -1,6 +1,5 @@
 -- How a session's state is read as a search of the rules, with one effect and with two.
-use Rattle.std.specs.Prelude.{◌≡◌, ◌⊎◌, List, [], ℕ, ◌*◌, length, take, drop, Float}
-use Rattle.std.proofs.Math.Option.{Option, none, some}
+use Rattle.std.specs.Prelude.{◌≡◌, ◌⊎◌, List, [], ℕ, ◌*◌, length, take, drop, Float, Err, Ok, Option, None, Some}
 use Rattle.float64.specs.Arithmetic.{◌+ᶠ◌, ◌/ᶠ◌, word}
 use Rattle.matrix.specs.declared.Pair.{Pair}
 use Rattle.mode.specs.Rules.{start, request, advance}
@@ -23,10 +22,8 @@ use Rattle.mode_theorems.specs.Claim2.{Found2, Unresolved, NoInverse}
 use Rattle.mode_theorems.specs.Claim2 as C2
 use Rattle.likelihood.specs.declared.population_focei.Observation.{Observation}
 use Rattle.subject.specs.Claim.{reply_rows}
-use Rattle.subject.specs.Subject.{no_sums, finish}
+use Rattle.subject.specs.Subject.{no_sums, finish, Evaluation}
 use Rattle.subject.specs.declared.Sums.{Sums}
-use Rattle.subject.specs.declared.Evaluation.{Evaluation}
-use Rattle.subject.specs.declared.Evaluation.TheVariants as E
 use Rattle.cache.specs.Cache.{row_words}
 use Rattle.cache.specs.Kept.{words_from}
 use Rattle.work.specs.Work.{block}
@@ -44,6 +41,7 @@ use Rattle.machine.specs.Observed.{Meaning, asked, finished, refused, View}
 use Rattle.population.specs.Kept.{Recalled, Store}
 use Rattle.population.specs.Population.{rows_of}
 use Rattle.session.specs.Session.{Held, Call, objective, reply, failure, evaluated, session}
+use Rattle.subject.specs.declared.EvaluationError.TheVariants as E
 
 -- ---- one effect
 
@@ -161,19 +159,19 @@ inner2 = record {
 
 -- the terms of a kept evaluation, where there is one
 abbrev pub recalled_sums : Option Recalled → Sums
-recalled_sums (some r) = sums_of r.terms
-recalled_sums none = no_sums
+recalled_sums (Some r) = sums_of r.terms
+recalled_sums None = no_sums
 
 -- the work words with its rows
 abbrev pub recalled_work : Option Recalled → List ℕ
-recalled_work (some r) = r.work
-recalled_work none = []
+recalled_work (Some r) = r.work
+recalled_work None = []
 
 -- the sums of an evaluation that came to its end
 abbrev pub running_sums : Evaluation → Sums
-running_sums (E.Running sums) = sums
-running_sums (E.Refused number) = no_sums
-running_sums (E.RefusedAt number n) = no_sums
+running_sums (Ok sums) = sums
+running_sums (Err (E.Refused number)) = no_sums
+running_sums (Err (E.RefusedAt number n)) = no_sums
 
 abbrev pub point_wanted : Wanted → Pair
 point_wanted (Wants.Point eta) = eta

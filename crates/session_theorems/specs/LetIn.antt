@@ -1,14 +1,12 @@
 -- What a session accepts, wherever it stands: a reply or a failure that is awaited, and a new objective while none is. None of these
 -- calls gets 19, and 1 to 5 refuse nothing but a new objective, for its own parameters.
-use Rattle.std.specs.Prelude.{◌≡◌, true, false, List, ℕ, length}
+use Rattle.std.specs.Prelude.{◌≡◌, true, false, List, ℕ, length, Ok}
 use Rattle.matrix.specs.declared.Pair.{Pair}
 use Rattle.likelihood.specs.declared.population_focei.Observation.{Observation}
-use Rattle.setup.specs.Admission.{is_no_omega, is_no_shape, with_parameters}
+use Rattle.setup.specs.Admission.{is_no_omega, is_no_shape, with_parameters, Admission}
 use Rattle.setup.specs.declared.Setup.{Setup}
 use Rattle.setup.specs.declared.Parameters.{Parameters}
 use Rattle.setup.specs.declared.Lent.{Lent}
-use Rattle.setup.specs.declared.Admission.{Admission}
-use Rattle.setup.specs.declared.Admission.TheVariants.{Accepted}
 use Rattle.search.specs.Subjects.{fit_of, wanted_by}
 use Rattle.search.specs.declared.Place.{Place}
 use Rattle.search.specs.declared.Place.TheVariants.{Subject}
@@ -39,9 +37,9 @@ module _ (setup : Setup) (counts : List ℕ) (observations : List Observation) w
     -- 19's positions and kept rows
     pub placed : standing words setup counts (length observations) h.whole ≡ true
     -- 1 to 5 of the objective's own parameters; of others only 2 and 3 can refuse
-    pub accepted : admission h.parameters h ≡ Accepted
+    pub accepted : admission h.parameters h ≡ (Ok tt)
     pub others : (parameters : Parameters) → is_no_omega (with_parameters setup parameters) ≡ false
-        → is_no_shape (with_parameters setup parameters) ≡ false → admission parameters h ≡ Accepted
+        → is_no_shape (with_parameters setup parameters) ≡ false → admission parameters h ≡ (Ok tt)
     -- a reply is awaited: it is evaluated at the point that was asked for, and its failure ends the objective with 8
     pub replies : h.whole.progress.awaits ≡ true → (said : List ℕ)
         → enter_reply words setup counts observations said h ≡ answered words setup counts observations said (wanted_point h) h

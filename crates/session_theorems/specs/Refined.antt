@@ -1,6 +1,6 @@
 -- The lent words of the kept evaluations are no part of what a session does: its answers, where it stands, its tally, work words, warm
 -- starts and results are those of the same machine over the list that the words stand for.
-use Rattle.std.specs.Prelude.{◌≡◌, ◌⊎◌, List, [], ◌∷◌, ℕ, ◌<◌, T}
+use Rattle.std.specs.Prelude.{◌≡◌, ◌⊎◌, List, [], ◌∷◌, ℕ, ◌<◌, T, Ok}
 use Rattle.std.specs.Float.{binary64}
 use Rattle.std.specs.Float.Ieee.{fits}
 use Rattle.likelihood.specs.declared.population_focei.Observation.{Observation}
@@ -9,7 +9,6 @@ use Rattle.cache.specs.Kept.{Entry, Stands}
 use Rattle.setup.specs.declared.Setup.{Setup}
 use Rattle.setup.specs.declared.Parameters.{Parameters}
 use Rattle.setup.specs.declared.Lent.{Lent}
-use Rattle.setup.specs.declared.Admission.TheVariants.{Accepted}
 use Rattle.search.specs.declared.Progress.{Progress}
 use Rattle.search.specs.declared.Tally.{Tally}
 use Rattle.machine.specs.Machine.{call, Act, calls, sets, run}
@@ -53,5 +52,5 @@ module _ (setup : Setup) (counts : List ℕ) (observations : List Observation) (
 abbrev pub OverTheList : Type 0
 OverTheList = (setup : Setup) (counts : List ℕ) (observations : List Observation) → (setup.effects ≡ 1) ⊎ (setup.effects ≡ 2)
     → T (fits binary64 setup.eta_bound) → setup.max_evaluations < 4294967296
-    → (lent : Lent) (results : List ℕ) → opens words setup counts observations lent ≡ Accepted
+    → (lent : Lent) (results : List ℕ) → opens words setup counts observations lent ≡ (Ok tt)
     → (deeds : List Deed) → SameAnswers setup counts observations lent results deeds

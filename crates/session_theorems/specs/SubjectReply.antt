@@ -1,12 +1,11 @@
 -- A reply that lends the observations of the awaited subject alone is the reply that lends all of them, where the latter is accepted:
 -- where the state's positions are right, and 1 to 5 pass of all that there is. It is so for any words and any state.
-use Rattle.std.specs.Prelude.{◌≡◌, true, List, ℕ, length, take, drop}
+use Rattle.std.specs.Prelude.{◌≡◌, true, List, ℕ, length, take, drop, Ok}
 use Rattle.float64.specs.Answer.{given}
 use Rattle.likelihood.specs.declared.population_focei.Observation.{Observation}
 use Rattle.setup.specs.Admission.{checks, with_parameters}
 use Rattle.setup.specs.declared.Lent.{Lent}
 use Rattle.setup.specs.declared.Setup.{Setup}
-use Rattle.setup.specs.declared.Admission.TheVariants.{Accepted}
 use Rattle.search.specs.declared.Tally.{Tally}
 use Rattle.machine.specs.Machine.{Act, run}
 use Rattle.population.specs.Kept.{words}
@@ -29,7 +28,7 @@ EverySubjectReply = (setup : Setup) (counts : List ℕ) (observations : List Obs
     → stands setup counts (length observations) s tally ≡ true
     → checks (with_parameters setup s.parameters) counts
     (lent_by (length observations) (length cache) (length work) (length warm) (length results)) (all_checked setup counts observations)
-    ≡ Accepted
+    ≡ (Ok tt)
     → subject_reply_over setup counts (own_of counts observations s) tally state answer cache work warm results said
     ≡ call_over setup counts observations tally state answer cache work warm results (reply said)
 

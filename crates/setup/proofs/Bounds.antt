@@ -1,4 +1,5 @@
 -- The bounds that a passed check gives, for what is computed after it. Assumes nothing.
+use Rattle.std.specs.Prelude.{None, Option}
 use mathlib.Core.Path.{◌≡◌, sym, subst, ◌∙◌}
 use mathlib.Core.Bool.{Bool, true, false}
 use mathlib.Core.List.{List, [], ◌∷◌}
@@ -9,9 +10,7 @@ use borrow.Author.Tests.{ltb-false}
 use lib.Dec.{T, ltb, eqb}
 use Rattle.float64.specs.Pick.{pick, both, cases}
 use Rattle.setup.specs.declared.Setup.{Setup}
-use Rattle.setup.specs.declared.Counts.{Counts}
-use Rattle.setup.specs.declared.Counts.TheVariants.{Within, Outside}
-use Rattle.setup.specs.Admission.{larger, count_from, count_observations, is_cohort, is_no_shape}
+use Rattle.setup.specs.Admission.{larger, count_from, count_observations, is_cohort, is_no_shape, within}
 
 -- where the answer is not that of a test, the test was false
 pub not_first : {X : Type 0} {x z : X} (b : Bool) (y : X) → (x ≡ z → ⊥) → pick b x y ≡ z → (b ≡ false) × (y ≡ z)
@@ -19,10 +18,10 @@ not_first {X} {x} {z} b y d =
     cases (λ (v : X). v ≡ z → (b ≡ false) × (y ≡ z)) b (λ p e. absurd (d e)) (λ p e. (p, e))
 
 -- ---- the counts
-never_within : {t l : ℕ} → Outside ≡ Within t l → ⊥
+never_within : {t l : ℕ} → None ≡ within t l → ⊥
 never_within e = let z : ◌≡◌ {A = ℕ} 0 1 = cc in omega arith
 
-counted : (counts : List ℕ) (total largest : ℕ) {t l : ℕ} → total ≤ 100000 → largest ≤ 100000 → count_from total largest counts ≡ Within t l → (t ≤ 100000) × (l ≤ 100000)
+counted : (counts : List ℕ) (total largest : ℕ) {t l : ℕ} → total ≤ 100000 → largest ≤ 100000 → count_from total largest counts ≡ within t l → (t ≤ 100000) × (l ≤ 100000)
 unfolding count_from
 counted [] total largest {t} {l} h j e =
     let p : total ≡ t = cc in
@@ -34,7 +33,7 @@ counted (count ∷ rest) total largest h j e =
     let m : count ≤ 100000 - total = ltb-false _ _ few.0 in
     counted rest (total + count) (larger largest count) (omega arith) (both (λ (x : ℕ). x ≤ 100000) (ltb largest count) (let n : count ≤ 100000 = omega arith in n) j) few.1
 
-pub counts_low : {r : Counts} {t l : ℕ} (counts : List ℕ) → r ≡ count_observations counts → r ≡ Within t l → (t ≤ 100000) × (l ≤ 100000)
+pub counts_low : {r : Option Counts} {t l : ℕ} (counts : List ℕ) → r ≡ count_observations counts → r ≡ within t l → (t ≤ 100000) × (l ≤ 100000)
 unfolding count_observations
 counts_low counts e f = counted counts 0 0 (omega arith) (omega arith) (sym e ∙ f)
 

@@ -1,4 +1,5 @@
 -- The ways through the code: one law for each, over plain variables. Assumes nothing.
+use Rattle.std.specs.Prelude.{Err, Float, None, Ok, Option, Some}
 use mathlib.Core.Path.{◌≡◌, refl, sym, ap, ◌∙◌}
 use mathlib.Core.Bool.{Bool, true, false}
 use mathlib.Core.List.{List, ◌∷◌}
@@ -13,24 +14,16 @@ use Rattle.float64.specs.Arithmetic.{word, edge}
 use Rattle.float64.specs.Float64.{nonfinite}
 use Rattle.float64.specs.Pick.{yes, no, yes_of, no_of}
 use Rattle.matrix.specs.Matrix.{answer, inverse_positive}
-use Rattle.matrix.specs.declared.InversePositive.{InversePositive}
-use Rattle.matrix.specs.declared.InversePositive.TheVariants.{Exists, None}
 use Rattle.cache.specs.Cache.{row_words}
 use Rattle.work.specs.Work.{most_subjects, most_rows}
-use Rattle.subject.specs.declared.AdditiveSd.{AdditiveSd}
-use Rattle.subject.specs.declared.AdditiveSd.TheVariants.{Own, Override}
 use Rattle.subject.specs.declared.Position.{Position}
-use Rattle.subject.specs.declared.Check.{Check}
-use Rattle.subject.specs.declared.Check.TheVariants.{Sound, Unsound as UnsoundAt}
 use Rattle.setup.specs.declared.Setup.{Setup}
 use Rattle.setup.specs.declared.Parameters.{Parameters}
 use Rattle.setup.specs.declared.Lent.{Lent}
-use Rattle.setup.specs.declared.Counts.{Counts}
-use Rattle.setup.specs.declared.Counts.TheVariants.{Within, Outside}
-use Rattle.setup.specs.declared.Admission.{Admission}
-use Rattle.setup.specs.declared.Admission.TheVariants.{Accepted, Refused, Unsound}
-use Rattle.setup.specs.Admission.{is_beyond, larger, count_from, count_observations, is_cohort, is_no_variance, omega_of, is_none, is_no_omega, is_no_override, is_no_tolerance, is_no_shape, is_short, roomy}
+use Rattle.setup.specs.Admission.{is_beyond, larger, count_from, count_observations, is_cohort, is_no_variance, omega_of, is_none, is_no_omega, is_no_override, is_no_tolerance, is_no_shape, is_short, roomy, within, Admission}
 use Rattle.setup.specs.Admission.{admitted, checks_of, checks, with_parameters}
+use Rattle.setup.specs.declared.AdmissionError.TheVariants.{Refused, Unsound}
+use Rattle.subject.specs.Observations.{Check}
 
 -- ---- a range
 module _ (x low high : Float) where
@@ -48,7 +41,7 @@ module _ (x low high : Float) where
 
 -- ---- the counts, at subject i
 module _ (counts : List ℕ) (total largest i : ℕ) where
-  pub all_counted : length counts ≤ i → Within total largest ≡ count_from total largest (drop i counts)
+  pub all_counted : length counts ≤ i → within total largest ≡ count_from total largest (drop i counts)
   unfolding count_from
   all_counted h = sym (ap (count_from total largest) (drop_of_length-le counts h))
 
@@ -56,11 +49,11 @@ module _ (counts : List ℕ) (total largest i : ℕ) where
     here : count_from total largest (get_or counts i 0 ∷ drop (suc i) counts) ≡ count_from total largest (drop i counts)
     here = sym (ap (count_from total largest) (drop-cons counts i 0 h))
 
-    pub counts_none : get_or counts i 0 ≡ 0 → Outside ≡ count_from total largest (drop i counts)
+    pub counts_none : get_or counts i 0 ≡ 0 → None ≡ count_from total largest (drop i counts)
     unfolding count_from
     counts_none e = yes _ (eq-eqb _ _ e) refl ∙ here
 
-    pub counts_too_many : (get_or counts i 0 ≡ 0 → ⊥) → most_rows - total < get_or counts i 0 → Outside ≡ count_from total largest (drop i counts)
+    pub counts_too_many : (get_or counts i 0 ≡ 0 → ⊥) → most_rows - total < get_or counts i 0 → None ≡ count_from total largest (drop i counts)
     unfolding count_from
     counts_too_many d l = no _ (ne_eqb _ _ d) (yes _ (lt-ltb _ _ l) refl) ∙ here
 
@@ -118,13 +111,13 @@ module _ (s : Setup) {b : Bool} (e : b ≡ is_no_variance s.omega00) where
         not_symmetric g = no_of _ e t (no _ (ne_eqb _ _ two) (no_of _ f u (yes _ g refl)))
 
         -- r is what `inverse_positive` answered
-        module _ (g : ne s.omega01 s.omega10 ≡ false) {r : InversePositive} (a : answer (omega_of s) r ≡ inverse_positive (omega_of s)) where
-          symmetric : {v : InversePositive} → r ≡ v → is_none (answer (omega_of s) v) ≡ is_no_omega s
+        module _ (g : ne s.omega01 s.omega10 ≡ false) {r : Option Float} (a : answer (omega_of s) r ≡ inverse_positive (omega_of s)) where
+          symmetric : {v : Option Float} → r ≡ v → is_none (answer (omega_of s) v) ≡ is_no_omega s
           unfolding is_no_omega
           symmetric q =
               no_of _ e t (no _ (ne_eqb _ _ two) (no_of _ f u (no _ g (ap is_none (sym (ap (answer (omega_of s)) q) ∙ a)))))
 
-          pub has_inverse : {det : Float} → r ≡ Exists det → false ≡ is_no_omega s
+          pub has_inverse : {det : Float} → r ≡ Some det → false ≡ is_no_omega s
           unfolding answer
           has_inverse q = symmetric q
 
@@ -133,13 +126,13 @@ module _ (s : Setup) {b : Bool} (e : b ≡ is_no_variance s.omega00) where
           no_inverse_lem q = symmetric q
 
 -- ---- check 3: the override; b is what `is_nonfinite` answered
-module _ (effects : ℕ) (sd : AdditiveSd) where
-  pub own : sd ≡ Own → false ≡ is_no_override effects sd
+module _ (effects : ℕ) (sd : Option Float) where
+  pub own : sd ≡ None → false ≡ is_no_override effects sd
   unfolding is_no_override
   own e = sym (ap (is_no_override effects) e)
 
-  module _ {additive : Float} (e : sd ≡ Override additive) where
-    overridden : {z : Bool} → z ≡ is_no_override effects (Override additive) → z ≡ is_no_override effects sd
+  module _ {additive : Float} (e : sd ≡ Some additive) where
+    overridden : {z : Bool} → z ≡ is_no_override effects (Some additive) → z ≡ is_no_override effects sd
     overridden q = q ∙ sym (ap (is_no_override effects) e)
 
     pub two_effects : effects ≡ 2 → true ≡ is_no_override effects sd
@@ -224,12 +217,12 @@ module _ (s : Setup) (subjects total largest : ℕ) (lent : Lent) where
 
 -- ---- checks 2 to 5; b, d and r are what `is_no_omega`, `is_no_shape` and `is_short` answered
 module _ (s : Setup) (subjects total largest : ℕ) (lent : Lent) (check : Check) {b : Bool} (e : b ≡ is_no_omega s) where
-  pub fails_2 : b ≡ true → Refused 2 ≡ admitted s subjects total largest lent check
+  pub fails_2 : b ≡ true → Err (Refused 2) ≡ admitted s subjects total largest lent check
   unfolding admitted
   fails_2 t = yes_of _ e t refl
 
   module _ (t : b ≡ false) {d : Bool} (f : d ≡ is_no_shape s) where
-    pub fails_3 : d ≡ true → Refused 3 ≡ admitted s subjects total largest lent check
+    pub fails_3 : d ≡ true → Err (Refused 3) ≡ admitted s subjects total largest lent check
     unfolding admitted
     fails_3 u = no_of _ e t (yes_of _ f u refl)
 
@@ -238,32 +231,32 @@ module _ (s : Setup) (subjects total largest : ℕ) (lent : Lent) (check : Check
       unfolding admitted
       shaped g q = no_of _ e t (no_of _ f u (q ∙ sym (ap (roomy s subjects total largest lent) g)))
 
-      pub fails_4 : {place : Position} → check ≡ UnsoundAt place → Unsound place ≡ admitted s subjects total largest lent check
+      pub fails_4 : {place : Position} → check ≡ Err place → Err (Unsound place) ≡ admitted s subjects total largest lent check
       unfolding roomy
       fails_4 g = shaped g refl
 
-      module _ {place : Position} (g : check ≡ Sound place) {r : Bool} (h : r ≡ is_short s subjects total largest lent) where
-        pub fails_5 : r ≡ true → Refused 5 ≡ admitted s subjects total largest lent check
+      module _ {place : Position} (g : check ≡ Ok place) {r : Bool} (h : r ≡ is_short s subjects total largest lent) where
+        pub fails_5 : r ≡ true → Err (Refused 5) ≡ admitted s subjects total largest lent check
         unfolding roomy
         fails_5 v = shaped g (yes_of _ h v refl)
 
-        pub passes : r ≡ false → Accepted ≡ admitted s subjects total largest lent check
+        pub passes : r ≡ false → (Ok tt) ≡ admitted s subjects total largest lent check
         unfolding roomy
         passes v = shaped g (no_of _ h v refl)
 
 -- ---- all checks; r is what `count_observations` answered
-module _ (s : Setup) (counts : List ℕ) (lent : Lent) (check : Check) {r : Counts} (e : r ≡ count_observations counts) where
-  counted : {v : Counts} {z : Admission} → r ≡ v → z ≡ checks_of s (length counts) lent check v → z ≡ checks s counts lent check
+module _ (s : Setup) (counts : List ℕ) (lent : Lent) (check : Check) {r : Option Counts} (e : r ≡ count_observations counts) where
+  counted : {v : Option Counts} {z : Admission} → r ≡ v → z ≡ checks_of s (length counts) lent check v → z ≡ checks s counts lent check
   unfolding checks
   counted f q = q ∙ ap (checks_of s (length counts) lent check) (sym f ∙ e)
 
-  pub outside : r ≡ Outside → Refused 1 ≡ checks s counts lent check
+  pub outside : r ≡ None → Err (Refused 1) ≡ checks s counts lent check
   unfolding checks_of
   outside f = counted f refl
 
   -- b is what `is_cohort` answered
-  module _ {total largest : ℕ} {b : Bool} (f : r ≡ Within total largest) (g : b ≡ is_cohort s.effects (length counts) total lent.observations) where
-    pub no_cohort_lem : b ≡ false → Refused 1 ≡ checks s counts lent check
+  module _ {total largest : ℕ} {b : Bool} (f : r ≡ within total largest) (g : b ≡ is_cohort s.effects (length counts) total lent.observations) where
+    pub no_cohort_lem : b ≡ false → Err (Refused 1) ≡ checks s counts lent check
     unfolding checks_of
     no_cohort_lem t = counted f (no_of _ g t refl)
 

@@ -1,4 +1,5 @@
 -- The exits of `subject_checks`, over plain values. Assumes nothing.
+use Rattle.std.specs.Prelude.{Err}
 use mathlib.Core.Path.{◌≡◌, refl, ap, ◌∙◌}
 use mathlib.Core.Bool.{Bool, true, false}
 use mathlib.Core.List.{List}
@@ -7,34 +8,32 @@ use borrow.Author.Tests.{lt-ltb, le-ltb, eq-eqb, ne_eqb}
 use lib.Dec.{ltb, eqb}
 use lib.ListN.{length, get_or}
 use Rattle.float64.specs.Pick.{pick, yes, no, yes_of, no_of}
-use Rattle.subject.specs.declared.Check.{Check}
-use Rattle.setup.specs.Admission.{is_cohort, admitted, checks_of}
+use Rattle.setup.specs.Admission.{is_cohort, admitted, checks_of, within, Admission}
 use Rattle.setup.specs.declared.Setup.{Setup}
 use Rattle.setup.specs.declared.Lent.{Lent}
-use Rattle.setup.specs.declared.Counts.TheVariants.{Within}
-use Rattle.setup.specs.declared.Admission.{Admission}
-use Rattle.setup.specs.declared.Admission.TheVariants.{Refused}
 use Rattle.setup.specs.SubjectChecks.{subject_checks}
+use Rattle.setup.specs.declared.AdmissionError.TheVariants.{Refused}
+use Rattle.subject.specs.Observations.{Check}
 
 -- count is what was read of the subject
 module _ (s : Setup) (counts : List ℕ) (subject : ℕ) (lent : Lent) (check : Check) {count : ℕ} (e : count ≡ get_or counts subject 0) where
   abbrev from : ℕ → Admission
-  from c = pick (eqb c 0) (Refused 1) (pick (ltb 100000 c) (Refused 1) (checks_of s (length counts) lent check (Within c c)))
+  from c = pick (eqb c 0) (Err (Refused 1)) (pick (ltb 100000 c) (Err (Refused 1)) (checks_of s (length counts) lent check (within c c)))
 
   read_count : {a : Admission} → a ≡ from count → a ≡ subject_checks s counts subject lent check
   unfolding subject_checks
   read_count q = q ∙ ap from e
 
-  pub none : count ≡ 0 → Refused 1 ≡ subject_checks s counts subject lent check
+  pub none : count ≡ 0 → Err (Refused 1) ≡ subject_checks s counts subject lent check
   none z = read_count (yes _ (eq-eqb _ _ z) refl)
 
   module _ (some : (count ≡ 0) → ⊥) where
-    pub many : 100000 < count → Refused 1 ≡ subject_checks s counts subject lent check
+    pub many : 100000 < count → Err (Refused 1) ≡ subject_checks s counts subject lent check
     many h = read_count (no _ (ne_eqb _ _ some) (yes _ (lt-ltb _ _ h) refl))
 
     -- b is what `is_cohort` answered
     module _ (few : count ≤ 100000) {b : Bool} (g : b ≡ is_cohort s.effects (length counts) count lent.observations) where
-      pub no_cohort_lem : b ≡ false → Refused 1 ≡ subject_checks s counts subject lent check
+      pub no_cohort_lem : b ≡ false → Err (Refused 1) ≡ subject_checks s counts subject lent check
       unfolding checks_of
       no_cohort_lem t = read_count (no _ (ne_eqb _ _ some) (no _ (le-ltb _ _ few) (no_of _ g t refl)))
 

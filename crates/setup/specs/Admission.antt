@@ -1,5 +1,5 @@
 -- Document 01's checks 1 to 5.
-use Rattle.std.specs.Prelude.{Bool, true, false, List, [], ◌∷◌, ℕ, ◌+◌, ◌-◌, ◌*◌, ltb, eqb, length, Float}
+use Rattle.std.specs.Prelude.{Bool, true, false, List, [], ◌∷◌, ℕ, ◌+◌, ◌-◌, ◌*◌, ltb, eqb, length, Float, Err, None, Ok, Option, Result, Some, ⊤}
 use Rattle.std.specs.Float.Ieee.{le, lt, ne}
 use Rattle.float64.specs.Arithmetic.{word, edge}
 use Rattle.float64.specs.Float64.{nonfinite}
@@ -8,19 +8,14 @@ use Rattle.float64.specs.Answer.{Answer, given, refused}
 use Rattle.matrix.specs.Matrix.{pair, Inverse, some, none, inverse_positive}
 use Rattle.cache.specs.Cache.{kept_words}
 use Rattle.work.specs.Work.{most_subjects, most_rows, work_words, result_words, fitted_words}
-use Rattle.subject.specs.declared.AdditiveSd.{AdditiveSd}
-use Rattle.subject.specs.declared.AdditiveSd.TheVariants.{Own, Override}
-use Rattle.subject.specs.Observations.{Verdict, verdict as check_verdict}
+use Rattle.subject.specs.Observations.{Verdict, verdict as check_verdict, Check}
 use Rattle.subject.specs.Observations.Verdict.{passes, fails}
-use Rattle.subject.specs.declared.Check.{Check}
-use Rattle.subject.specs.declared.Check.TheVariants.{Sound, Unsound as UnsoundAt}
 use Rattle.setup.specs.declared.Setup.{Setup}
 use Rattle.setup.specs.declared.Parameters.{Parameters}
 use Rattle.setup.specs.declared.Lent.{Lent}
-use Rattle.setup.specs.declared.Counts.{Counts}
-use Rattle.setup.specs.declared.Counts.TheVariants.{Within, Outside}
-use Rattle.setup.specs.declared.Admission.{Admission}
-use Rattle.setup.specs.declared.Admission.TheVariants.{Accepted, Refused, Unsound}
+use Rattle.setup.specs.declared.AdmissionError.{AdmissionError}
+use Rattle.setup.specs.declared.AdmissionError.TheVariants.{Refused, Unsound}
+use Rattle.subject.specs.declared.Position.{Position}
 
 -- not from low to high
 unfoldable pub is_beyond : Float → Float → Float → Bool
@@ -37,19 +32,23 @@ pub record Totals : Type 0 where
   pub total : ℕ
   pub largest : ℕ
 
--- counts outside the domain are refused with 1
-abbrev pub totals : Counts → Answer Totals
-totals (Within total largest) = given (record { total = total; largest = largest })
-totals Outside = refused 1
+-- counts within the domain
+abbrev pub within : ℕ → ℕ → Option Counts
+within total largest = Some (record { total = total; largest = largest })
 
-unfoldable pub count_from : ℕ → ℕ → List ℕ → Counts
-count_from total largest [] = Within total largest
+-- counts outside the domain are refused with 1
+abbrev pub totals : Option Counts → Answer Totals
+totals (Some n) = given (record { total = n.total; largest = n.largest })
+totals None = refused 1
+
+unfoldable pub count_from : ℕ → ℕ → List ℕ → Option Counts
+count_from total largest [] = within total largest
 count_from total largest (count ∷ rest) =
-    pick (eqb count 0) Outside
-    (pick (ltb (most_rows - total) count) Outside
+    pick (eqb count 0) None
+    (pick (ltb (most_rows - total) count) None
     (count_from (total + count) (larger largest count) rest))
 
-unfoldable pub count_observations : List ℕ → Counts
+unfoldable pub count_observations : List ℕ → Option Counts
 count_observations counts = count_from 0 0 counts
 
 unfoldable pub is_cohort : ℕ → ℕ → ℕ → ℕ → Bool
@@ -83,9 +82,9 @@ is_no_omega setup =
 -- ---- 3: eta_bound 2^-10 to 16; gradient_tolerance finite, above 0; width 1 to 64; K 1 to 100,000; the override finite, not below 0,
 -- none with two effects
 
-unfoldable pub is_no_override : ℕ → AdditiveSd → Bool
-is_no_override effects Own = false
-is_no_override effects (Override additive) = pick (eqb effects 2) true (pick (nonfinite additive) true (lt additive (word 0)))
+unfoldable pub is_no_override : ℕ → Option Float → Bool
+is_no_override effects None = false
+is_no_override effects (Some additive) = pick (eqb effects 2) true (pick (nonfinite additive) true (lt additive (word 0)))
 
 unfoldable pub is_no_tolerance : Float → Bool
 is_no_tolerance tolerance = pick (nonfinite tolerance) true (le tolerance (word 0))
@@ -112,29 +111,33 @@ is_short setup subjects total largest lent =
 
 -- ---- in their order; 4 is what the check of the observations found
 
+-- accepted, or why not
+abbrev pub Admission : Type 0
+Admission = Result ⊤ AdmissionError
+
 -- what an admission says: 4 is what the check of the observations says, the others carry no place
 abbrev pub verdict : Admission → Verdict
-verdict Accepted = passes
-verdict (Refused number) = fails number
-verdict (Unsound place) = check_verdict (UnsoundAt place)
+verdict (Ok tt) = passes
+verdict (Err (Refused number)) = fails number
+verdict (Err (Unsound place)) = check_verdict (Err place)
 
 unfoldable pub roomy : Setup → ℕ → ℕ → ℕ → Lent → Check → Admission
-roomy setup subjects total largest lent (UnsoundAt place) = Unsound place
-roomy setup subjects total largest lent (Sound place) = pick (is_short setup subjects total largest lent) (Refused 5) Accepted
+roomy setup subjects total largest lent (Err place) = Err (Unsound place)
+roomy setup subjects total largest lent (Ok place) = pick (is_short setup subjects total largest lent) (Err (Refused 5)) (Ok tt)
 
 unfoldable pub admitted : Setup → ℕ → ℕ → ℕ → Lent → Check → Admission
 admitted setup subjects total largest lent check =
-    pick (is_no_omega setup) (Refused 2)
-    (pick (is_no_shape setup) (Refused 3)
+    pick (is_no_omega setup) (Err (Refused 2))
+    (pick (is_no_shape setup) (Err (Refused 3))
     (roomy setup subjects total largest lent check))
 
 abbrev pub checks_with : Setup → ℕ → Lent → Check → Answer Totals → Admission
 checks_with setup subjects lent check (given t) =
     pick (is_cohort setup.effects subjects t.total lent.observations)
-    (admitted setup subjects t.total t.largest lent check) (Refused 1)
-checks_with setup subjects lent check (refused number) = Refused number
+    (admitted setup subjects t.total t.largest lent check) (Err (Refused 1))
+checks_with setup subjects lent check (refused number) = Err (Refused number)
 
-unfoldable pub checks_of : Setup → ℕ → Lent → Check → Counts → Admission
+unfoldable pub checks_of : Setup → ℕ → Lent → Check → Option Counts → Admission
 checks_of setup subjects lent check counts = checks_with setup subjects lent check (totals counts)
 
 unfoldable pub checks : Setup → List ℕ → Lent → Check → Admission

@@ -4,13 +4,13 @@ ghost use Rattle.std.specs.Prelude.{◌≡◌, ◌≤◌};
 ghost use Rattle.setup.specs.Admission.{count_observations, is_cohort, is_short, admitted, checks};
 ghost use Rattle.setup.specs.SubjectChecks.{subject_checks};
 
-use super::{Admission, Counts, Lent, Setup, is_no_omega, is_no_shape};
+use super::{Admission, AdmissionError, Counts, Lent, Setup, is_no_omega, is_no_shape};
 use subject::Check;
 
 // ---- 1
 
 // The sum and the largest of the subjects' numbers of observations, for checks 1 and 5.
-pub fn count_observations(counts: &[u64]) -> Counts
+pub fn count_observations(counts: &[u64]) -> Option<Counts>
     ensures { result ≡ count_observations counts.now }
 {
     let mut total = 0;
@@ -19,10 +19,10 @@ pub fn count_observations(counts: &[u64]) -> Counts
     while i < counts.len() {
         let count = counts[i] as usize;
         if count == 0 {
-            return Counts::Outside;
+            return None;
         }
         if work::MOST_ROWS - total < count {
-            return Counts::Outside;
+            return None;
         }
         total += count;
         if largest < count {
@@ -30,7 +30,7 @@ pub fn count_observations(counts: &[u64]) -> Counts
         }
         i += 1;
     }
-    Counts::Within(total, largest)
+    Some(Counts { total, largest })
 }
 
 // Whether check 1 passes: 1 or 2 effects, 1 to 4,096 subjects, and as many observations lent as the subjects
@@ -88,18 +88,18 @@ fn admitted(
     ensures { result ≡ admitted setup subjects total largest lent check }
 {
     if is_no_omega(setup) {
-        return Admission::Refused(2);
+        return Err(AdmissionError::Refused(2));
     }
     if is_no_shape(setup) {
-        return Admission::Refused(3);
+        return Err(AdmissionError::Refused(3));
     }
     match check {
-        Check::Unsound(place) => Admission::Unsound(place),
-        Check::Sound(_) => {
+        Err(place) => Err(AdmissionError::Unsound(place)),
+        Ok(_) => {
             if is_short(setup, subjects, total, largest, lent) {
-                return Admission::Refused(5);
+                return Err(AdmissionError::Refused(5));
             }
-            Admission::Accepted
+            Ok(())
         }
     }
 }
@@ -110,13 +110,13 @@ pub fn checks(setup: Setup, counts: &[u64], lent: Lent, check: Check) -> Admissi
     ensures { result ≡ checks setup counts.now lent check }
 {
     match count_observations(counts) {
-        Counts::Within(total, largest) => {
+        Some(Counts { total, largest }) => {
             if is_cohort(setup.effects, counts.len(), total, lent.observations) {
                 return admitted(setup, counts.len(), total, largest, lent, check);
             }
-            Admission::Refused(1)
+            Err(AdmissionError::Refused(1))
         }
-        Counts::Outside => Admission::Refused(1),
+        None => Err(AdmissionError::Refused(1)),
     }
 }
 
@@ -136,13 +136,13 @@ pub fn subject_checks(
 {
     let count = words::read(counts, subject) as usize;
     if count == 0 {
-        return Admission::Refused(1);
+        return Err(AdmissionError::Refused(1));
     }
     if work::MOST_ROWS < count {
-        return Admission::Refused(1);
+        return Err(AdmissionError::Refused(1));
     }
     if is_cohort(setup.effects, counts.len(), count, lent.observations) {
         return admitted(setup, counts.len(), count, count, lent, check);
     }
-    Admission::Refused(1)
+    Err(AdmissionError::Refused(1))
 }

@@ -8,8 +8,8 @@ ghost use Rattle.setup.specs.Admission.{is_beyond, is_no_variance, is_no_omega, 
 
 pub mod checks;
 
-use matrix::{InversePositive, Pair};
-use subject::{AdditiveSd, Position};
+use matrix::Pair;
+use subject::Position;
 
 // What a session is set up with: the number of effects; omega by row and column (with one effect its first
 // entry); the bound of eta; the outer fit's gradient_tolerance; the number of outputs; K, the most rows that
@@ -26,7 +26,7 @@ pub struct Setup {
     pub gradient_tolerance: f64,
     pub width: u32,
     pub k: usize,
-    pub additive_sd: AdditiveSd,
+    pub additive_sd: Option<f64>,
     pub output_budget: u32,
     pub max_evaluations: u32,
 }
@@ -36,7 +36,7 @@ pub struct Setup {
 pub struct Parameters {
     pub theta: Pair,
     pub omega: f64,
-    pub additive_sd: AdditiveSd,
+    pub additive_sd: Option<f64>,
 }
 
 // How much is lent to a call: the number of observations, and the numbers of work, cache, warm and result
@@ -50,19 +50,19 @@ pub struct Lent {
     pub results: usize,
 }
 
-// What is found of the subjects' numbers of observations: their sum and the largest; or that they are outside
-// document 01's domain, with a subject that has none or with more than 100,000 in all.
+// What is found of the subjects' numbers of observations: their sum and the largest.
 #[derive(Clone, Copy)]
-pub enum Counts {
-    Within(usize, usize),
-    Outside,
+pub struct Counts {
+    pub total: usize,
+    pub largest: usize,
 }
 
-// The answer of the checks: accepted, refused with document 01's number, or refused with 4 at the place of an
-// observation.
+// The answer of the checks: accepted, or why not.
+pub type Admission = Result<(), AdmissionError>;
+
+// Why the checks refuse: document 01's number; or, with 4, the place of an observation.
 #[derive(Clone, Copy)]
-pub enum Admission {
-    Accepted,
+pub enum AdmissionError {
     Refused(u32),
     Unsound(Position),
 }
@@ -109,8 +109,8 @@ pub fn is_no_omega(setup: Setup) -> bool
         [setup.omega10, setup.omega11],
     ];
     match matrix::inverse_positive(omega) {
-        InversePositive::Exists(_) => false,
-        InversePositive::None => true,
+        Some(_) => false,
+        None => true,
     }
 }
 
@@ -118,12 +118,12 @@ pub fn is_no_omega(setup: Setup) -> bool
 
 // Whether an additive override is refused: it must be finite and not below 0, and with two effects there must
 // be none.
-fn is_no_override(effects: u32, additive_sd: AdditiveSd) -> bool
+fn is_no_override(effects: u32, additive_sd: Option<f64>) -> bool
     ensures { result ≡ is_no_override effects additive_sd }
 {
     match additive_sd {
-        AdditiveSd::Own => false,
-        AdditiveSd::Override(additive) => {
+        None => false,
+        Some(additive) => {
             if effects == 2 {
                 return true;
             }

@@ -1,9 +1,9 @@
 -- The rounds of one start. Assumes nothing.
+use Rattle.std.specs.Prelude.{Option, None, Some}
 use mathlib.Core.Path.{◌≡◌, refl, sym, ap, ◌∙◌, subst}
 use mathlib.Core.Logic.{inl, inr}
 use mathlib.Core.Bool.{Bool, true, false, ◌&&◌, ◌||◌, true≢false}
 use mathlib.Core.List.{List, [], ◌∷◌}
-use mathlib.Core.Option.{Option, none, some}
 use Prim.Native.Nat.{ℕ, zero, suc, ◌+◌, ◌-◌, ◌≤◌, ◌<◌}
 use native.Mathlib.Omega.{arith}
 use lib.ListN.{length, get_or, get_or-append}
@@ -66,18 +66,18 @@ abbrev try_it : Settings2 → Conditional2 → Pair → Option Conditional2 → 
 try_it s c t accepted =
     pick (equal t c.eta) (done (next accepted))
     (pick (le (fall_of s c t) (word 0)) (done (next accepted))
-    (subject t >>= λ trial. pick (takes s c t trial) (done (break (some trial))) (done (next accepted))))
+    (subject t >>= λ trial. pick (takes s c t trial) (done (break (Some trial))) (done (next accepted))))
 
 abbrev reduce_body : Settings2 → Conditional2 → List (List Float) → ℕ → Option Conditional2 → Run Pair Conditional2 (Flow (Option Conditional2))
 reduce_body s c inverse reduction accepted = try_it s c (trial_eta s c (product inverse (score_of s c)) reduction) accepted
 
 abbrev onwards : Conditional2 → Option Conditional2 → Run Pair Conditional2 (Flow Conditional2)
-onwards c accepted = elim accepted [ some trial ↦ done (next trial) | none ↦ done (break c) ]
+onwards c accepted = elim accepted [ Some trial ↦ done (next trial) | None ↦ done (break c) ]
 
 abbrev pub round_body : Settings2 → ℕ → Conditional2 → Run Pair Conditional2 (Flow Conditional2)
 round_body s i c =
     pick (small s c) (done (break c))
-    (ok_or (inverse_positive (information s c)) 16 >>= λ inverse. for 22 none (reduce_body s c inverse) >>= onwards c)
+    (ok_or (inverse_positive (information s c)) 16 >>= λ inverse. for 22 None (reduce_body s c inverse) >>= onwards c)
 
 abbrev edge : Settings2 → Float
 edge s = s.eta_bound -ᶠ word 0x3eb0_c6f7_a0b5_ed8d
@@ -217,35 +217,35 @@ module _ (s : Settings2) where
       next_no m i d k e = pick_no _ _ _ (taken_is s seed round i c best inverse d ∙ e) ∙ left_on m i k
 
       skips : (t : Pair) (again : Option Conditional2 → Run Pair Conditional2 (Option Conditional2)) (g : List Conditional2) → pick (equal t c.eta) true (le (fall_of s c t) (word 0)) ≡ true
-          → Ok (within (again none)) g → Ok (within (try_it s c t none >>= turn again)) g
+          → Ok (within (again None)) g → Ok (within (try_it s c t None >>= turn again)) g
       unfolding ◌>>=◌ turn pick
       skips t again g e h = go (equal t c.eta) (le (fall_of s c t) (word 0)) e
         where
           go : (a b : Bool) → pick a true b ≡ true
-              → Ok (within (pick a (done (next none)) (pick b (done (next none)) (subject t >>= λ trial. pick (takes s c t trial) (done (break (some trial))) (done (next none)))) >>=
+              → Ok (within (pick a (done (next None)) (pick b (done (next None)) (subject t >>= λ trial. pick (takes s c t trial) (done (break (Some trial))) (done (next None)))) >>=
               turn again)) g
           go true b e = h
           go false true e = h
           go false false e = absurd (true≢false (sym e))
 
       tries : (t : Pair) (again : Option Conditional2 → Run Pair Conditional2 (Option Conditional2)) (g : List Conditional2) → pick (equal t c.eta) true (le (fall_of s c t) (word 0)) ≡ false
-          → told s g ≡ asks t → ((d : Conditional2) → takes s c t d ≡ true → Ok (out (more d)) (push g d)) → ((d : Conditional2) → takes s c t d ≡ false → Ok (within (again none)) (push g d))
-          → Ok (within (try_it s c t none >>= turn again)) g
+          → told s g ≡ asks t → ((d : Conditional2) → takes s c t d ≡ true → Ok (out (more d)) (push g d)) → ((d : Conditional2) → takes s c t d ≡ false → Ok (within (again None)) (push g d))
+          → Ok (within (try_it s c t None >>= turn again)) g
       unfolding ◌>>=◌ turn pick Tells
       tries t again g e q y n = go (equal t c.eta) (le (fall_of s c t) (word 0)) e
         where
-          one : (d : Conditional2) (b : Bool) → takes s c t d ≡ b → Ok (within (pick b (done (break (some d))) (done (next none)) >>= turn again)) (push g d)
+          one : (d : Conditional2) (b : Bool) → takes s c t d ≡ b → Ok (within (pick b (done (break (Some d))) (done (next None)) >>= turn again)) (push g d)
           one d true k = y d k
           one d false k = n d k
 
           go : (a b : Bool) → pick a true b ≡ false
-              → Ok (within (pick a (done (next none)) (pick b (done (next none)) (subject t >>= λ trial. pick (takes s c t trial) (done (break (some trial))) (done (next none)))) >>=
+              → Ok (within (pick a (done (next None)) (pick b (done (next None)) (subject t >>= λ trial. pick (takes s c t trial) (done (break (Some trial))) (done (next None)))) >>=
               turn again)) g
           go true b e = absurd (true≢false e)
           go false true e = absurd (true≢false e)
           go false false e = (q, λ d f. one d (takes s c t d) refl)
 
-      pub reduces : (m i : ℕ) (g : List Conditional2) → i + m ≡ 22 → At g (try_at m i) p → Ok (within (rounds (reduce_body s c inverse) i m none)) g
+      pub reduces : (m i : ℕ) (g : List Conditional2) → i + m ≡ 22 → At g (try_at m i) p → Ok (within (rounds (reduce_body s c inverse) i m None)) g
       unfolding rounds ◌>>=◌ turn told_by
       reduces zero i g e a = over c g (at_to a (none_left i e))
       reduces (suc m) i g e a =
@@ -276,7 +276,7 @@ module _ (s : Settings2) where
     module _ (round : ℕ) (more : Conditional2 → Run Pair Conditional2 Conditional2)
         (goes : (d : Conditional2) (g : List Conditional2) → At g (pick (ltb round 47) (R.begin_round s seed (round + 1) d best) (R.finish s seed d best)) p → Ok (out (more d)) g) where
       descends : (c : Conditional2) (g : List Conditional2) (v : Inverse) → inverse_positive (R.curvature s.precision c.information) ≡ v → At g (R.descend s seed round 0 c best) p
-          → Ok (out (ok_or v 16 >>= (λ inverse. for 22 none (reduce_body s c inverse) >>= onwards c) >>= turn more)) g
+          → Ok (out (ok_or v 16 >>= (λ inverse. for 22 None (reduce_body s c inverse) >>= onwards c) >>= turn more)) g
       unfolding ◌>>=◌ Tells told_by
       descends c g Inverse.none e a = at_says (at_to a (halts c round e)) (refusal 16 c)
       descends c g (Inverse.some inverse det) e a = reduces round c inverse det e more goes 22 0 g refl (at_to a (along round c inverse det e))

@@ -1,9 +1,9 @@
 -- The six starts; the source's `mode` of two effects and the rules say the same. Assumes nothing.
+use Rattle.std.specs.Prelude.{Option, None, Some}
 use mathlib.Core.Path.{◌≡◌, refl, sym, ap, ◌∙◌, subst}
 use mathlib.Core.Logic.{◌⊎◌, inl, inr}
 use mathlib.Core.Bool.{Bool, true, false}
 use mathlib.Core.List.{List, [], ◌∷◌}
-use mathlib.Core.Option.{Option, none, some}
 use Prim.Native.Nat.{ℕ, zero, suc, ◌+◌, ◌≤◌}
 use native.Mathlib.Omega.{arith}
 use lib.ListN.{get_or}
@@ -32,10 +32,10 @@ abbrev is_far : Conditional2 → Conditional2 → Bool
 is_far c previous = lt (word 0x3f50_624d_d2f1_a9fc) (max (abs (c.eta.first -ᶠ previous.eta.first)) (abs (c.eta.second -ᶠ previous.eta.second)))
 
 abbrev better : Settings2 → Option Conditional2 → Conditional2 → Option Conditional2
-better s best c = pick (is_none_or best (λ value. lt (joint s c) (joint s value))) (some c) best
+better s best c = pick (is_none_or best (λ value. lt (joint s c) (joint s value))) (Some c) best
 
 abbrev judge : Settings2 → Option Conditional2 → Conditional2 → Run Pair Conditional2 (Flow (Option Conditional2))
-judge s best c = ◌>>◌ (elim best [ some previous ↦ err (is_far c previous) 14 | none ↦ done tt ]) (done (next (better s best c)))
+judge s best c = ◌>>◌ (elim best [ Some previous ↦ err (is_far c previous) 14 | None ↦ done tt ]) (done (next (better s best c)))
 
 abbrev seed_body : Settings2 → Pair → Option Conditional2 → Run Pair Conditional2 (Flow (Option Conditional2))
 seed_body s start best = mode_from_seed s start >>= judge s best
@@ -47,7 +47,7 @@ seeds_from : Settings2 → ℕ → ℕ → List Pair
 seeds_from s k zero = []
 seeds_from s k (suc n) = R.start_point s k ∷ seeds_from s (k + 1) n
 
-mode_is : (s : Settings2) → mode s ≡ (subject (of (word 0) (word 0)) >>= λ p. (each (seeds_from s 0 6) none (seed_body s) >>= fin p))
+mode_is : (s : Settings2) → mode s ≡ (subject (of (word 0) (word 0)) >>= λ p. (each (seeds_from s 0 6) None (seed_body s) >>= fin p))
 unfolding mode seeds_from R.start_point pick
 mode_is s = refl
 
@@ -57,7 +57,7 @@ seed_state k zero c best = R.between Found 6 c best
 seed_state k (suc n) c best = R.between Start k c best
 
 Best : ℕ → Conditional2 → Option Conditional2 → Type 0
-Best k best o = ((k ≡ 0) × (o ≡ none)) ⊎ ((1 ≤ k) × (o ≡ some best))
+Best k best o = ((k ≡ 0) × (o ≡ None)) ⊎ ((1 ≤ k) × (o ≡ Some best))
 
 -- the machine's best after the candidate c
 stay : (s : Settings2) (k n : ℕ) (c b : Conditional2) → k + suc n ≡ 6 → pick (ltb k 5) (R.between Start (k + 1) c b) (R.between Found 6 c b) ≡ seed_state (k + 1) n c b
@@ -86,7 +86,7 @@ later_far k c best e = pick_no _ _ _ (ne_eqb k 0 (apart k e))
     apart : (k : ℕ) → 1 ≤ k → k ≡ 0 → ⊥
     apart k a b = omega arith
 
-some_pick : (b : Bool) (c d : Conditional2) → pick b (some c) (some d) ≡ some (pick b c d)
+some_pick : (b : Bool) (c d : Conditional2) → pick b (Some c) (Some d) ≡ Some (pick b c d)
 unfolding pick
 some_pick true c d = refl
 some_pick false c d = refl
@@ -98,21 +98,21 @@ module _ (s : Settings2) (p : Conditional2) where
 
   -- a candidate
   module _ (k n : ℕ) (e : k + suc n ≡ 6) (others : Option Conditional2 → Run Pair Conditional2 (Option Conditional2)) (best : Conditional2)
-      (goes : (c b : Conditional2) (g : List Conditional2) → At s g (seed_state (k + 1) n c b) p → Ok s (others (some b) >>= fin p) g) where
+      (goes : (c b : Conditional2) (g : List Conditional2) → At s g (seed_state (k + 1) n c b) p → Ok s (others (Some b) >>= fin p) g) where
     -- it passes 13
     judged : (o : Option Conditional2) → Best k best o → (c : Conditional2) (g : List Conditional2) → R.is_unresolved s c ≡ false → At s g (R.finish s k c best) p
         → Ok s (judge s o c >>= turn others >>= fin p) g
     unfolding Best ◌>>=◌ turn Tells told_by R.finish
     judged o (inl (z, q)) c g u a =
         subst (λ v. Ok s (judge s v c >>= turn others >>= fin p) g) (sym q)
-        (subst (λ v. Ok s (others v >>= fin p) g) (sym (pick_yes true (some c) none refl))
+        (subst (λ v. Ok s (others v >>= fin p) g) (sym (pick_yes true (Some c) None refl))
         (goes c c g (at_to s a (pick_no _ _ _ u ∙ pick_no _ _ _ (first_near k c best z) ∙ stay s k n c (R.better s k c best) e ∙ ap (seed_state (k + 1) n c) (first_best s k c best z)))))
     judged o (inr (z, q)) c g u a =
         subst (λ v. Ok s (judge s v c >>= turn others >>= fin p) g) (sym q)
         (elim (or_not (is_far c best)) [
-          | inl f ↦ subst (λ v. Ok s (◌>>◌ v (done (next (better s (some best) c))) >>= turn others >>= fin p) g) (sym (pick_yes (is_far c best) (stop 14) (done tt) f))
+          | inl f ↦ subst (λ v. Ok s (◌>>◌ v (done (next (better s (Some best) c))) >>= turn others >>= fin p) g) (sym (pick_yes (is_far c best) (stop 14) (done tt) f))
               (at_says s (at_to s a (pick_no _ _ _ u ∙ pick_yes _ _ _ (later_far k c best z ∙ f))) (refusal k 14 c best))
-          | inr f ↦ subst (λ v. Ok s (◌>>◌ v (done (next (better s (some best) c))) >>= turn others >>= fin p) g) (sym (pick_no (is_far c best) (stop 14) (done tt) f))
+          | inr f ↦ subst (λ v. Ok s (◌>>◌ v (done (next (better s (Some best) c))) >>= turn others >>= fin p) g) (sym (pick_no (is_far c best) (stop 14) (done tt) f))
               (subst (λ v. Ok s (others v >>= fin p) g) (sym (some_pick (lt (joint s c) (joint s best)) c best))
               (goes c (pick (lt (joint s c) (joint s best)) c best) g
               (at_to s a (pick_no _ _ _ u ∙ pick_no _ _ _ (later_far k c best z ∙ f) ∙ stay s k n c (R.better s k c best) e ∙ ap (seed_state (k + 1) n c) (later_best s k c best z)))))
@@ -155,16 +155,16 @@ module _ (s : Settings2) (p : Conditional2) where
   seeds (suc n) k c best o g e b a =
       let others : Option Conditional2 → Run Pair Conditional2 (Option Conditional2) = λ y. each (seeds_from s (k + 1) n) y (seed_body s) in (
         at_says s a (point_s k c best),
-        λ d f. begins s p best k (judge s o) others (fin p) (over k n e others best (λ c b g a. seeds n (k + 1) c b (some b) g (omega arith) (more k b) a) o b) 47 0 d (push g d) refl
+        λ d f. begins s p best k (judge s o) others (fin p) (over k n e others best (λ c b g a. seeds n (k + 1) c b (Some b) g (omega arith) (more k b) a) o b) 47 0 d (push g d) refl
             (at_push s d a (next_s k c best d)),
       )
     where
-      more : (k : ℕ) (b : Conditional2) → Best (k + 1) b (some b)
+      more : (k : ℕ) (b : Conditional2) → Best (k + 1) b (Some b)
       more k b = unfold Best in inr (omega arith, refl)
 
 pub tells : (s : Settings2) → Ok s (mode s) []
 unfolding ◌>>=◌ Tells told_by mode seeds_from R.start_point pick led_from R.start R.request_at R.advance_at R.between
-tells s = (refl, λ c f. seeds s c 6 0 c c none (c ∷ []) refl (unfold Best in inl (refl, refl)) (record { leads = refl; first = refl; long = lit≤ tt }))
+tells s = (refl, λ c f. seeds s c 6 0 c c None (c ∷ []) refl (unfold Best in inl (refl, refl)) (record { leads = refl; first = refl; long = lit≤ tt }))
 
 -- ---- a history of the rules is a path of the run
 asked_said : (s : Settings2) (g : List Conditional2) (p : Pair) → R.request s (after s g) ≡ Point p → told s g ≡ asks p

@@ -1,7 +1,6 @@
 -- `mode_from_seed` and `mode` of population_focei_2d.rs, to be held beside them line by line. `inverse_positive`, `product` and `dot` are
 -- matrix's.
-use Rattle.std.specs.Prelude.{Bool, true, ◌&&◌, ◌||◌, List, [], ◌∷◌, ℕ, ◌-◌, ◌*◌, ◌^◌, Float}
-use Rattle.std.proofs.Math.Option.{Option, none, some}
+use Rattle.std.specs.Prelude.{Bool, true, ◌&&◌, ◌||◌, List, [], ◌∷◌, ℕ, ◌-◌, ◌*◌, ◌^◌, Float, Option, None, Some}
 use Rattle.std.specs.Float.Ieee.{lt, le, eq, neg}
 use Rattle.float64.specs.Arithmetic.{◌+ᶠ◌, ◌-ᶠ◌, ◌*ᶠ◌, word, half as one_half}
 use Rattle.float64.specs.Float64.{abs, max, clamp}
@@ -27,8 +26,8 @@ ok_or (Inverse.some inverse det) n = done inverse
 ok_or Inverse.none n = stop n
 
 abbrev pub is_none_or : {A : Type 0} → Option A → (A → Bool) → Bool
-is_none_or none p = true
-is_none_or (some a) p = p a
+is_none_or None p = true
+is_none_or (Some a) p = p a
 
 abbrev pub nowhere : Conditional2
 nowhere = record {
@@ -40,8 +39,8 @@ nowhere = record {
 
 -- of a best candidate, which there is after six starts
 abbrev pub unwrap : Option Conditional2 → Conditional2
-unwrap none = nowhere
-unwrap (some a) = a
+unwrap None = nowhere
+unwrap (Some a) = a
 
 -- ---- its literals
 abbrev pub «1e-3» : Float
@@ -82,7 +81,7 @@ mode_from_seed s initial = do
       inverse ← ok_or (inverse_positive information) 16
       let direction = product inverse score
       let joint_current = joint s current
-      accepted ← for 22 none λ reduction accepted. do
+      accepted ← for 22 None λ reduction accepted. do
         let scale = scale_of reduction
         let trial_eta = of (clamp (current.eta.first -ᶠ scale *ᶠ at direction 0) (neg limit) limit)
             (clamp (current.eta.second -ᶠ scale *ᶠ at direction 1) (neg limit) limit)
@@ -90,8 +89,8 @@ mode_from_seed s initial = do
           let decrease = dot score (pair (current.eta.first -ᶠ trial_eta.first) (current.eta.second -ᶠ trial_eta.second))
           when le decrease (word 0) then done (next accepted) else (do
             trial ← subject trial_eta
-            when le (joint s trial) (joint_current -ᶠ «1e-4» *ᶠ decrease) then done (break (some trial)) else done (next accepted)))
-      elim accepted [ some trial ↦ done (next trial) | none ↦ done (break current) ])
+            when le (joint s trial) (joint_current -ᶠ «1e-4» *ᶠ decrease) then done (break (Some trial)) else done (next accepted)))
+      elim accepted [ Some trial ↦ done (next trial) | None ↦ done (break current) ])
   let prior_score = product (precision s) (vector current.eta)
   let norm = max (abs (current.score.first +ᶠ at prior_score 0)) (abs (current.score.second +ᶠ at prior_score 1))
   let edge = limit -ᶠ «1e-6»
@@ -105,12 +104,12 @@ mode s = do
   population ← subject zero
   let half = one_half *ᶠ s.eta_bound
   let starts = s.warm ∷ zero ∷ of half (word 0) ∷ of (neg half) (word 0) ∷ of (word 0) half ∷ of (word 0) (neg half) ∷ []
-  best ← each starts none λ start (best : Option Conditional2). do
+  best ← each starts None λ start (best : Option Conditional2). do
     candidate ← mode_from_seed s start
     elim best [
-      | some previous ↦ err (lt «1e-3»
+      | Some previous ↦ err (lt «1e-3»
           (max (abs (candidate.eta.first -ᶠ previous.eta.first)) (abs (candidate.eta.second -ᶠ previous.eta.second)))) 14
-      | none ↦ done tt
+      | None ↦ done tt
     ]
-    done (next (when is_none_or best (λ value. lt (joint s candidate) (joint s value)) then some candidate else best))
+    done (next (when is_none_or best (λ value. lt (joint s candidate) (joint s value)) then Some candidate else best))
   done (unwrap best, population)

@@ -1,5 +1,6 @@
 -- What was saved is there: where as many words are lent as a state has, the first of them are the state's and those beyond stay (`saved_first`), and loading them gives the state back
 -- (`back`). Floats must be binary64's own, which a state's are, and counts a u32's. Assumes nothing.
+use Rattle.std.specs.Prelude.{Float, None, Option, Some}
 use mathlib.Core.Path.{◌≡◌, refl, sym, ap, ◌∙◌}
 use mathlib.Core.Bool.{Bool, true, false}
 use mathlib.Core.List.{List, [], ◌∷◌, ◌++◌}
@@ -26,8 +27,6 @@ use Rattle.mode_2d.specs.declared.population_focei_2d.Stage2.TheVariants.{Zero, 
 use Rattle.mode_2d.specs.declared.population_focei_2d.Search2.{Search2}
 use Rattle.state_words.specs.SearchWords as one
 use Rattle.state_words.specs.SearchWords2 as two
-use Rattle.subject.specs.declared.AdditiveSd.{AdditiveSd}
-use Rattle.subject.specs.declared.AdditiveSd.TheVariants.{Own, Override}
 use Rattle.search.specs.Subjects.{one_of, two_of, has_additive, additive_word}
 use Rattle.search.specs.declared.SubjectSearch.{SubjectSearch}
 use Rattle.search.specs.declared.SubjectSearch.TheVariants.{One, Two}
@@ -245,9 +244,9 @@ search2_back x rest f =
     (ap {B = Answer Search2} (λ (y : Search2). given y) (sym (search2_of x rest f))))))))
 
 -- ---- a state
-unfoldable pub FitsAdditive : AdditiveSd → Type 0
-FitsAdditive Own = Unit
-FitsAdditive (Override x) = Fits x
+unfoldable pub FitsAdditive : Option Float → Type 0
+FitsAdditive None = Unit
+FitsAdditive (Some x) = Fits x
 
 pub record FitsState (s : State) : Type 0 where
   pub theta : FitsPair s.parameters.theta
@@ -260,14 +259,14 @@ pub record FitsState (s : State) : Type 0 where
   pub one : FitsSearch (one_of s.progress.search)
   pub two : FitsSearch2 (two_of s.progress.search)
 
-additive_back : (a : AdditiveSd) → FitsAdditive a → pick (eqb (has_additive a) 1) (Override (word (additive_word a))) Own ≡ a
+additive_back : (a : Option Float) → FitsAdditive a → pick (eqb (has_additive a) 1) (Some (word (additive_word a))) None ≡ a
 unfolding pick FitsAdditive
-additive_back Own f = refl
-additive_back (Override x) f = ap Override (float_back x f)
+additive_back None f = refl
+additive_back (Some x) f = ap Some (float_back x f)
 
-additive_low : (a : AdditiveSd) → ltb 1 (has_additive a) ≡ false
-additive_low Own = refl
-additive_low (Override x) = refl
+additive_low : (a : Option Float) → ltb 1 (has_additive a) ≡ false
+additive_low None = refl
+additive_low (Some x) = refl
 
 flag_back : (b : Bool) → eqb (flag b) 1 ≡ b
 unfolding flag pick

@@ -1,4 +1,5 @@
 -- The ways through the code: one law for each, over plain variables. Assumes nothing.
+use Rattle.std.specs.Prelude.{None, Option, Some}
 use mathlib.Core.Path.{◌≡◌, refl, sym, ap, subst, ◌∙◌}
 use mathlib.Core.Bool.{Bool, false}
 use mathlib.Core.List.{List, [], ◌∷◌, ◌++◌}
@@ -14,18 +15,12 @@ use Rattle.float64.specs.Pick.{yes, no, cases}
 use Rattle.mode.specs.declared.population_focei.Search.{Search}
 use Rattle.mode_2d.specs.declared.population_focei_2d.Search2.{Search2}
 use Rattle.state_words.specs.SearchWords as one
-use Rattle.state_words.specs.declared.one_effect.Loaded.{Loaded}
-use Rattle.state_words.specs.declared.one_effect.Loaded.TheVariants as Loads
 use Rattle.state_words.specs.SearchWords2 as two
-use Rattle.state_words.specs.declared.two_effects.Loaded2.{Loaded2}
-use Rattle.state_words.specs.declared.two_effects.Loaded2.TheVariants as Loads2
-use Rattle.subject.specs.declared.AdditiveSd.TheVariants.{Own, Override}
 use Rattle.setup.specs.declared.Parameters.{Parameters}
 use Rattle.search.specs.Subjects.{has_additive, additive_word}
 use Rattle.search.specs.declared.SubjectSearch.{SubjectSearch}
 use Rattle.search.specs.declared.SubjectSearch.TheVariants.{One, Two}
 use Rattle.session.specs.declared.State.{State}
-use Rattle.state_words.specs.declared.LoadedState.TheVariants.{Given, None}
 use Rattle.state_words.specs.SessionWords.{at, bits, flag, state_at, loaded_search, with_search, answer, objective_words, progress_words, order_words, search_words, state_words, put_from}
 use Rattle.state_words.specs.SessionWords.{saved_state}
 
@@ -58,39 +53,39 @@ module _ (words : List ℕ) where
       let all = take_all (length words - 19) (drop 19 words) (omega (arith, length-drop 19 words)) in
       q ∙ ap (through (state_at words)) (p ∙ ap (loaded_search (at words 18)) all)
 
-  module _ {r : Loaded} (h : at words 18 ≡ 1) (a : one.answer r ≡ one.loaded lent) where
-    as_one : {v : Loaded} → r ≡ v → through One (one.answer v) ≡ loaded_search (at words 18) lent
+  module _ {r : Option Search} (h : at words 18 ≡ 1) (a : one.answer r ≡ one.loaded lent) where
+    as_one : {v : Option Search} → r ≡ v → through One (one.answer v) ≡ loaded_search (at words 18) lent
     unfolding loaded_search
     as_one t = yes _ (eq-eqb _ _ h) (ap (through One) (ap one.answer (sym t) ∙ a))
 
-    pub one_given : {x : Search} {s : State} → r ≡ Loads.Given x → s ≡ state_at words (One x) → answer (Given s) ≡ with_search words
+    pub one_given : {x : Search} {s : State} → r ≡ Some x → s ≡ state_at words (One x) → answer (Some s) ≡ with_search words
     unfolding answer through one.answer
     one_given t p = searched (as_one t) (ap {B = Answer State} (λ (s : State). given s) p)
 
-    pub one_none : r ≡ Loads.None → answer None ≡ with_search words
+    pub one_none : r ≡ None → answer None ≡ with_search words
     unfolding answer through one.answer
     one_none t = searched (as_one t) refl
 
-  module _ {r : Loaded2} (n : at words 18 ≡ 1 → ⊥) (h : at words 18 ≡ 2) (a : two.answer r ≡ two.loaded lent) where
-    as_two : {v : Loaded2} → r ≡ v → through Two (two.answer v) ≡ loaded_search (at words 18) lent
+  module _ {r : Option Search2} (n : at words 18 ≡ 1 → ⊥) (h : at words 18 ≡ 2) (a : two.answer r ≡ two.loaded lent) where
+    as_two : {v : Option Search2} → r ≡ v → through Two (two.answer v) ≡ loaded_search (at words 18) lent
     unfolding loaded_search
     as_two t = no _ (ne_eqb _ _ n) (yes _ (eq-eqb _ _ h) (ap (through Two) (ap two.answer (sym t) ∙ a)))
 
-    pub two_given : {x : Search2} {s : State} → r ≡ Loads2.Given x → s ≡ state_at words (Two x) → answer (Given s) ≡ with_search words
+    pub two_given : {x : Search2} {s : State} → r ≡ Some x → s ≡ state_at words (Two x) → answer (Some s) ≡ with_search words
     unfolding answer through two.answer
     two_given t p = searched (as_two t) (ap {B = Answer State} (λ (s : State). given s) p)
 
-    pub two_none : r ≡ Loads2.None → answer None ≡ with_search words
+    pub two_none : r ≡ None → answer None ≡ with_search words
     unfolding answer through two.answer
     two_none t = searched (as_two t) refl
 
 -- ---- the words before the progress's own, with no override and with one
 module _ (awaits : Bool) (p : Parameters) {f t u o : ℕ} (ef : f ≡ flag awaits) (et : t ≡ bits p.theta.first) (eu : u ≡ bits p.theta.second) (eo : o ≡ bits p.omega) where
-  pub objective_own : p.additive_sd ≡ Own → f ∷ t ∷ u ∷ o ∷ 0 ∷ 0 ∷ [] ≡ objective_words awaits p
+  pub objective_own : p.additive_sd ≡ None → f ∷ t ∷ u ∷ o ∷ 0 ∷ 0 ∷ [] ≡ objective_words awaits p
   unfolding objective_words
   objective_own q = let q' = sym q in λ d. ef d ∷ et d ∷ eu d ∷ eo d ∷ has_additive (q' d) ∷ additive_word (q' d) ∷ []
 
-  pub objective_override : {sd : _} {w : ℕ} → p.additive_sd ≡ Override sd → w ≡ bits sd → f ∷ t ∷ u ∷ o ∷ 1 ∷ w ∷ [] ≡ objective_words awaits p
+  pub objective_override : {sd : _} {w : ℕ} → p.additive_sd ≡ Some sd → w ≡ bits sd → f ∷ t ∷ u ∷ o ∷ 1 ∷ w ∷ [] ≡ objective_words awaits p
   unfolding objective_words
   objective_override q ew =
       let q' = sym q in

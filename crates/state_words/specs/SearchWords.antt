@@ -1,5 +1,5 @@
 -- A search as twenty words: the words of a search, and the search of some words, or 19 where they are none.
-use Rattle.std.specs.Prelude.{Bool, List, [], ◌∷◌, ◌++◌, ℕ, ◌+◌, ltb, eqb, get_or, length, Float}
+use Rattle.std.specs.Prelude.{Bool, List, [], ◌∷◌, ◌++◌, ℕ, ◌+◌, ltb, eqb, get_or, length, Float, None, Option, Some}
 use Rattle.std.specs.Float.{binary64}
 use Rattle.std.specs.Float.Ieee.{to_bits}
 use Rattle.float64.specs.Arithmetic.{word}
@@ -9,8 +9,6 @@ use Rattle.mode.specs.declared.population_focei.Conditional.{Conditional}
 use Rattle.mode.specs.declared.population_focei.Stage.{Stage}
 use Rattle.mode.specs.declared.population_focei.Stage.TheVariants.{Grid, Warm, Secant, Halving}
 use Rattle.mode.specs.declared.population_focei.Search.{Search}
-use Rattle.state_words.specs.declared.one_effect.Loaded.{Loaded}
-use Rattle.state_words.specs.declared.one_effect.Loaded.TheVariants.{Given, None}
 
 abbrev pub point_of : Float → Float → Float → Float → Conditional
 point_of eta nll score information = record { eta = eta; nll = nll; score = score; information = information }
@@ -72,6 +70,6 @@ unfoldable pub loaded : List ℕ → Answer Search
 loaded words = pick (ltb (length words) search_size) (refused 19) (loaded_lent words)
 
 -- what the code's answer says
-unfoldable pub answer : Loaded → Answer Search
-answer (Given x) = given x
+unfoldable pub answer : Option Search → Answer Search
+answer (Some x) = given x
 answer None = refused 19

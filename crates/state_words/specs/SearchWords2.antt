@@ -1,5 +1,5 @@
 -- A search with two effects as twenty-five words: the words of a search, and the search of some words, or 19 where they are none.
-use Rattle.std.specs.Prelude.{Bool, true, false, List, [], ◌∷◌, ◌++◌, ℕ, ◌+◌, ◌-◌, ltb, eqb, get_or, length, Float}
+use Rattle.std.specs.Prelude.{Bool, true, false, List, [], ◌∷◌, ◌++◌, ℕ, ◌+◌, ◌-◌, ltb, eqb, get_or, length, Float, None, Option, Some}
 use Rattle.std.specs.Float.{binary64}
 use Rattle.std.specs.Float.Ieee.{to_bits}
 use Rattle.float64.specs.Arithmetic.{word}
@@ -10,8 +10,6 @@ use Rattle.mode_2d.specs.declared.population_focei_2d.Conditional2.{Conditional2
 use Rattle.mode_2d.specs.declared.population_focei_2d.Stage2.{Stage2}
 use Rattle.mode_2d.specs.declared.population_focei_2d.Stage2.TheVariants.{Zero, Start, Trial, Found, Halted}
 use Rattle.mode_2d.specs.declared.population_focei_2d.Search2.{Search2}
-use Rattle.state_words.specs.declared.two_effects.Loaded2.{Loaded2}
-use Rattle.state_words.specs.declared.two_effects.Loaded2.TheVariants.{Given, None}
 
 -- ---- a search's words
 abbrev pub bits : Float → ℕ
@@ -97,6 +95,6 @@ unfoldable pub loaded : List ℕ → Answer Search2
 loaded words = pick (ltb (length words) search_size) (refused 19) (loaded_lent words)
 
 -- what the code's answer says
-unfoldable pub answer : Loaded2 → Answer Search2
-answer (Given x) = given x
+unfoldable pub answer : Option Search2 → Answer Search2
+answer (Some x) = given x
 answer None = refused 19

@@ -1,5 +1,5 @@
 -- A session's state as `state_size` words: the words of a state, and the state of some words, or 19 where they are none.
-use Rattle.std.specs.Prelude.{Bool, List, [], ◌∷◌, ◌++◌, ℕ, ◌+◌, ltb, eqb, get_or, set, length, drop, Float}
+use Rattle.std.specs.Prelude.{Bool, List, [], ◌∷◌, ◌++◌, ℕ, ◌+◌, ltb, eqb, get_or, set, length, drop, Float, None, Option, Some}
 use Rattle.std.specs.Float.{binary64}
 use Rattle.std.specs.Float.Ieee.{to_bits}
 use Rattle.float64.specs.Arithmetic.{word}
@@ -8,16 +8,12 @@ use Rattle.float64.specs.Answer.{Answer, given, refused, through}
 use Rattle.state_words.specs.SearchWords as one
 use Rattle.state_words.specs.SearchWords2 as two
 use Rattle.cache.specs.declared.CacheOrder.{CacheOrder}
-use Rattle.subject.specs.declared.AdditiveSd.{AdditiveSd}
-use Rattle.subject.specs.declared.AdditiveSd.TheVariants.{Own, Override}
 use Rattle.setup.specs.declared.Parameters.{Parameters}
 use Rattle.search.specs.Subjects.{has_additive, additive_word}
 use Rattle.search.specs.declared.Progress.{Progress}
 use Rattle.search.specs.declared.SubjectSearch.{SubjectSearch}
 use Rattle.search.specs.declared.SubjectSearch.TheVariants.{One, Two}
 use Rattle.session.specs.declared.State.{State}
-use Rattle.state_words.specs.declared.LoadedState.{LoadedState}
-use Rattle.state_words.specs.declared.LoadedState.TheVariants.{Given, None}
 
 -- how many words a state has
 abbrev pub state_size : ℕ
@@ -27,8 +23,8 @@ state_size = 44
 abbrev pub at : List ℕ → ℕ → ℕ
 at words i = get_or words i 0
 
-unfoldable pub additive_at : List ℕ → AdditiveSd
-additive_at words = pick (eqb (at words 4) 1) (Override (word (at words 5))) Own
+unfoldable pub additive_at : List ℕ → Option Float
+additive_at words = pick (eqb (at words 4) 1) (Some (word (at words 5))) None
 
 unfoldable pub parameters_at : List ℕ → Parameters
 parameters_at words = record { theta = two.pair_at words 1; omega = word (at words 3); additive_sd = additive_at words }
@@ -68,8 +64,8 @@ loaded_state words =
     (with_search words)))
 
 -- what the code's answer says
-unfoldable pub answer : LoadedState → Answer State
-answer (Given state) = given state
+unfoldable pub answer : Option State → Answer State
+answer (Some state) = given state
 answer None = refused 19
 
 -- ---- a state's words

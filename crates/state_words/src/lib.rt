@@ -19,22 +19,12 @@ pub mod two_effects;
 
 use cache::CacheOrder;
 use matrix::Pair;
-use one_effect::Loaded;
 use search::{Progress, SubjectSearch};
 use session::State;
 use setup::Parameters;
-use subject::AdditiveSd;
-use two_effects::Loaded2;
 
 // How many words a state has.
 pub const STATE_WORDS: usize = 44;
-
-// The answer of load: the state that the words stand for, or that they are no state.
-#[derive(Clone, Copy)]
-pub enum LoadedState {
-    Given(State),
-    None,
-}
 
 // ---- the state of words
 
@@ -49,14 +39,14 @@ fn pair_at(words: &[u64], i: usize) -> Pair
     }
 }
 
-fn additive_at(words: &[u64]) -> AdditiveSd
+fn additive_at(words: &[u64]) -> Option<f64>
     requires { state_size ≤ length words.now }
     ensures { result ≡ additive_at words.now }
 {
     if words[4] == 1 {
-        return AdditiveSd::Override(float64::from_word(words[5]));
+        return Some(float64::from_word(words[5]));
     }
-    AdditiveSd::Own
+    None
 }
 
 fn parameters_at(words: &[u64]) -> Parameters
@@ -120,46 +110,46 @@ fn state_at(words: &[u64], search: SubjectSearch) -> State
 }
 
 // The state with its search, by the number of effects that it has.
-fn with_search(words: &[u64]) -> LoadedState
+fn with_search(words: &[u64]) -> Option<State>
     requires { state_size ≤ length words.now }
     ensures { answer result ≡ with_search words.now }
 {
     if words[18] == 1 {
         match one_effect::load(&words[19..]) {
-            Loaded::Given(x) => {
-                return LoadedState::Given(state_at(words, SubjectSearch::One(x)));
+            Some(x) => {
+                return Some(state_at(words, SubjectSearch::One(x)));
             }
-            Loaded::None => {
-                return LoadedState::None;
+            None => {
+                return None;
             }
         }
     }
     if words[18] == 2 {
         match two_effects::load(&words[19..]) {
-            Loaded2::Given(x) => {
-                return LoadedState::Given(state_at(words, SubjectSearch::Two(x)));
+            Some(x) => {
+                return Some(state_at(words, SubjectSearch::Two(x)));
             }
-            Loaded2::None => {
-                return LoadedState::None;
+            None => {
+                return None;
             }
         }
     }
-    LoadedState::None
+    None
 }
 
 // The state that lent words stand for. They are no state where there are too few, where a bool is above 1,
 // where the search has neither one effect nor two, or where its words are no search.
-pub fn load(words: &[u64]) -> LoadedState
+pub fn load(words: &[u64]) -> Option<State>
     ensures { answer result ≡ loaded_state words.now }
 {
     if words.len() < STATE_WORDS {
-        return LoadedState::None;
+        return None;
     }
     if words[0] > 1 {
-        return LoadedState::None;
+        return None;
     }
     if words[4] > 1 {
-        return LoadedState::None;
+        return None;
     }
     with_search(words)
 }
@@ -185,8 +175,8 @@ fn objective_words(awaits: bool, parameters: Parameters) -> [u64; 6]
     let omega = float64::to_word(parameters.omega);
     let additive_sd = parameters.additive_sd;
     match additive_sd {
-        AdditiveSd::Own => [awaits_word, theta0, theta1, omega, 0, 0],
-        AdditiveSd::Override(sd) => [awaits_word, theta0, theta1, omega, 1, float64::to_word(sd)],
+        None => [awaits_word, theta0, theta1, omega, 0, 0],
+        Some(sd) => [awaits_word, theta0, theta1, omega, 1, float64::to_word(sd)],
     }
 }
 

@@ -10,13 +10,6 @@ use mode::population_focei::{Conditional, Search, Stage};
 // How many words a search has.
 pub const SEARCH_WORDS: usize = 20;
 
-// The answer of load: the search that twenty words stand for, or that they are no search.
-#[derive(Clone, Copy)]
-pub enum Loaded {
-    Given(Search),
-    None,
-}
-
 fn stage_of(word: u64) -> Stage
     ensures { result ≡ stage_of word }
 {
@@ -79,18 +72,18 @@ fn words_of(c: Conditional) -> [u64; 4]
 // The search that twenty words stand for. They are no search where the stage is above 3, the count does not
 // fit in a u32, or the fall is above 1.
 #[tactic(auto, unfolding(crate::specs::SearchWords::loaded_lent, crate::specs::SearchWords::answer, crate::specs::SearchWords::search_of, float64::specs::Pick::pick))]
-fn load_lent(words: &[u64]) -> Loaded
+fn load_lent(words: &[u64]) -> Option<Search>
     requires { search_size ≤ length words.now }
     ensures { answer result ≡ loaded_lent words.now }
 {
     if words[0] > 3 {
-        return Loaded::None;
+        return None;
     }
     if words[1] > 4294967295 {
-        return Loaded::None;
+        return None;
     }
     if words[7] > 1 {
-        return Loaded::None;
+        return None;
     }
     let count = words[1] as u32;
     let fall = words[7] == 1;
@@ -98,7 +91,7 @@ fn load_lent(words: &[u64]) -> Loaded
     let left = conditional_at(words, 8);
     let right = conditional_at(words, 12);
     let best = conditional_at(words, 16);
-    Loaded::Given(Search {
+    Some(Search {
         stage: stage_of(words[0]),
         count,
         first: float64::from_word(words[2]),
@@ -111,11 +104,11 @@ fn load_lent(words: &[u64]) -> Loaded
 }
 
 // The search that the first twenty of some words stand for; where there are fewer they are no search.
-pub fn load(words: &[u64]) -> Loaded
+pub fn load(words: &[u64]) -> Option<Search>
     ensures { answer result ≡ loaded words.now }
 {
     if words.len() < SEARCH_WORDS {
-        return Loaded::None;
+        return None;
     }
     load_lent(words)
 }

@@ -12,13 +12,6 @@ use mode_2d::population_focei_2d::{Conditional2, Search2, Stage2};
 // How many words a search has.
 pub const SEARCH_WORDS: usize = 25;
 
-// The answer of load: the search that twenty-five words stand for, or that they are no search.
-#[derive(Clone, Copy)]
-pub enum Loaded2 {
-    Given(Search2),
-    None,
-}
-
 // Whether a word is no stage's. A search refuses with 13, 14 and 16 alone.
 #[tactic(auto, unfolding(crate::specs::SearchWords2::is_no_stage, float64::specs::Pick::pick))]
 fn is_no_stage(word: u64) -> bool
@@ -108,27 +101,27 @@ fn words_of(c: Conditional2) -> [u64; 9]
 
 // The search that twenty-five words stand for. They are no search where the stage is none, or where the seed,
 // the round or the reduction does not fit in a u32.
-fn load_lent(words: &[u64]) -> Loaded2
+fn load_lent(words: &[u64]) -> Option<Search2>
     requires { search_size ≤ length words.now }
     ensures { answer result ≡ loaded_lent words.now }
 {
     if is_no_stage(words[0]) {
-        return Loaded2::None;
+        return None;
     }
     if words[1] > 4294967295 {
-        return Loaded2::None;
+        return None;
     }
     if words[2] > 4294967295 {
-        return Loaded2::None;
+        return None;
     }
     if words[3] > 4294967295 {
-        return Loaded2::None;
+        return None;
     }
     let stage = stage_of(words[0]);
     let current = conditional_at(words, 4);
     let trial = super::pair_at(words, 13);
     let best = conditional_at(words, 16);
-    Loaded2::Given(Search2 {
+    Some(Search2 {
         stage,
         seed: words[1] as u32,
         round: words[2] as u32,
@@ -141,11 +134,11 @@ fn load_lent(words: &[u64]) -> Loaded2
 }
 
 // The search that the first twenty-five of some words stand for; where there are fewer they are no search.
-pub fn load(words: &[u64]) -> Loaded2
+pub fn load(words: &[u64]) -> Option<Search2>
     ensures { answer result ≡ loaded words.now }
 {
     if words.len() < SEARCH_WORDS {
-        return Loaded2::None;
+        return None;
     }
     load_lent(words)
 }

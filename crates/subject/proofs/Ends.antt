@@ -1,4 +1,5 @@
 -- How a subject's evaluation ends, and that it writes to its trial block alone (specs/Claim.antt). Assumes nothing.
+use Rattle.std.specs.Prelude.{Err, None, Ok, Option, Some}
 use Rattle.std.proofs.Common.{◌≡◌, ℕ, zero, suc, ◌+◌, ◌*◌, ◌^◌, ◌<◌, ◌≤◌, false, eqb, ◌⊎◌, List, [], ◌∷◌, length, get_or, set, sym, refl, ap, ◌∙◌, subst, inl, inr, ⊎_elim, mod-eq_of_lt, arith, length-set, get_or-set_other, get_or-set_same}
 use lib.Ieee.{Float}
 use Rattle.float64.specs.Answer.{Answer, given, refused, through}
@@ -9,15 +10,12 @@ use Rattle.likelihood.specs.RowTerms.{row_terms, finite_terms}
 use Rattle.likelihood.specs.declared.population_focei.Observation.{Observation}
 use Rattle.subject.specs.Claim.{reply_rows, EveryEvaluation}
 use Rattle.subject.specs.Reply.{row_length, row_at, column, side, prediction_row, written}
-use Rattle.subject.specs.Subject.{next, begin, at_observation, with_terms, add_row, with_row, add_row2, add_row_at, Evaluating, evaluating, add_at, add_to, add_after, add_observation, add_observations}
+use Rattle.subject.specs.Subject.{next, begin, at_observation, with_terms, add_row, with_row, add_row2, add_row_at, Evaluating, evaluating, add_at, add_to, add_after, add_observation, add_observations, Evaluation}
 use Rattle.subject.specs.Subject.{has_nonfinite_sum, finish}
 use Rattle.subject.specs.declared.Trial.{Trial}
 use Rattle.subject.specs.declared.Sums.{Sums}
-use Rattle.subject.specs.declared.Evaluation.{Evaluation}
-use Rattle.subject.specs.declared.Evaluation.TheVariants.{Running, Refused, RefusedAt}
-use Rattle.subject.specs.declared.RowAt.{RowAt}
-use Rattle.subject.specs.declared.RowAt.TheVariants.{Word, Missing}
 use Rattle.subject.specs.declared.PredictionRow.{PredictionRow}
+use Rattle.subject.specs.declared.EvaluationError.TheVariants.{Refused, RefusedAt}
 
 -- ---- the numbers
 abbrev Row : ℕ → Type 0
@@ -50,9 +48,9 @@ two_effects o f f-eta = both ByRow _ (eleven _) (both ByRow _ (eleven _) (both B
 
 -- ---- an evaluation after k observations
 unfoldable Good : ℕ → Evaluation → Type 0
-Good k (Running s) = s.observation ≡ k
-Good k (Refused n) = (n ≡ 8) ⊎ (n ≡ 9)
-Good k (RefusedAt n i) = Row n × (i < k)
+Good k (Ok s) = s.observation ≡ k
+Good k (Err (Refused n)) = (n ≡ 8) ⊎ (n ≡ 9)
+Good k (Err (RefusedAt n i)) = Row n × (i < k)
 
 begun_good : (reply : List ℕ) (width effects budget : ℕ) → Good 0 (begin reply width effects budget)
 unfolding begin Good
@@ -72,7 +70,7 @@ module _ (k : ℕ) (small : k + 1 < 2 ^ 64) (sums : Sums) (at : sums.observation
   unfolding add_row_at add_row add_row2 with_terms with_row
   row_good o trial reply p = both (Good (k + 1)) _ (answered _ (λ x. refl) _ (two_effects _ _ _)) (answered _ (λ x. refl) _ (one_effect _ _ _ _))
 
-  missing_good : Good (k + 1) (RefusedAt 10 sums.observation)
+  missing_good : Good (k + 1) (Err (RefusedAt 10 sums.observation))
   unfolding Good
   missing_good = (inl refl, omega (arith, at))
 
@@ -136,20 +134,20 @@ module _ (trial : Trial) (reply : List ℕ) (n : ℕ) (few : n < 2 ^ 64) where
     long : length y.work ≡ length x.work
 
   module _ (k : ℕ) (below : k < n) (o : Observation) (work : List ℕ) where
-    running : (sums : Sums) → sums.observation ≡ k → (r : RowAt) → After k (k + 1) (evaluating (Running sums) work) (add_at sums o trial reply work r)
+    running : (sums : Sums) → sums.observation ≡ k → (r : Option ℕ) → After k (k + 1) (evaluating (Ok sums) work) (add_at sums o trial reply work r)
     unfolding add_at
-    running sums at (Word p) = record {
+    running sums at (Some p) = record {
       good = row_good k (omega arith) sums at o trial reply p;
       same = λ j out. ap (λ (i : ℕ). get_or (written trial.block i (prediction_row reply p trial.width o.output) work) j 0) at ∙ written_around trial.block k n j _ work below out;
       long = written_length trial.block sums.observation _ work;
     }
-    running sums at Missing = record { good = missing_good k (omega arith) sums at; same = λ j out. refl; long = refl }
+    running sums at None = record { good = missing_good k (omega arith) sums at; same = λ j out. refl; long = refl }
 
     one_more : (e : Evaluation) → Good k e → After k (k + 1) (evaluating e work) (add_observation trial reply o (evaluating e work))
     unfolding add_observation add_after add_to Good
-    one_more (Running sums) at = running sums at _
-    one_more (Refused m) h = record { good = h; same = λ j out. refl; long = refl }
-    one_more (RefusedAt m i) h = record { good = (h.0, omega (arith, h.1)); same = λ j out. refl; long = refl }
+    one_more (Ok sums) at = running sums at _
+    one_more (Err (Refused m)) h = record { good = h; same = λ j out. refl; long = refl }
+    one_more (Err (RefusedAt m i)) h = record { good = (h.0, omega (arith, h.1)); same = λ j out. refl; long = refl }
 
   all : (k : ℕ) (os : List Observation) (x : Evaluating) → Good k x.evaluation → k + length os ≡ n → After k n x (add_observations trial reply os x)
   all k [] x h e = record { good = subst (λ (m : ℕ). Good m x.evaluation) (omega arith) h; same = λ j out. refl; long = refl }
@@ -164,15 +162,15 @@ module _ (trial : Trial) (reply : List ℕ) (n : ℕ) (few : n < 2 ^ 64) where
 
   -- ---- where it comes to its end, each observation has its row
   abbrev Ends : List Observation → Evaluating → Type 0
-  Ends os x = (s : Sums) × ((add_observations trial reply os x).evaluation ≡ Running s)
+  Ends os x = (s : Sums) × ((add_observations trial reply os x).evaluation ≡ Ok s)
 
   -- what is refused once stays refused
-  not_refused : (os : List Observation) (m : ℕ) (work : List ℕ) → Ends os (evaluating (Refused m) work) → ⊥
+  not_refused : (os : List Observation) (m : ℕ) (work : List ℕ) → Ends os (evaluating (Err (Refused m)) work) → ⊥
   unfolding add_observation add_after
   not_refused [] m work e = let q = e.1 in let z : ◌≡◌ {A = ℕ} 0 1 = cc in omega arith
   not_refused (o ∷ os) m work e = not_refused os m work e
 
-  not_refused_at : (os : List Observation) (m i : ℕ) (work : List ℕ) → Ends os (evaluating (RefusedAt m i) work) → ⊥
+  not_refused_at : (os : List Observation) (m i : ℕ) (work : List ℕ) → Ends os (evaluating (Err (RefusedAt m i)) work) → ⊥
   unfolding add_observation add_after
   not_refused_at [] m i work e = let q = e.1 in let z : ◌≡◌ {A = ℕ} 0 1 = cc in omega arith
   not_refused_at (o ∷ os) m i work e = not_refused_at os m i work e
@@ -196,17 +194,17 @@ module _ (trial : Trial) (reply : List ℕ) (n : ℕ) (few : n < 2 ^ 64) where
       let i : trial.block + row_words * k + suc (suc (suc j)) ≡ trial.block + row_words * (k + 1) + j = omega arith in
       ap (λ (m : ℕ). get_or work m 0) i ∙ f j (omega (arith, l))
 
-  row_is : (width effects output row p : ℕ) → row_at reply width effects output row ≡ Word p → p ≡ row * row_length width effects
+  row_is : (width effects output row p : ℕ) → row_at reply width effects output row ≡ Some p → p ≡ row * row_length width effects
   unfolding row_at
   row_is width effects output row p = both Only _ (both Only _ word missing) missing
     where
-      Only : RowAt → Type 0
-      Only r = r ≡ Word p → p ≡ row * row_length width effects
+      Only : Option ℕ → Type 0
+      Only r = r ≡ Some p → p ≡ row * row_length width effects
 
-      word : Only (Word (row * row_length width effects))
+      word : Only (Some (row * row_length width effects))
       word e = cc
 
-      missing : Only Missing
+      missing : Only None
       missing e = let z : ◌≡◌ {A = ℕ} 0 1 = cc in absurd (omega arith)
 
   abbrev HasRows : ℕ → List Observation → Type 0
@@ -215,11 +213,11 @@ module _ (trial : Trial) (reply : List ℕ) (n : ℕ) (few : n < 2 ^ 64) where
 
   with_one : (k : ℕ) (o : Observation) (os : List Observation) → HasRows (k + 1) os → (sums : Sums) (work : List ℕ) → sums.observation ≡ k → k + length (o ∷ os) ≡ n → trial.block + row_words * n ≤
       length work
-      → (r : RowAt) → ((p : ℕ) → r ≡ Word p → p ≡ o.row * row_length trial.width trial.effects) → Ends os (add_at sums o trial reply work r) → Rows k (o ∷ os)
+      → (r : Option ℕ) → ((p : ℕ) → r ≡ Some p → p ≡ o.row * row_length trial.width trial.effects) → Ends os (add_at sums o trial reply work r) → Rows k (o ∷ os)
       (add_observations trial reply os (add_at sums o trial reply work r)).work
   unfolding add_at
-  with_one k o os rest sums work at e room Missing is r = absurd (not_refused_at os 10 sums.observation work r)
-  with_one k o os rest sums work at e room (Word p) is r =
+  with_one k o os rest sums work at e room None is r = absurd (not_refused_at os 10 sums.observation work r)
+  with_one k o os rest sums work at e room (Some p) is r =
       let row = prediction_row reply p trial.width o.output in
       let v = written trial.block sums.observation row work in
       let same_place : v ≡ written trial.block k row work = ap (λ (i : ℕ). written trial.block i row work) at in
@@ -237,38 +235,38 @@ module _ (trial : Trial) (reply : List ℕ) (n : ℕ) (few : n < 2 ^ 64) where
   has_rows : (k : ℕ) (os : List Observation) → HasRows k os
   unfolding Good add_observation add_after add_to
   has_rows k [] e work g s room r = λ j l. absurd (omega (arith, l))
-  has_rows k (o ∷ os) (Running sums) work g s room r =
+  has_rows k (o ∷ os) (Ok sums) work g s room r =
       with_one k o os (has_rows (k + 1) os) sums work g s room (row_at reply trial.width trial.effects o.output o.row)
       (λ p q. row_is trial.width trial.effects o.output o.row p q) r
-  has_rows k (o ∷ os) (Refused m) work g s room r = absurd (not_refused (o ∷ os) m work r)
-  has_rows k (o ∷ os) (RefusedAt m i) work g s room r = absurd (not_refused_at (o ∷ os) m i work r)
+  has_rows k (o ∷ os) (Err (Refused m)) work g s room r = absurd (not_refused (o ∷ os) m work r)
+  has_rows k (o ∷ os) (Err (RefusedAt m i)) work g s room r = absurd (not_refused_at (o ∷ os) m i work r)
 
 -- ---- the end
-pub finite_sums : (e : Evaluation) (s : Sums) → finish e ≡ Running s → has_nonfinite_sum s ≡ false
+pub finite_sums : (e : Evaluation) (s : Sums) → finish e ≡ Ok s → has_nonfinite_sum s ≡ false
 unfolding finish
-finite_sums (Running t) s q = cases (λ (z : Evaluation). z ≡ Running s → has_nonfinite_sum s ≡ false) (has_nonfinite_sum t) (λ h w. cc) (λ h w. cc) q
-finite_sums (Refused n) s q = cc
-finite_sums (RefusedAt n i) s q = cc
+finite_sums (Ok t) s q = cases (λ (z : Evaluation). z ≡ Ok s → has_nonfinite_sum s ≡ false) (has_nonfinite_sum t) (λ h w. cc) (λ h w. cc) q
+finite_sums (Err (Refused n)) s q = cc
+finite_sums (Err (RefusedAt n i)) s q = cc
 
-still_running : (e : Evaluation) (s : Sums) → finish e ≡ Running s → (t : Sums) × (e ≡ Running t)
+still_running : (e : Evaluation) (s : Sums) → finish e ≡ Ok s → (t : Sums) × (e ≡ Ok t)
 unfolding finish
-still_running (Running t) s q = (t, refl)
-still_running (Refused n) s q = let z : ◌≡◌ {A = ℕ} 0 1 = cc in absurd (omega arith)
-still_running (RefusedAt n i) s q = let z : ◌≡◌ {A = ℕ} 0 1 = cc in absurd (omega arith)
+still_running (Ok t) s q = (t, refl)
+still_running (Err (Refused n)) s q = let z : ◌≡◌ {A = ℕ} 0 1 = cc in absurd (omega arith)
+still_running (Err (RefusedAt n i)) s q = let z : ◌≡◌ {A = ℕ} 0 1 = cc in absurd (omega arith)
 
-plain_numbers : (k : ℕ) (e : Evaluation) (n : ℕ) → Good k e → finish e ≡ Refused n → (n ≡ 8) ⊎ ((n ≡ 9) ⊎ (n ≡ 12))
+plain_numbers : (k : ℕ) (e : Evaluation) (n : ℕ) → Good k e → finish e ≡ Err (Refused n) → (n ≡ 8) ⊎ ((n ≡ 9) ⊎ (n ≡ 12))
 unfolding finish Good
-plain_numbers k (Running t) n g q = cases (λ (z : Evaluation). z ≡ Refused n → (n ≡ 8) ⊎ ((n ≡ 9) ⊎ (n ≡ 12))) (has_nonfinite_sum t) (λ h w. inr (inr cc))
+plain_numbers k (Ok t) n g q = cases (λ (z : Evaluation). z ≡ Err (Refused n) → (n ≡ 8) ⊎ ((n ≡ 9) ⊎ (n ≡ 12))) (has_nonfinite_sum t) (λ h w. inr (inr cc))
     (λ h w. let z : ◌≡◌ {A = ℕ} 0 1 = cc in absurd (omega arith)) q
-plain_numbers k (Refused m) n g q = ⊎_elim (λ (h : m ≡ 8). inl cc) (λ (h : m ≡ 9). inr (inl cc)) g
-plain_numbers k (RefusedAt m i) n g q = let z : ◌≡◌ {A = ℕ} 0 1 = cc in absurd (omega arith)
+plain_numbers k (Err (Refused m)) n g q = ⊎_elim (λ (h : m ≡ 8). inl cc) (λ (h : m ≡ 9). inr (inl cc)) g
+plain_numbers k (Err (RefusedAt m i)) n g q = let z : ◌≡◌ {A = ℕ} 0 1 = cc in absurd (omega arith)
 
-row_numbers : (k : ℕ) (e : Evaluation) (n i : ℕ) → Good k e → finish e ≡ RefusedAt n i → Row n × (i < k)
+row_numbers : (k : ℕ) (e : Evaluation) (n i : ℕ) → Good k e → finish e ≡ Err (RefusedAt n i) → Row n × (i < k)
 unfolding finish Good
-row_numbers k (Running t) n i g q = cases (λ (z : Evaluation). z ≡ RefusedAt n i → Row n × (i < k)) (has_nonfinite_sum t) (λ h w. let z : ◌≡◌ {A = ℕ} 0 1 = cc in absurd (omega arith))
+row_numbers k (Ok t) n i g q = cases (λ (z : Evaluation). z ≡ Err (RefusedAt n i) → Row n × (i < k)) (has_nonfinite_sum t) (λ h w. let z : ◌≡◌ {A = ℕ} 0 1 = cc in absurd (omega arith))
     (λ h w. let z : ◌≡◌ {A = ℕ} 0 1 = cc in absurd (omega arith)) q
-row_numbers k (Refused m) n i g q = let z : ◌≡◌ {A = ℕ} 0 1 = cc in absurd (omega arith)
-row_numbers k (RefusedAt m j) n i g q = let a : m ≡ n = cc in let b : j ≡ i = cc in (subst Row a g.0, subst (λ (t : ℕ). t < k) b g.1)
+row_numbers k (Err (Refused m)) n i g q = let z : ◌≡◌ {A = ℕ} 0 1 = cc in absurd (omega arith)
+row_numbers k (Err (RefusedAt m j)) n i g q = let a : m ≡ n = cc in let b : j ≡ i = cc in (subst Row a g.0, subst (λ (t : ℕ). t < k) b g.1)
 
 pub evaluates : EveryEvaluation
 evaluates trial budget reply observations work few =

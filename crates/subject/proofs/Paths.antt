@@ -1,37 +1,36 @@
 -- The ways through the code: one law for each, over plain variables. Assumes nothing.
+use Rattle.std.specs.Prelude.{Err, None, Ok, Some}
 use Rattle.std.proofs.Common.{◌≡◌, ℕ, ◌+◌, ◌*◌, ◌/◌, ◌%◌, ◌<◌, ◌≤◌, Bool, true, false, ltb, List, length, sym, refl, ap, ◌∙◌, subst, le_trans, mul-le-mul, mul-le-mul_left, div-mul-le_self, arith, le-ltb, lt-ltb, eq-eqb, ne_eqb}
 use lib.Ieee.{Float}
 use Rattle.float64.specs.Answer.{given}
 use Rattle.float64.specs.Arithmetic.{word}
 use Rattle.float64.specs.Pick.{pick, yes, no, yes_of, no_of}
 use Rattle.matrix.specs.declared.Pair.{Pair}
-use Rattle.subject.specs.declared.IndividualValues.TheVariants.{Valid, Invalid}
 use Rattle.subject.specs.declared.Sums.{Sums}
-use Rattle.subject.specs.declared.Evaluation.{Evaluation}
-use Rattle.subject.specs.declared.Evaluation.TheVariants.{Running, Refused, RefusedAt}
 use Rattle.subject.specs.Reply.{output_values, row_length, rows}
-use Rattle.subject.specs.Subject.{answer, individual, is_no_individual, individual_values, no_sums, begin, has_nonfinite_sum, finish}
+use Rattle.subject.specs.Subject.{answer, individual, is_no_individual, individual_values, no_sums, begin, has_nonfinite_sum, finish, Evaluation}
+use Rattle.subject.specs.declared.EvaluationError.TheVariants.{Refused, RefusedAt}
 
 -- ---- individual values; x and y are the first and the second, b and d what `is_no_individual` answered of them
 module _ (theta eta : Pair) (effects : ℕ) {x : Float} {b : Bool} (ex : x ≡ individual theta.first eta.first) (eb : b ≡ is_no_individual x) where
   first_is : b ≡ is_no_individual (individual theta.first eta.first)
   first_is = eb ∙ ap is_no_individual ex
 
-  pub no_first : b ≡ true → answer Invalid ≡ individual_values theta eta effects
+  pub no_first : b ≡ true → answer None ≡ individual_values theta eta effects
   unfolding answer individual_values
   no_first t = yes_of _ first_is t refl
 
   module _ (t : b ≡ false) where
-    pub one_value : (effects ≡ 2 → ⊥) → answer (Valid (record { first = x; second = word 0 })) ≡ individual_values theta eta effects
+    pub one_value : (effects ≡ 2 → ⊥) → answer (Some (record { first = x; second = word 0 })) ≡ individual_values theta eta effects
     unfolding answer individual_values
     one_value h = no_of _ first_is t (no _ (ne_eqb _ _ h) (λ i. given (record { first = ex i; second = word 0 })))
 
     module _ {y : Float} {d : Bool} (h : effects ≡ 2) (ey : y ≡ individual theta.second eta.second) (ed : d ≡ is_no_individual y) where
-      pub no_second : d ≡ true → answer Invalid ≡ individual_values theta eta effects
+      pub no_second : d ≡ true → answer None ≡ individual_values theta eta effects
       unfolding answer individual_values
       no_second u = no_of _ first_is t (yes _ (eq-eqb _ _ h) (yes_of _ (ed ∙ ap is_no_individual ey) u refl))
 
-      pub two_values : d ≡ false → answer (Valid (record { first = x; second = y })) ≡ individual_values theta eta effects
+      pub two_values : d ≡ false → answer (Some (record { first = x; second = y })) ≡ individual_values theta eta effects
       unfolding answer individual_values
       two_values u = no_of _ first_is t (yes _ (eq-eqb _ _ h) (no_of _ (ed ∙ ap is_no_individual ey) u (λ i. given (record { first = ex i; second = ey i }))))
 
@@ -48,39 +47,39 @@ values_within n words values h = le_trans (mul-le-mul_left (n / words) h) (div-m
 
 -- ---- an evaluation begins; words is a row's length, values the number of its values and derivatives
 module _ (reply : List ℕ) (width effects budget : ℕ) {words : ℕ} (e : words ≡ row_length width effects) where
-  pub not_whole : (length reply % words ≡ 0 → ⊥) → Refused 8 ≡ begin reply width effects budget
+  pub not_whole : (length reply % words ≡ 0 → ⊥) → Err (Refused 8) ≡ begin reply width effects budget
   unfolding begin
   not_whole h = no _ (ne_eqb _ _ (subst (λ (w : ℕ). length reply % w ≡ 0 → ⊥) e h)) refl
 
   module _ {values : ℕ} (h : length reply % words ≡ 0) (v : values ≡ output_values width effects) where
-    begun : {z : Evaluation} → z ≡ pick (ltb budget (rows reply width effects * output_values width effects)) (Refused 9) (Running no_sums) → z ≡ begin reply width effects budget
+    begun : {z : Evaluation} → z ≡ pick (ltb budget (rows reply width effects * output_values width effects)) (Err (Refused 9)) (Ok no_sums) → z ≡ begin reply width effects budget
     unfolding begin
     begun q = yes _ (eq-eqb _ _ (subst (λ (w : ℕ). length reply % w ≡ 0) e h)) q
 
     outputs : length reply / words * values ≡ rows reply width effects * output_values width effects
     outputs = λ i. length reply / e i * v i
 
-    pub over_budget : budget < length reply / words * values → Refused 9 ≡ begin reply width effects budget
+    pub over_budget : budget < length reply / words * values → Err (Refused 9) ≡ begin reply width effects budget
     over_budget l = begun (yes _ (lt-ltb _ _ (subst (λ (n : ℕ). budget < n) outputs l)) refl)
 
-    pub within_budget : length reply / words * values ≤ budget → Running no_sums ≡ begin reply width effects budget
+    pub within_budget : length reply / words * values ≤ budget → Ok no_sums ≡ begin reply width effects budget
     within_budget l = begun (no _ (le-ltb _ _ (subst (λ (n : ℕ). n ≤ budget) outputs l)) refl)
 
 -- ---- the end of an evaluation x; b is what `has_nonfinite_sum` answered
 module _ {x : Evaluation} where
-  module _ {sums : Sums} {b : Bool} (t : x ≡ Running sums) (e : b ≡ has_nonfinite_sum sums) where
-    pub sum_overflows : b ≡ true → Refused 12 ≡ finish x
+  module _ {sums : Sums} {b : Bool} (t : x ≡ Ok sums) (e : b ≡ has_nonfinite_sum sums) where
+    pub sum_overflows : b ≡ true → Err (Refused 12) ≡ finish x
     unfolding finish
     sum_overflows u = yes_of _ e u refl ∙ ap finish (sym t)
 
-    pub sums_stand : b ≡ false → Running sums ≡ finish x
+    pub sums_stand : b ≡ false → Ok sums ≡ finish x
     unfolding finish
     sums_stand u = no_of _ e u refl ∙ ap finish (sym t)
 
-  pub ends_refused : {number : ℕ} → x ≡ Refused number → Refused number ≡ finish x
+  pub ends_refused : {number : ℕ} → x ≡ Err (Refused number) → Err (Refused number) ≡ finish x
   unfolding finish
   ends_refused t = ap finish (sym t)
 
-  pub ends_refused_at : {number n : ℕ} → x ≡ RefusedAt number n → RefusedAt number n ≡ finish x
+  pub ends_refused_at : {number n : ℕ} → x ≡ Err (RefusedAt number n) → Err (RefusedAt number n) ≡ finish x
   unfolding finish
   ends_refused_at t = ap finish (sym t)

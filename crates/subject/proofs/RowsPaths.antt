@@ -1,4 +1,5 @@
 -- The ways through the code: one law for each, over plain variables. Assumes nothing.
+use Rattle.std.specs.Prelude.{Err, None, Ok, Option, Some}
 use Rattle.std.proofs.Common.{◌≡◌, ℕ, ◌+◌, ◌*◌, ◌/◌, ◌<◌, ◌≤◌, ltb, List, length, get_or, set, sym, refl, ap, ◌∙◌, subst, le_trans, mul-le-mul_right, mul-le-mul_left, div-mul-le_self, arith, ltb-true, le-ltb, lt-ltb, eq-eqb, ne_eqb}
 use lib.Seq.{set_out}
 use lib.Ieee.{Float}
@@ -9,13 +10,10 @@ use Rattle.cache.specs.Cache.{row_words}
 use Rattle.likelihood.specs.declared.population_focei.Observation.{Observation}
 use Rattle.subject.specs.declared.Trial.{Trial}
 use Rattle.subject.specs.declared.Sums.{Sums}
-use Rattle.subject.specs.declared.Evaluation.{Evaluation}
-use Rattle.subject.specs.declared.Evaluation.TheVariants.{Running, Refused, RefusedAt}
-use Rattle.subject.specs.declared.RowAt.{RowAt}
-use Rattle.subject.specs.declared.RowAt.TheVariants.{Word, Missing}
 use Rattle.subject.specs.declared.PredictionRow.{PredictionRow}
 use Rattle.subject.specs.Reply.{row_length, rows, row_at, column, side, prediction_row, written}
-use Rattle.subject.specs.Subject.{additive_of, add_row, add_row2, f_eta, add_row_at, Evaluating, evaluating, add_at, add_to, add_after, add_observation}
+use Rattle.subject.specs.Subject.{additive_of, add_row, add_row2, f_eta, add_row_at, Evaluating, evaluating, add_at, add_to, add_after, add_observation, Evaluation}
+use Rattle.subject.specs.declared.EvaluationError.TheVariants.{Refused, RefusedAt}
 
 -- ---- the words of a reply
 -- within a row, no block begins further on than the second effect's
@@ -27,29 +25,29 @@ pub row_within : (n words row : ℕ) → row < n / words → row * words ≤ n
 row_within n words row h = le_trans (mul-le-mul_right words (let x : row ≤ n / words = omega arith in x)) (div-mul-le_self n words)
 
 -- a missing row is at no word
-never : {at : ℕ} {X : Type 0} → Missing ≡ Word at → X
+never : {at : ℕ} {X : Type 0} → None ≡ Some at → X
 never q = absurd (let z : ◌≡◌ {A = ℕ} 0 1 = cc in omega arith)
 
 -- a row's place; words is its length
 module _ (reply : List ℕ) (width effects output row : ℕ) where
-  pub no_such_output : width ≤ output → Missing ≡ row_at reply width effects output row
+  pub no_such_output : width ≤ output → None ≡ row_at reply width effects output row
   unfolding row_at
   no_such_output h = no _ (le-ltb _ _ h) refl
 
   module _ {words : ℕ} (h : output < width) (e : words ≡ row_length width effects) where
-    pub no_such_row : length reply / words ≤ row → Missing ≡ row_at reply width effects output row
+    pub no_such_row : length reply / words ≤ row → None ≡ row_at reply width effects output row
     unfolding row_at
     no_such_row l = yes _ (lt-ltb _ _ h) (no _ (le-ltb _ _ (subst (λ (w : ℕ). length reply / w ≤ row) e l)) refl)
 
-    pub row_there : row < length reply / words → Word (row * words) ≡ row_at reply width effects output row
+    pub row_there : row < length reply / words → Some (row * words) ≡ row_at reply width effects output row
     unfolding row_at
-    row_there l = yes _ (lt-ltb _ _ h) (yes _ (lt-ltb _ _ (subst (λ (w : ℕ). row < length reply / w) e l)) (λ i. Word (row * e i)))
+    row_there l = yes _ (lt-ltb _ _ h) (yes _ (lt-ltb _ _ (subst (λ (w : ℕ). row < length reply / w) e l)) (λ i. Some (row * e i)))
 
   -- r is what `row_at` answered
-  pub row_says : {r : RowAt} {at : ℕ} → r ≡ row_at reply width effects output row → r ≡ Word at → (at ≤ length reply) × (output < width)
+  pub row_says : {r : Option ℕ} {at : ℕ} → r ≡ row_at reply width effects output row → r ≡ Some at → (at ≤ length reply) × (output < width)
   unfolding row_at
   row_says {at = at} e t =
-      let Says : RowAt → Type 0 = λ z. z ≡ Word at → (at ≤ length reply) × (output < width) in
+      let Says : Option ℕ → Type 0 = λ z. z ≡ Some at → (at ≤ length reply) × (output < width) in
       cases Says (ltb output width)
       (λ h. cases Says (ltb row (rows reply width effects)) (λ l q. (
         let z : row * row_length width effects ≡ at = cc in subst (λ (n : ℕ). n ≤ length reply) z (row_within _ _ _ (ltb-true _ _ l)),
@@ -105,17 +103,17 @@ module _ (sums : Sums) (observation : Observation) (trial : Trial) (reply : List
   two_effects h e2 q = yes _ (eq-eqb _ _ h) (q ∙ (λ i. add_row2 sums observation (prediction_is i) (pair (eg i) (e2 i))))
 
 -- ---- an observation, where the sums so far are given; r is what `row_at` answered, w the words afterwards
-module _ (sums : Sums) (observation : Observation) (trial : Trial) (reply work : List ℕ) {r : RowAt} (e : r ≡ row_at reply trial.width trial.effects observation.output observation.row)
+module _ (sums : Sums) (observation : Observation) (trial : Trial) (reply work : List ℕ) {r : Option ℕ} (e : r ≡ row_at reply trial.width trial.effects observation.output observation.row)
   where
-    looked_up : {variant : RowAt} {z : Evaluating} → r ≡ variant → z ≡ add_at sums observation trial reply work variant → z ≡ add_to sums observation trial reply work
+    looked_up : {variant : Option ℕ} {z : Evaluating} → r ≡ variant → z ≡ add_at sums observation trial reply work variant → z ≡ add_to sums observation trial reply work
     unfolding add_to
     looked_up t q = q ∙ ap (add_at sums observation trial reply work) (sym t ∙ e)
 
-    pub row_missing : r ≡ Missing → evaluating (RefusedAt 10 sums.observation) work ≡ add_to sums observation trial reply work
+    pub row_missing : r ≡ None → evaluating (Err (RefusedAt 10 sums.observation)) work ≡ add_to sums observation trial reply work
     unfolding add_at
     row_missing t = looked_up t refl
 
-    pub row_taken : {at : ℕ} {row : PredictionRow} {w : List ℕ} {z : Evaluation} → r ≡ Word at → row ≡ prediction_row reply at trial.width observation.output → w ≡ written trial.block
+    pub row_taken : {at : ℕ} {row : PredictionRow} {w : List ℕ} {z : Evaluation} → r ≡ Some at → row ≡ prediction_row reply at trial.width observation.output → w ≡ written trial.block
         sums.observation row work → z ≡ add_row_at sums observation trial reply at → evaluating z w ≡ add_to sums observation trial reply work
     unfolding add_at
     row_taken t p q a = looked_up t (λ i. evaluating (a i) ((q ∙ ap (λ (x : PredictionRow). written trial.block sums.observation x work) p) i))
@@ -126,14 +124,14 @@ module _ (trial : Trial) (reply : List ℕ) (observation : Observation) {x : Eva
   unfolding add_observation
   came t q = q ∙ ap (add_after trial reply observation work) (sym t)
 
-  pub after_running : {sums : Sums} {z : Evaluating} → x ≡ Running sums → z ≡ add_to sums observation trial reply work → z ≡ add_observation trial reply observation (evaluating x work)
+  pub after_running : {sums : Sums} {z : Evaluating} → x ≡ Ok sums → z ≡ add_to sums observation trial reply work → z ≡ add_observation trial reply observation (evaluating x work)
   unfolding add_after
   after_running t q = came t q
 
-  pub after_refused : {number : ℕ} → x ≡ Refused number → evaluating (Refused number) work ≡ add_observation trial reply observation (evaluating x work)
+  pub after_refused : {number : ℕ} → x ≡ Err (Refused number) → evaluating (Err (Refused number)) work ≡ add_observation trial reply observation (evaluating x work)
   unfolding add_after
   after_refused t = came t refl
 
-  pub after_refused_at : {number n : ℕ} → x ≡ RefusedAt number n → evaluating (RefusedAt number n) work ≡ add_observation trial reply observation (evaluating x work)
+  pub after_refused_at : {number n : ℕ} → x ≡ Err (RefusedAt number n) → evaluating (Err (RefusedAt number n)) work ≡ add_observation trial reply observation (evaluating x work)
   unfolding add_after
   after_refused_at t = came t refl

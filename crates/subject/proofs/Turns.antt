@@ -1,4 +1,5 @@
 -- What the definitions make of one observation more, in the form in which the code of `rows` and `observations` needs it. Assumes nothing.
+use Rattle.std.specs.Prelude.{Err, Float, Ok, Result}
 use Rattle.std.proofs.Common.{◌≡◌, ℕ, zero, suc, ◌<◌, List, [], ◌∷◌, length, get_or, take, sym, refl, ap, ◌∙◌, le_of_suc-le-suc, not-suc-le-zero}
 use lib.Ieee.{Float}
 use Rattle.float64.specs.Answer.{Answer, through}
@@ -6,50 +7,46 @@ use Rattle.likelihood.specs.RowTerms.{row_terms, answer as answerRow}
 use Rattle.likelihood.specs.Row2.{row_variance, scaled_row, answer as answerRow2}
 use Rattle.likelihood.specs.declared.population_focei.Observation.{Observation}
 use Rattle.likelihood.specs.declared.population_focei.RowTerms.{RowTerms}
-use Rattle.likelihood.specs.declared.population_focei.Row.{Row}
-use Rattle.likelihood.specs.declared.population_focei.Row.TheVariants.{Terms, InvalidVariance, Overflow}
 use Rattle.likelihood.specs.declared.population_focei_2d.Row2.{Row2}
-use Rattle.likelihood.specs.declared.population_focei_2d.RowVariance.{RowVariance}
-use Rattle.likelihood.specs.declared.population_focei_2d.RowVariance.TheVariants.{Valid as ValidVariance, Invalid as InvalidVariance2}
 use Rattle.subject.specs.declared.Trial.{Trial}
 use Rattle.subject.specs.declared.Sums.{Sums}
-use Rattle.subject.specs.declared.Evaluation.{Evaluation}
-use Rattle.subject.specs.declared.Evaluation.TheVariants.{Running, RefusedAt}
-use Rattle.subject.specs.declared.Check.{Check}
-use Rattle.subject.specs.Subject.{at_observation, with_terms, add_row, with_row, add_row2, Evaluating, add_observation, add_observations}
-use Rattle.subject.specs.Observations.{no_observation, check_observations, check_observation}
+use Rattle.subject.specs.Subject.{at_observation, with_terms, add_row, with_row, add_row2, Evaluating, add_observation, add_observations, Evaluation}
+use Rattle.subject.specs.Observations.{no_observation, check_observations, check_observation, Check}
+use Rattle.likelihood.specs.declared.population_focei.RowError.{RowError}
+use Rattle.likelihood.specs.declared.population_focei.RowError.TheVariants.{InvalidVariance, Overflow}
+use Rattle.subject.specs.declared.EvaluationError.TheVariants.{RefusedAt}
 
 -- ---- one effect; r is what `row_terms` answered, z the sums afterwards
-module _ (sums : Sums) (observation : Observation) (prediction f-eta additive : Float) {r : Row} (e : answerRow r ≡ row_terms observation prediction f-eta additive) where
-  added : {variant : Row} {z : Evaluation} → r ≡ variant → z ≡ at_observation sums.observation (through (with_terms sums) (answerRow variant)) → z ≡ add_row sums observation prediction f-eta additive
+module _ (sums : Sums) (observation : Observation) (prediction f-eta additive : Float) {r : Result RowTerms RowError} (e : answerRow r ≡ row_terms observation prediction f-eta additive) where
+  added : {variant : Result RowTerms RowError} {z : Evaluation} → r ≡ variant → z ≡ at_observation sums.observation (through (with_terms sums) (answerRow variant)) → z ≡ add_row sums observation prediction f-eta additive
   unfolding add_row
   added t q = q ∙ ap (λ (a : Answer RowTerms). at_observation sums.observation (through (with_terms sums) a)) (sym (ap answerRow t) ∙ e)
 
-  pub terms_added : {terms : RowTerms} {z : Sums} → r ≡ Terms terms → z ≡ with_terms sums terms → Running z ≡ add_row sums observation prediction f-eta additive
+  pub terms_added : {terms : RowTerms} {z : Sums} → r ≡ Ok terms → z ≡ with_terms sums terms → Ok z ≡ add_row sums observation prediction f-eta additive
   unfolding answerRow through at_observation
-  terms_added t q = added t (ap Running q)
+  terms_added t q = added t (ap Ok q)
 
-  pub no_variance : r ≡ InvalidVariance → RefusedAt 11 sums.observation ≡ add_row sums observation prediction f-eta additive
+  pub no_variance : r ≡ (Err InvalidVariance) → Err (RefusedAt 11 sums.observation) ≡ add_row sums observation prediction f-eta additive
   unfolding answerRow through at_observation
   no_variance t = added t refl
 
-  pub overflows : r ≡ Overflow → RefusedAt 12 sums.observation ≡ add_row sums observation prediction f-eta additive
+  pub overflows : r ≡ (Err Overflow) → Err (RefusedAt 12 sums.observation) ≡ add_row sums observation prediction f-eta additive
   unfolding answerRow through at_observation
   overflows t = added t refl
 
 -- ---- two effects; r is what `row_variance` answered, row the scaled row, z the sums afterwards
-module _ (sums : Sums) (observation : Observation) (prediction : Float) (f-eta : List Float) {r : RowVariance} (e : answerRow2 r ≡ row_variance observation prediction f-eta) where
-  added2 : {variant : RowVariance} {z : Evaluation} → r ≡ variant → z ≡ at_observation sums.observation (through (λ R. with_row sums (scaled_row observation prediction f-eta R) f-eta)
+module _ (sums : Sums) (observation : Observation) (prediction : Float) (f-eta : List Float) {r : Result Float RowError} (e : answerRow2 r ≡ row_variance observation prediction f-eta) where
+  added2 : {variant : Result Float RowError} {z : Evaluation} → r ≡ variant → z ≡ at_observation sums.observation (through (λ R. with_row sums (scaled_row observation prediction f-eta R) f-eta)
       (answerRow2 variant)) → z ≡ add_row2 sums observation prediction f-eta
   unfolding add_row2
   added2 t q = q ∙ ap (λ (a : Answer Float). at_observation sums.observation (through (λ R. with_row sums (scaled_row observation prediction f-eta R) f-eta) a)) (sym (ap answerRow2 t) ∙ e)
 
-  pub row_added : {R : Float} {row : Row2} {z : Sums} → r ≡ ValidVariance R → row ≡ scaled_row observation prediction f-eta R → z ≡ with_row sums row f-eta → Running z ≡ add_row2 sums observation
+  pub row_added : {R : Float} {row : Row2} {z : Sums} → r ≡ Ok R → row ≡ scaled_row observation prediction f-eta R → z ≡ with_row sums row f-eta → Ok z ≡ add_row2 sums observation
       prediction f-eta
   unfolding answerRow2 through at_observation
-  row_added t p q = added2 t (ap Running (q ∙ ap (λ (x : Row2). with_row sums x f-eta) p))
+  row_added t p q = added2 t (ap Ok (q ∙ ap (λ (x : Row2). with_row sums x f-eta) p))
 
-  pub no_variance2 : r ≡ InvalidVariance2 → RefusedAt 11 sums.observation ≡ add_row2 sums observation prediction f-eta
+  pub no_variance2 : r ≡ (Err (Err InvalidVariance)) → Err (RefusedAt 11 sums.observation) ≡ add_row2 sums observation prediction f-eta
   unfolding answerRow2 through at_observation
   no_variance2 t = added2 t refl
 

@@ -1,9 +1,7 @@
 -- The words of a reply: whole rows, each of time, side, `width` values and `width` derivatives for each effect.
-use Rattle.std.specs.Prelude.{ℕ, ◌+◌, ◌*◌, ◌/◌, List, length, ◌==◌, nat_lt, slice_index, slice_set}
+use Rattle.std.specs.Prelude.{ℕ, ◌+◌, ◌*◌, ◌/◌, List, length, ◌==◌, nat_lt, slice_index, slice_set, None, Option, Some}
 use Rattle.cache.specs.Cache.{row_words}
 use Rattle.float64.specs.Pick.{pick}
-use Rattle.subject.specs.declared.RowAt.{RowAt}
-use Rattle.subject.specs.declared.RowAt.TheVariants.{Word, Missing}
 use Rattle.subject.specs.declared.PredictionRow.{PredictionRow}
 
 abbrev pub output_values : ℕ → ℕ → ℕ
@@ -17,11 +15,11 @@ abbrev pub rows : List ℕ → ℕ → ℕ → ℕ
 rows reply width effects = length reply / row_length width effects
 
 -- where a row begins that has this output
-unfoldable pub row_at : List ℕ → ℕ → ℕ → ℕ → ℕ → RowAt
+unfoldable pub row_at : List ℕ → ℕ → ℕ → ℕ → ℕ → Option ℕ
 row_at reply width effects output row =
     pick (nat_lt output width)
-    (pick (nat_lt row (rows reply width effects)) (Word (row * row_length width effects)) Missing)
-    Missing
+    (pick (nat_lt row (rows reply width effects)) (Some (row * row_length width effects)) None)
+    None
 
 -- of the row at `at`: the value of this output (block 0), or its derivative by the first or the second effect (block 1 or 2)
 unfoldable pub column : List ℕ → ℕ → ℕ → ℕ → ℕ → ℕ

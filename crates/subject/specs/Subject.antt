@@ -1,5 +1,5 @@
 -- A subject's evaluation at one point: `subject` of population_focei.rs and population_focei_2d.rs after the simulator's call.
-use Rattle.std.specs.Prelude.{ℕ, ◌+◌, ◌*◌, ◌%◌, ◌^◌, Bool, true, List, [], ◌∷◌, length, ◌==◌, nat_lt, Float}
+use Rattle.std.specs.Prelude.{ℕ, ◌+◌, ◌*◌, ◌%◌, ◌^◌, Bool, true, List, [], ◌∷◌, length, ◌==◌, nat_lt, Float, Err, None, Ok, Option, Result, Some}
 use Rattle.std.specs.Float.Ieee.{le}
 use Rattle.float64.specs.Answer.{Answer, given, refused, through}
 use Rattle.float64.specs.Arithmetic.{◌+ᶠ◌, ◌*ᶠ◌, word}
@@ -14,16 +14,14 @@ use Rattle.likelihood.specs.declared.population_focei.Observation.{Observation}
 use Rattle.likelihood.specs.declared.population_focei.RowTerms.{RowTerms}
 use Rattle.likelihood.specs.declared.population_focei_2d.Row2.{Row2}
 use Rattle.subject.specs.Reply.{output_values, row_length, rows, row_at, column, prediction_row, written}
-use Rattle.subject.specs.declared.IndividualValues.{IndividualValues}
-use Rattle.subject.specs.declared.IndividualValues.TheVariants.{Valid, Invalid}
-use Rattle.subject.specs.declared.AdditiveSd.{AdditiveSd}
-use Rattle.subject.specs.declared.AdditiveSd.TheVariants.{Own, Override}
 use Rattle.subject.specs.declared.Trial.{Trial}
 use Rattle.subject.specs.declared.Sums.{Sums}
-use Rattle.subject.specs.declared.Evaluation.{Evaluation}
-use Rattle.subject.specs.declared.Evaluation.TheVariants.{Running, Refused, RefusedAt}
-use Rattle.subject.specs.declared.RowAt.{RowAt}
-use Rattle.subject.specs.declared.RowAt.TheVariants.{Word, Missing}
+use Rattle.subject.specs.declared.EvaluationError.{EvaluationError}
+use Rattle.subject.specs.declared.EvaluationError.TheVariants.{Refused, RefusedAt}
+
+-- an evaluation under way with its sums, or the first refusal that it met
+abbrev pub Evaluation : Type 0
+Evaluation = Result Sums EvaluationError
 
 -- ---- individual values: document 01's check 7
 
@@ -43,9 +41,9 @@ individual_values theta eta effects =
     (given (record { first = first; second = word 0 })))
 
 -- what each case of the code's answer says
-unfoldable pub answer : IndividualValues → Answer Pair
-answer (Valid p) = given p
-answer Invalid = refused 7
+unfoldable pub answer : Option Pair → Answer Pair
+answer (Some p) = given p
+answer None = refused 7
 
 -- ---- the beginning: checks 8 and 9
 
@@ -60,8 +58,8 @@ no_sums = record {
 unfoldable pub begin : List ℕ → ℕ → ℕ → ℕ → Evaluation
 begin reply width effects budget =
     pick (length reply % row_length width effects == 0)
-    (pick (nat_lt budget (rows reply width effects * output_values width effects)) (Refused 9) (Running no_sums))
-    (Refused 8)
+    (pick (nat_lt budget (rows reply width effects * output_values width effects)) (Err (Refused 9)) (Ok no_sums))
+    (Err (Refused 8))
 
 -- ---- a row
 
@@ -71,16 +69,16 @@ next n = (n + 1) % 2 ^ 64
 
 -- the sums with a row, or a refusal at the observation of that number
 unfoldable pub at_observation : ℕ → Answer Sums → Evaluation
-at_observation n (given sums) = Running sums
-at_observation n (refused number) = RefusedAt number n
+at_observation n (given sums) = Ok sums
+at_observation n (refused number) = Err (RefusedAt number n)
 
 -- one that overrides all, where there is one
-unfoldable pub additive_sd : Bool → Float → AdditiveSd
-additive_sd has additive = pick has (Override additive) Own
+unfoldable pub additive_sd : Bool → Float → Option Float
+additive_sd has additive = pick has (Some additive) None
 
-unfoldable pub additive_of : AdditiveSd → Observation → Float
-additive_of Own observation = observation.additive
-additive_of (Override additive) observation = additive
+unfoldable pub additive_of : Option Float → Observation → Float
+additive_of None observation = observation.additive
+additive_of (Some additive) observation = additive
 
 unfoldable pub with_terms : Sums → RowTerms → Sums
 with_terms sums terms = record {
@@ -140,9 +138,9 @@ abbrev pub evaluating : Evaluation → List ℕ → Evaluating
 evaluating e work = record { evaluation = e; work = work }
 
 -- check 10, then the row
-unfoldable pub add_at : Sums → Observation → Trial → List ℕ → List ℕ → RowAt → Evaluating
-add_at sums observation trial reply work Missing = evaluating (RefusedAt 10 sums.observation) work
-add_at sums observation trial reply work (Word at) =
+unfoldable pub add_at : Sums → Observation → Trial → List ℕ → List ℕ → Option ℕ → Evaluating
+add_at sums observation trial reply work None = evaluating (Err (RefusedAt 10 sums.observation)) work
+add_at sums observation trial reply work (Some at) =
     evaluating (add_row_at sums observation trial reply at)
     (written trial.block sums.observation (prediction_row reply at trial.width observation.output) work)
 
@@ -152,9 +150,8 @@ add_to sums observation trial reply work =
 
 -- one more; after a refusal nothing is done
 unfoldable pub add_after : Trial → List ℕ → Observation → List ℕ → Evaluation → Evaluating
-add_after trial reply observation work (Running sums) = add_to sums observation trial reply work
-add_after trial reply observation work (Refused number) = evaluating (Refused number) work
-add_after trial reply observation work (RefusedAt number n) = evaluating (RefusedAt number n) work
+add_after trial reply observation work (Ok sums) = add_to sums observation trial reply work
+add_after trial reply observation work (Err e) = evaluating (Err e) work
 
 unfoldable pub add_observation : Trial → List ℕ → Observation → Evaluating → Evaluating
 add_observation trial reply observation x = add_after trial reply observation x.work x.evaluation
@@ -174,6 +171,5 @@ has_nonfinite_sum sums =
     (has_nonfinite_entry (array_of sums.information))))
 
 unfoldable pub finish : Evaluation → Evaluation
-finish (Running sums) = pick (has_nonfinite_sum sums) (Refused 12) (Running sums)
-finish (Refused number) = Refused number
-finish (RefusedAt number n) = RefusedAt number n
+finish (Ok sums) = pick (has_nonfinite_sum sums) (Err (Refused 12)) (Ok sums)
+finish (Err e) = Err e

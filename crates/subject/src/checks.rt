@@ -60,7 +60,7 @@ fn next_place(place: Position, count: u64) -> Position
 pub fn first_check() -> Check
     ensures { result ≡ first_check }
 {
-    Check::Sound(Position {
+    Ok(Position {
         subject: 0,
         observation: 0,
     })
@@ -72,9 +72,9 @@ fn check_at(place: Position, observation: Observation, width: u32, counts: &[u64
 {
     if is_sound(observation, width) {
         let count = words::read(counts, place.subject);
-        return Check::Sound(next_place(place, count));
+        return Ok(next_place(place, count));
     }
-    Check::Unsound(place)
+    Err(place)
 }
 
 // Document 01's check 4 with one observation more; `counts` are the subjects' numbers of observations. After
@@ -88,7 +88,7 @@ pub fn check_observation(
     ensures { result ≡ check_observation width counts.now observation check }
 {
     match check {
-        Check::Sound(place) => check_at(place, observation, width, counts),
-        Check::Unsound(place) => Check::Unsound(place),
+        Ok(place) => check_at(place, observation, width, counts),
+        Err(place) => Err(place),
     }
 }

@@ -18,28 +18,14 @@ pub mod rows;
 
 use matrix::{Matrix, Pair};
 
-// The answer of individual_values: the value for each effect (with one effect, the first), or that one of
-// them is not finite or not above 0 (check 7).
-#[derive(Clone, Copy)]
-pub enum IndividualValues {
-    Valid(Pair),
-    Invalid,
-}
-
-// The source's additive_sd: each observation has its own additive deviation, or one overrides them all.
-#[derive(Clone, Copy)]
-pub enum AdditiveSd {
-    Own,
-    Override(f64),
-}
-
 // What a reply is an answer to, and where its rows go: the individual values (with one effect, the
-// first), the additive deviation, the numbers of outputs and of effects, and the word at which the
-// trial block of the work words begins. Any number of effects but 2 counts as 1.
+// first), the source's additive_sd (a deviation that overrides each observation's own, where there is one), the
+// numbers of outputs and of effects, and the word at which the trial block of the work words begins. Any number
+// of effects but 2 counts as 1.
 #[derive(Clone, Copy)]
 pub struct Trial {
     pub individual: Pair,
-    pub additive_sd: AdditiveSd,
+    pub additive_sd: Option<f64>,
     pub width: u32,
     pub effects: u32,
     pub block: usize,
@@ -56,21 +42,16 @@ pub struct Sums {
     pub observation: usize,
 }
 
-// A subject's evaluation under way with its sums, or the first refusal that it met: document 01's number (8,
-// 9, 12), and for an observation (10, 11, 12) its number within the subject too. (The source's Evaluation is
+// A subject's evaluation under way with its sums, or the first refusal that it met. (The source's Evaluation is
 // another thing: the result of a whole objective.)
+pub type Evaluation = Result<Sums, EvaluationError>;
+
+// Why an evaluation is refused: document 01's number (8, 9, 12), and for an observation (10, 11, 12) its number
+// within the subject too.
 #[derive(Clone, Copy)]
-pub enum Evaluation {
-    Running(Sums),
+pub enum EvaluationError {
     Refused(u32),
     RefusedAt(u32, usize),
-}
-
-// The word of a reply at which an observation's row begins, or that there is no such row.
-#[derive(Clone, Copy)]
-pub enum RowAt {
-    Word(usize),
-    Missing,
 }
 
 // The source's PredictionRow, as words: what is kept of a row of a reply. The side is 0 pre, 1 post.
@@ -90,22 +71,18 @@ pub struct Position {
 
 // How far the check of the observations (check 4) has come: all so far are sound, and this is the place of
 // the next one; or this is the place of the first that is not.
-#[derive(Clone, Copy)]
-pub enum Check {
-    Sound(Position),
-    Unsound(Position),
-}
+pub type Check = Result<Position, Position>;
 
 // ---- the additive deviation
 
 // The additive deviation as hosts give it: one that overrides them all where there is one.
-pub fn additive_sd(has_additive: bool, additive: f64) -> AdditiveSd
+pub fn additive_sd(has_additive: bool, additive: f64) -> Option<f64>
     ensures { result ≡ additive_sd has_additive additive }
 {
     if has_additive {
-        return AdditiveSd::Override(additive);
+        return Some(additive);
     }
-    AdditiveSd::Own
+    None
 }
 
 // ---- individual values
@@ -125,23 +102,24 @@ fn is_no_individual(value: f64) -> bool
     value <= 0.0
 }
 
-// The individual values that the simulator is run with, theta · exp(eta) for each effect, or that check 7
-// refuses them. Any number of effects but 2 counts as 1.
-pub fn individual_values(theta: Pair, eta: Pair, effects: u32) -> IndividualValues
+// The individual values that the simulator is run with, theta · exp(eta) for each effect (with one effect, the
+// first); none where check 7 refuses one of them, since it is not finite or not above 0. Any number of effects
+// but 2 counts as 1.
+pub fn individual_values(theta: Pair, eta: Pair, effects: u32) -> Option<Pair>
     ensures { answer result ≡ individual_values theta eta effects }
 {
     let first = individual(theta.first, eta.first);
     if is_no_individual(first) {
-        return IndividualValues::Invalid;
+        return None;
     }
     if effects != 2 {
-        return IndividualValues::Valid(Pair { first, second: 0.0 });
+        return Some(Pair { first, second: 0.0 });
     }
     let second = individual(theta.second, eta.second);
     if is_no_individual(second) {
-        return IndividualValues::Invalid;
+        return None;
     }
-    IndividualValues::Valid(Pair { first, second })
+    Some(Pair { first, second })
 }
 
 // ---- a reply's rows
@@ -169,12 +147,12 @@ pub fn begin(reply: &[u64], width: u32, effects: u32, output_budget: u32) -> Eva
 {
     let words = row_length(width, effects);
     if reply.len() % words != 0 {
-        return Evaluation::Refused(8);
+        return Err(EvaluationError::Refused(8));
     }
     if (output_budget as usize) < reply.len() / words * output_values(width, effects) {
-        return Evaluation::Refused(9);
+        return Err(EvaluationError::Refused(9));
     }
-    Evaluation::Running(Sums {
+    Ok(Sums {
         nll: 0.0,
         score: Pair {
             first: 0.0,
@@ -211,13 +189,12 @@ pub fn finish(evaluation: Evaluation) -> Evaluation
     ensures { result ≡ finish evaluation }
 {
     match evaluation {
-        Evaluation::Running(sums) => {
+        Ok(sums) => {
             if has_nonfinite_sum(sums) {
-                return Evaluation::Refused(12);
+                return Err(EvaluationError::Refused(12));
             }
-            Evaluation::Running(sums)
+            Ok(sums)
         }
-        Evaluation::Refused(number) => Evaluation::Refused(number),
-        Evaluation::RefusedAt(number, at) => Evaluation::RefusedAt(number, at),
+        Err(error) => Err(error),
     }
 }

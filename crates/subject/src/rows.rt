@@ -5,27 +5,27 @@ ghost use Rattle.subject.specs.Reply.{row_at, column, prediction_row, written};
 ghost use Rattle.subject.specs.Subject.{additive_of, with_terms, add_row, with_row, add_row2, f_eta, add_row_at, evaluating, add_to};
 ghost use Rattle.subject.specs.Subject.{add_observation};
 
-use super::{AdditiveSd, Evaluation, PredictionRow, RowAt, Sums, Trial};
+use super::{Evaluation, EvaluationError, PredictionRow, Sums, Trial};
 use cache::ROW_WORDS;
-use likelihood::population_focei::{Observation, Row, RowTerms};
-use likelihood::population_focei_2d::{Row2, RowVariance};
+use likelihood::population_focei::{Observation, RowError, RowTerms};
+use likelihood::population_focei_2d::Row2;
 use matrix::{Matrix, Pair};
 
 // ---- a reply's rows
 
 // The word at which the row of an observation begins. A row is missing too where no row has the observation's
 // output.
-fn row_at(reply: &[u64], width: u32, effects: u32, output: usize, row: usize) -> RowAt
+fn row_at(reply: &[u64], width: u32, effects: u32, output: usize, row: usize) -> Option<usize>
     ensures { result ≡ row_at reply.now width effects output row }
 {
     let words = super::row_length(width, effects);
     if width as usize <= output {
-        return RowAt::Missing;
+        return None;
     }
     if reply.len() / words <= row {
-        return RowAt::Missing;
+        return None;
     }
-    RowAt::Word(row * words)
+    Some(row * words)
 }
 
 // A word of the row at `at`, for this output: its value (block 0), or its derivative by an effect (block 1 or
@@ -77,12 +77,12 @@ fn write_row(work: &mut [u64], block: usize, observation: usize, row: Prediction
 
 // ---- the sums
 
-fn additive_of(additive_sd: AdditiveSd, observation: Observation) -> f64
+fn additive_of(additive_sd: Option<f64>, observation: Observation) -> f64
     ensures { result ≡ additive_of additive_sd observation }
 {
     match additive_sd {
-        AdditiveSd::Own => observation.additive,
-        AdditiveSd::Override(additive) => additive,
+        None => observation.additive,
+        Some(additive) => additive,
     }
 }
 
@@ -97,9 +97,8 @@ fn add_row(
     ensures { result ≡ add_row sums observation prediction f_eta additive }
 {
     match likelihood::population_focei::row_terms(observation, prediction, f_eta, additive) {
-        Row::Terms(terms) => Evaluation::Running(with_terms(sums, terms)),
-        Row::InvalidVariance => Evaluation::RefusedAt(11, sums.observation),
-        Row::Overflow => Evaluation::RefusedAt(12, sums.observation),
+        Ok(terms) => Ok(with_terms(sums, terms)),
+        Err(error) => Err(EvaluationError::RefusedAt(error.number(), sums.observation)),
     }
 }
 
@@ -127,16 +126,16 @@ fn add_row_2d(sums: Sums, observation: Observation, prediction: f64, f_eta: [f64
     ensures { result ≡ add_row2 sums observation prediction f_eta }
 {
     match likelihood::population_focei_2d::row_variance(observation, prediction, f_eta) {
-        RowVariance::Valid(variance) => {
+        Ok(variance) => {
             let row = likelihood::population_focei_2d::scaled_row(
                 observation,
                 prediction,
                 f_eta,
                 variance,
             );
-            Evaluation::Running(with_row(sums, row, f_eta))
+            Ok(with_row(sums, row, f_eta))
         }
-        RowVariance::Invalid => Evaluation::RefusedAt(11, sums.observation),
+        Err(error) => Err(EvaluationError::RefusedAt(error.number(), sums.observation)),
     }
 }
 
@@ -220,12 +219,12 @@ fn add_to(
         observation.output,
         observation.row,
     ) {
-        RowAt::Word(at) => {
+        Some(at) => {
             let row = prediction_row(reply, at, trial.width, observation.output);
             write_row(work, trial.block, sums.observation, row);
             add_row_at(sums, observation, trial, reply, at)
         }
-        RowAt::Missing => Evaluation::RefusedAt(10, sums.observation),
+        None => Err(EvaluationError::RefusedAt(10, sums.observation)),
     }
 }
 
@@ -243,8 +242,7 @@ pub fn add_observation(
         ≡ add_observation trial reply.now observation (evaluating evaluation work.old) }
 {
     match evaluation {
-        Evaluation::Running(sums) => add_to(sums, observation, trial, reply, work),
-        Evaluation::Refused(number) => Evaluation::Refused(number),
-        Evaluation::RefusedAt(number, at) => Evaluation::RefusedAt(number, at),
+        Ok(sums) => add_to(sums, observation, trial, reply, work),
+        Err(error) => Err(error),
     }
 }

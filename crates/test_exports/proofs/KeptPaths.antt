@@ -1,24 +1,23 @@
 -- The ways through the exported functions: one law for each, over plain variables. What the code has made of the lent arrays is o, x and t, and what the definitions make of
 -- them p, y and u. Assumes nothing.
+use Rattle.std.specs.Prelude.{None, Option, Some}
 use Rattle.std.proofs.Common.{◌≡◌, ℕ, true, false, List, [], ◌∷◌, sym, ap, ◌∙◌}
 use Rattle.cache.specs.declared.CacheKey.{CacheKey}
 use Rattle.cache.specs.declared.CachedTerms.{CachedTerms}
 use Rattle.cache.specs.declared.CacheOrder.{CacheOrder}
-use Rattle.cache.specs.declared.Found.{Found}
-use Rattle.cache.specs.declared.Found.TheVariants.{At, Nothing}
 use Rattle.cache.specs.Cache.{Cache, after, find, insert}
 use Rattle.test_exports.specs.Words.{order_words, is_found, slot_or}
 
 module _ {o p : CacheOrder} {x y : CacheKey} (eo : o ≡ p) (ex : x ≡ y) (w : List ℕ) (k : ℕ) where
-  module _ {f : Found} (ef : f ≡ find w k o x) where
+  module _ {f : Option ℕ} (ef : f ≡ find w k o x) where
     told : f ≡ find w k p y
     told = ef ∙ (λ i. find w k (eo i) (ex i))
 
-    pub found_at : {slot : ℕ} (old : ℕ) → f ≡ At slot → (true ≡ is_found (find w k p y)) × (slot ≡ slot_or old (find w k p y))
+    pub found_at : {slot : ℕ} (old : ℕ) → f ≡ Some slot → (true ≡ is_found (find w k p y)) × (slot ≡ slot_or old (find w k p y))
     unfolding is_found slot_or
     found_at old e = let a = sym e ∙ told in (ap is_found a, ap (slot_or old) a)
 
-    pub found_nothing : (old : ℕ) → f ≡ Nothing → (false ≡ is_found (find w k p y)) × (old ≡ slot_or old (find w k p y))
+    pub found_nothing : (old : ℕ) → f ≡ None → (false ≡ is_found (find w k p y)) × (old ≡ slot_or old (find w k p y))
     unfolding is_found slot_or
     found_nothing old e = let a = sym e ∙ told in (ap is_found a, ap (slot_or old) a)
 

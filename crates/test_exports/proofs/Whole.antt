@@ -1,10 +1,8 @@
 -- The ways through the exported functions that take lent observations: what their calls answered, put together, is the definition.
 use Rattle.std.proofs.Common.{◌≡◌, ℕ, ◌-◌, List, length, take, drop, ap, ◌∙◌}
 use Rattle.likelihood.specs.declared.population_focei.Observation.{Observation}
-use Rattle.subject.specs.Observations.{first_check, check_observations}
-use Rattle.subject.specs.Subject.{Evaluating, evaluating, add_observations, finish}
-use Rattle.subject.specs.declared.Check.{Check}
-use Rattle.subject.specs.declared.Evaluation.{Evaluation}
+use Rattle.subject.specs.Observations.{first_check, check_observations, Check}
+use Rattle.subject.specs.Subject.{Evaluating, evaluating, add_observations, finish, Evaluation}
 use Rattle.test_exports.specs.Evaluations.{Answered, answered, evaluated, beginning, told, evaluate_from, evaluate, told_check, check_all}
 use Rattle.test_exports.specs.declared.evaluations.Begun.{Begun}
 use Rattle.test_exports.specs.declared.evaluations.Question.{Question}

@@ -1,19 +1,17 @@
 -- What the exported evaluations answer and write.
-use Rattle.std.specs.Prelude.{ℕ, ◌-◌, List, length, take, drop, slice_set, to_bits, Float}
+use Rattle.std.specs.Prelude.{ℕ, ◌-◌, List, length, take, drop, slice_set, to_bits, Float, Err, Ok}
 use Rattle.std.specs.Float.{binary64}
 use Rattle.float64.specs.Answer.{Answer, through}
 use Rattle.matrix.specs.Matrix.{pair, at}
 use Rattle.matrix.specs.declared.Pair.{Pair}
 use Rattle.likelihood.specs.declared.population_focei.Observation.{Observation}
-use Rattle.subject.specs.Observations.{Verdict, verdict, first_check, check_observations}
+use Rattle.subject.specs.Observations.{Verdict, verdict, first_check, check_observations, Check}
 use Rattle.subject.specs.Observations.Verdict.{passes, fails, fails_at}
-use Rattle.subject.specs.Subject.{additive_sd, begin, next, evaluating, add_observations, finish}
+use Rattle.subject.specs.Subject.{additive_sd, begin, next, evaluating, add_observations, finish, Evaluation}
 use Rattle.subject.specs.declared.Sums.{Sums}
-use Rattle.subject.specs.declared.Evaluation.{Evaluation}
-use Rattle.subject.specs.declared.Evaluation.TheVariants.{Running, Refused, RefusedAt}
-use Rattle.subject.specs.declared.Check.{Check}
 use Rattle.test_exports.specs.declared.evaluations.Question.{Question}
 use Rattle.test_exports.specs.declared.evaluations.Begun.{Begun}
+use Rattle.subject.specs.declared.EvaluationError.TheVariants.{Refused, RefusedAt}
 
 -- ---- individual values
 
@@ -66,9 +64,9 @@ sums_written sums out =
 
 -- 0 and the sums' words; or the number, and in word 7 one more than the observation's number, 0 where it is of none
 unfoldable pub told : Evaluation → List ℕ → Answered
-told (Running sums) out = answered 0 (sums_written sums out)
-told (Refused number) out = answered number (slice_set out 7 0)
-told (RefusedAt number observation) out = answered number (slice_set out 7 (next observation))
+told (Ok sums) out = answered 0 (sums_written sums out)
+told (Err (Refused number)) out = answered number (slice_set out 7 0)
+told (Err (RefusedAt number observation)) out = answered number (slice_set out 7 (next observation))
 
 -- from the observations of the subject
 unfoldable pub evaluate_from : List Observation → Begun → List ℕ → List ℕ → List ℕ → Evaluated

@@ -1,10 +1,8 @@
 -- Positions, keys and terms of the kept evaluations as words, and what the answer of `find` is to the comparison.
-use Rattle.std.specs.Prelude.{ℕ, Bool, true, false, List, [], ◌∷◌, slice_index}
+use Rattle.std.specs.Prelude.{ℕ, Bool, true, false, List, [], ◌∷◌, slice_index, None, Option, Some}
 use Rattle.cache.specs.declared.CacheKey.{CacheKey}
 use Rattle.cache.specs.declared.CachedTerms.{CachedTerms}
 use Rattle.cache.specs.declared.CacheOrder.{CacheOrder}
-use Rattle.cache.specs.declared.Found.{Found}
-use Rattle.cache.specs.declared.Found.TheVariants.{At, Nothing}
 
 abbrev pub at : List ℕ → ℕ → ℕ
 at words i = slice_index words i
@@ -42,11 +40,11 @@ order_of words = record { oldest = at words 0; next = at words 1; first_row = at
 unfoldable pub order_words : CacheOrder → List ℕ
 order_words o = o.oldest ∷ o.next ∷ o.first_row ∷ o.next_row ∷ []
 
-unfoldable pub is_found : Found → Bool
-is_found (At slot) = true
-is_found Nothing = false
+unfoldable pub is_found : Option ℕ → Bool
+is_found (Some slot) = true
+is_found None = false
 
 -- what was there stays where nothing is found
-unfoldable pub slot_or : ℕ → Found → ℕ
-slot_or old (At slot) = slot
-slot_or old Nothing = old
+unfoldable pub slot_or : ℕ → Option ℕ → ℕ
+slot_or old (Some slot) = slot
+slot_or old None = old

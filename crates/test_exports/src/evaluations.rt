@@ -7,7 +7,7 @@ ghost use Rattle.test_exports.specs.Evaluations.{evaluate, told_check, check_all
 
 use likelihood::population_focei::Observation;
 use matrix::Pair;
-use subject::{Check, Evaluation, IndividualValues, Sums, Trial};
+use subject::{Check, Evaluation, EvaluationError, Sums, Trial};
 
 // The question that a reply answers: the subject's observations are those from `from` up to, but without,
 // `to`; `additive` overrides their own where `has_additive`; the trial block of the work words begins at word
@@ -53,11 +53,11 @@ pub fn curlewstand_individual_values(
     let typical = pair_of(*theta);
     let effect = pair_of(*eta);
     match subject::individual_values(typical, effect, effects) {
-        IndividualValues::Valid(values) => {
+        Some(values) => {
             *individual = [values.first, values.second];
             0
         }
-        IndividualValues::Invalid => 7,
+        None => 7,
     }
 }
 
@@ -117,15 +117,15 @@ fn told(evaluation: Evaluation, out: &mut [u64]) -> u32
     ensures { answered result out.new ≡ told (finish evaluation) out.old }
 {
     match subject::finish(evaluation) {
-        Evaluation::Running(sums) => {
+        Ok(sums) => {
             write_sums(sums, out);
             0
         }
-        Evaluation::Refused(number) => {
+        Err(EvaluationError::Refused(number)) => {
             words::put(out, 7, 0);
             number
         }
-        Evaluation::RefusedAt(number, observation) => {
+        Err(EvaluationError::RefusedAt(number, observation)) => {
             words::put(out, 7, std::num::wrapping_add_u64(observation as u64, 1));
             number
         }
@@ -163,8 +163,8 @@ fn told_check(check: Check, place: &mut [u64]) -> u32
     ensures { answered result place.new ≡ told_check check place.old }
 {
     match check {
-        Check::Sound(_) => 0,
-        Check::Unsound(at) => {
+        Ok(_) => 0,
+        Err(at) => {
             words::put(place, 0, at.subject as u64);
             words::put(place, 1, at.observation as u64);
             4

@@ -4,7 +4,7 @@ ghost use Rattle.std.specs.Prelude.{◌≡◌};
 ghost use Rattle.cache.specs.Cache.{find, terms_of, copied, insert};
 ghost use Rattle.test_exports.specs.Words.{key_of, order_of, order_words, terms_from, term_words, is_found, slot_or};
 
-use cache::{CacheKey, CacheOrder, CachedTerms, Found};
+use cache::{CacheKey, CacheOrder, CachedTerms};
 
 fn key_of(words: [u64; 7]) -> CacheKey
     ensures { result ≡ key_of words }
@@ -60,11 +60,11 @@ pub fn curlewstand_cache_find(
     let at = order_of(*order);
     let wanted = key_of(*key);
     match cache::find(words, k, at, wanted) {
-        Found::At(place) => {
+        Some(place) => {
             *slot = place;
             true
         }
-        Found::Nothing => false,
+        None => false,
     }
 }
 

@@ -6,9 +6,7 @@ ghost use Rattle.likelihood.specs.RowTerms.{row_terms};
 ghost use Rattle.likelihood.specs.Row2.{row_variance};
 ghost use Rattle.test_exports.specs.Leaves.{exists, inverse_or, det_or, observation_of, terms_or, sums, add_row};
 
-use likelihood::population_focei::{Observation, Row};
-use likelihood::population_focei_2d::RowVariance;
-use matrix::InversePositive;
+use likelihood::population_focei::{Observation, RowError};
 
 // The determinant of a matrix (`matrix::determinant`).
 pub fn curlewstand_determinant(matrix: &[[f64; 2]; 2]) -> f64
@@ -31,13 +29,13 @@ pub fn curlewstand_inverse_positive(
 {
     let m = *matrix;
     match matrix::inverse_positive(m) {
-        InversePositive::Exists(d) => {
+        Some(d) => {
             let i = matrix::inverse(m, d);
             *inverse = i;
             *det = d;
             true
         }
-        InversePositive::None => false,
+        None => false,
     }
 }
 
@@ -82,12 +80,12 @@ pub fn curlewstand_row_terms(
         proportional,
     };
     match likelihood::population_focei::row_terms(observation, prediction, f_eta, additive) {
-        Row::Terms(t) => {
+        Ok(t) => {
             *terms = [t.nll, t.score, t.information];
             0
         }
-        Row::InvalidVariance => 11,
-        Row::Overflow => 12,
+        Err(RowError::InvalidVariance) => 11,
+        Err(RowError::Overflow) => 12,
     }
 }
 
@@ -117,7 +115,7 @@ pub fn curlewstand_add_row(
     };
     let f = *f_eta;
     match likelihood::population_focei_2d::row_variance(observation, prediction, f) {
-        RowVariance::Valid(variance) => {
+        Ok(variance) => {
             let row = likelihood::population_focei_2d::scaled_row(
                 observation,
                 prediction,
@@ -133,6 +131,6 @@ pub fn curlewstand_add_row(
             *information = next_information;
             0
         }
-        RowVariance::Invalid => 11,
+        Err(RowError::InvalidVariance) => 11,
     }
 }

@@ -8,7 +8,6 @@ ghost use Rattle.test_exports.specs.Mode2d.{settings_of, point_of, requested, ad
 
 use matrix::Pair;
 use mode_2d::population_focei_2d::{Conditional2, Request2, Search2, Settings2};
-use state_words::two_effects::Loaded2;
 
 fn settings_of(eta_bound: f64, precision: [[f64; 2]; 2], warm: [f64; 2]) -> Settings2
     ensures { result ≡ settings_of eta_bound precision warm }
@@ -40,7 +39,7 @@ fn point_of(eta: [f64; 2], nll: f64, score: [f64; 2], information: [[f64; 2]; 2]
     }
 }
 
-fn load(words: [u64; 25]) -> Loaded2
+fn load(words: [u64; 25]) -> Option<Search2>
     ensures { answer result ≡ loaded words }
 {
     state_words::two_effects::load(&words)
@@ -72,7 +71,7 @@ pub fn curlewstand_mode_2d_request(
     let settings = settings_of(eta_bound, *precision, *warm);
     let words = *search;
     match load(words) {
-        Loaded2::Given(x) => match x.request(settings) {
+        Some(x) => match x.request(settings) {
             Request2::Point(p) => {
                 *point = [p.first, p.second];
                 0
@@ -80,7 +79,7 @@ pub fn curlewstand_mode_2d_request(
             Request2::Mode => 1,
             Request2::Refused(number) => number,
         },
-        Loaded2::None => 19,
+        None => 19,
     }
 }
 
@@ -108,11 +107,11 @@ pub fn curlewstand_mode_2d_advance(
     let c = point_of(*eta, nll, *score, *information);
     let words = *search;
     match load(words) {
-        Loaded2::Given(x) => {
+        Some(x) => {
             let next = state_words::two_effects::save(x.advance(settings, c));
             *search = next;
             0
         }
-        Loaded2::None => 19,
+        None => 19,
     }
 }

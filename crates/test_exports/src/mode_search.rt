@@ -7,7 +7,6 @@ ghost use Rattle.state_words.specs.SearchWords.{point_of, saved, loaded, answer}
 ghost use Rattle.test_exports.specs.Mode.{settings_of, requested, advanced, request_number, point_or};
 
 use mode::population_focei::{Conditional, Request, Search, Settings};
-use state_words::one_effect::Loaded;
 
 // The tolerance of eta within which a mode is settled (`mode::population_focei::eta_tolerance`).
 pub fn curlewstand_eta_tolerance(gradient_tolerance: f64) -> f64
@@ -16,7 +15,7 @@ pub fn curlewstand_eta_tolerance(gradient_tolerance: f64) -> f64
     mode::population_focei::eta_tolerance(gradient_tolerance)
 }
 
-fn load(words: [u64; 20]) -> Loaded
+fn load(words: [u64; 20]) -> Option<Search>
     ensures { answer result ≡ loaded words }
 {
     state_words::one_effect::load(&words)
@@ -52,7 +51,7 @@ pub fn curlewstand_mode_request(
     };
     let words = *search;
     match load(words) {
-        Loaded::Given(x) => match x.request(settings) {
+        Some(x) => match x.request(settings) {
             Request::Point(p) => {
                 *point = p;
                 0
@@ -60,7 +59,7 @@ pub fn curlewstand_mode_request(
             Request::Mode => 1,
             Request::Refused(number) => number,
         },
-        Loaded::None => 19,
+        None => 19,
     }
 }
 
@@ -97,11 +96,11 @@ pub fn curlewstand_mode_advance(
     };
     let words = *search;
     match load(words) {
-        Loaded::Given(x) => {
+        Some(x) => {
             let next = state_words::one_effect::save(x.advance(settings, c));
             *search = next;
             0
         }
-        Loaded::None => 19,
+        None => 19,
     }
 }

@@ -1,7 +1,5 @@
 // The answer of each operation, over words. Words that an answer does not use are zero.
-use likelihood::population_focei::{Observation, Row};
-use likelihood::population_focei_2d::RowVariance;
-use matrix::InversePositive;
+use likelihood::population_focei::{Observation, RowError};
 
 fn of_word(word: u64) -> [u64; 8] {
     [word, 0, 0, 0, 0, 0, 0, 0]
@@ -33,7 +31,7 @@ fn floats_of(words: [u64; 8]) -> [f64; 6] {
 // 1, the determinant and the inverse by rows; or 0.
 fn of_inverse(m: [[f64; 2]; 2]) -> [u64; 8] {
     match matrix::inverse_positive(m) {
-        InversePositive::Exists(det) => {
+        Some(det) => {
             let i = matrix::inverse(m, det);
             [
                 1,
@@ -46,7 +44,7 @@ fn of_inverse(m: [[f64; 2]; 2]) -> [u64; 8] {
                 0,
             ]
         }
-        InversePositive::None => of_word(0),
+        None => of_word(0),
     }
 }
 
@@ -67,7 +65,7 @@ fn of_product(m: [[f64; 2]; 2], v: [f64; 2]) -> [u64; 8] {
 // 0 and the terms; or the number of the refusal.
 fn of_row_terms(observation: Observation, prediction: f64, f_eta: f64, additive: f64) -> [u64; 8] {
     match likelihood::population_focei::row_terms(observation, prediction, f_eta, additive) {
-        Row::Terms(t) => [
+        Ok(t) => [
             0,
             float64::to_word(t.nll),
             float64::to_word(t.score),
@@ -77,15 +75,15 @@ fn of_row_terms(observation: Observation, prediction: f64, f_eta: f64, additive:
             0,
             0,
         ],
-        Row::InvalidVariance => of_word(11),
-        Row::Overflow => of_word(12),
+        Err(RowError::InvalidVariance) => of_word(11),
+        Err(RowError::Overflow) => of_word(12),
     }
 }
 
 // 0 and the sums of a row alone: nll, score, information by rows; or the number of the refusal.
 fn of_add_row(observation: Observation, prediction: f64, f_eta: [f64; 2]) -> [u64; 8] {
     match likelihood::population_focei_2d::row_variance(observation, prediction, f_eta) {
-        RowVariance::Valid(variance) => {
+        Ok(variance) => {
             let row = likelihood::population_focei_2d::scaled_row(
                 observation,
                 prediction,
@@ -107,7 +105,7 @@ fn of_add_row(observation: Observation, prediction: f64, f_eta: [f64; 2]) -> [u6
                 float64::to_word(i[1][1]),
             ]
         }
-        RowVariance::Invalid => of_word(11),
+        Err(RowError::InvalidVariance) => of_word(11),
     }
 }
 

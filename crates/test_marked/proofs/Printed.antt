@@ -1,4 +1,5 @@
 -- What document 01's program prints, computed; and the program with another setup is the same program. Assumes nothing.
+use Rattle.std.specs.Prelude.{Ok, Result}
 use mathlib.Core.Path.{◌≡◌, refl, ap}
 use mathlib.Core.List.{List, []}
 use Prim.Native.Nat.{ℕ, zero, suc}
@@ -9,13 +10,13 @@ use Rattle.machine.specs.Machine.{Ran}
 use Rattle.population.specs.Kept.{words}
 use Rattle.session.specs.Session.{Held}
 use Rattle.session.specs.Calls.{Setting}
-use Rattle.session.specs.declared.Opening.{Opening}
-use Rattle.session.specs.declared.Opening.TheVariants as Opens
 use Rattle.focei_records.specs.Records.{cohort, counts, observations}
 use Rattle.focei_fit.specs.Output as O
 use Rattle.test_marked.specs.Examples as X
 use Rattle.test_marked.specs.Marked.{four}
 use Rattle.test_marked.proofs.Computed.{everything}
+use Rattle.session.specs.declared.State.{State}
+use Rattle.session.specs.declared.Refusal.{Refusal}
 
 -- ---- each run by itself: together they take more memory
 
@@ -56,10 +57,10 @@ module _ (input : List ℕ) where
     plays zero r = refl
     plays (suc left) r = λ i. O.when_asked (λ individual. plays left (O.replied input counts observations r.state individual) i) r r.answer
 
-    opens : (results : List ℕ) (s : Setting) (o : Opening) → X.when_opened O.settings input counts observations results s o ≡ O.when_opened input counts observations results s o
+    opens : (results : List ℕ) (s : Setting) (o : Result State Refusal) → X.when_opened O.settings input counts observations results s o ≡ O.when_opened input counts observations results s o
     unfolding X.when_opened O.when_opened O.begun
-    opens results s (Opens.Opened state) = ap (O.end_of counts) (plays O.most_evaluations _)
-    opens results s (Opens.Refused number place) = refl
+    opens results s (Ok state) = ap (O.end_of counts) (plays O.most_evaluations _)
+    opens results s (Err e) = refl
 
   records : (c : Answer ℕ) → X.when_records O.settings input c ≡ O.when_records input c
   unfolding X.when_records X.fitted O.when_records O.lent O.fitted

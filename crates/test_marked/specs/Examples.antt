@@ -1,5 +1,5 @@
 -- Document 01's examples of its program: what is read and what is printed, also with another eta_bound or max_evaluations.
-use Rattle.std.specs.Prelude.{List, [], ◌∷◌, ◌++◌, ℕ, zero, suc, ◌/◌, ◌%◌, Float, replicate}
+use Rattle.std.specs.Prelude.{List, [], ◌∷◌, ◌++◌, ℕ, zero, suc, ◌/◌, ◌%◌, Float, replicate, Ok, Result}
 use Prim.Native.Char.{code}
 use Prim.Native.String.{String}
 use Prim.Native.String as Text
@@ -14,12 +14,12 @@ use Rattle.population.specs.Kept.{words}
 use Rattle.population.specs.Population.{rows_of}
 use Rattle.session.specs.Session.{Held, objective, reply as rows, no_tally}
 use Rattle.session.specs.Calls.{held_of, Setting}
-use Rattle.session.specs.declared.Opening.{Opening}
-use Rattle.session.specs.declared.Opening.TheVariants as Opens
 use Rattle.program_calls.specs.Recorded.{call_of, open_of}
 use Rattle.focei_records.specs.Records.{cohort, counts, observations, reply}
 use Rattle.focei_text.specs.Report.{refusal_line}
 use Rattle.focei_fit.specs.Output.{most_evaluations, settings, first_parameters, when_asked, end_of}
+use Rattle.session.specs.declared.State.{State}
+use Rattle.session.specs.declared.Refusal.{Refusal}
 
 -- ---- bytes
 
@@ -52,13 +52,13 @@ module _ (setup : Setup) (input : List ℕ) where
     play zero r = r
     play (suc left) r = when_asked (λ individual. play left (replied r.state individual)) r r.answer
 
-    unfoldable pub when_opened : List ℕ → Setting → Opening → List ℕ
-    when_opened results s (Opens.Opened state) =
+    unfoldable pub when_opened : List ℕ → Setting → Result State Refusal → List ℕ
+    when_opened results s (Ok state) =
         end_of counts
         (play most_evaluations
         (call_of setup counts observations (objective first_parameters)
         (held_of state s.begun.tally s.cache s.work s.warm results)))
-    when_opened results s (Opens.Refused number place) = refusal_line number place
+    when_opened results s (Err e) = refusal_line e.number e.place
 
     unfoldable pub fitted : List ℕ → List ℕ → List ℕ → List ℕ → List ℕ
     fitted cache work warm results =

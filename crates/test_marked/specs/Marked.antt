@@ -1,7 +1,7 @@
 -- Document 01's marked facts, its program's printed examples, and worked sessions with two effects, as one table. The proof is
 -- proofs/Table.antt. src/main.rt holds the code of the leaves to it; the code of the program is `output`, by the contract of
 -- `focei_fit::focei`, and the exported calls of a session are `setup_over` and `call_over`, by the contracts of `curlewstand_calls`.
-use Rattle.std.specs.Prelude.{◌≡◌, Bool, List, [], ◌∷◌, ℕ, Float}
+use Rattle.std.specs.Prelude.{◌≡◌, Bool, List, [], ◌∷◌, ℕ, Float, Err, Ok}
 use Rattle.std.specs.Float.{inf}
 use Rattle.float64.specs.Arithmetic.{word, half, one, two}
 use Rattle.libm.specs.Log.{log}
@@ -13,11 +13,11 @@ use Rattle.likelihood.specs.Row2.{row_variance}
 use Rattle.mode.specs.Rules.{grid_point, eta_tolerance}
 use Rattle.test_exports.specs.Leaves.{observation_of}
 use Rattle.setup.specs.Admission.{checks}
-use Rattle.setup.specs.declared.Admission.TheVariants.{Accepted, Refused}
 use Rattle.subject.specs.Observations.{first_check}
 use Rattle.focei_fit.specs.Output.{settings, output}
 use Rattle.test_marked.specs.Examples.{bytes, settings_with, output_with, example, example_text, far, room}
 use Rattle.test_marked.specs.Session2.{session, first_value, steep, asked, to_mode, found, to_bound, refused_after}
+use Rattle.setup.specs.declared.AdmissionError.TheVariants.{Refused}
 
 abbrev pub zero : Float
 zero = word 0
@@ -63,8 +63,8 @@ pub record Marked : Type 0 where
   pub tolerance_loose : eta_tolerance (word 0x3f50_624d_d2f1_a9fc) ≡ word 0x3e45_798e_e230_8c3a
   pub tolerance_tight : eta_tolerance (word 0x3e11_2e0b_e826_d695) ≡ word 0x3d71_9799_812d_ea11
   -- eta_bound 16 passes, the next float gets 3; whatever max_evaluations is
-  pub bound_16 : (most : ℕ) → checks (settings_with (word 0x4030_0000_0000_0000) most) (1 ∷ []) room first_check ≡ Accepted
-  pub bound_next : (most : ℕ) → checks (settings_with (word 0x4030_0000_0000_0001) most) (1 ∷ []) room first_check ≡ Refused 3
+  pub bound_16 : (most : ℕ) → checks (settings_with (word 0x4030_0000_0000_0000) most) (1 ∷ []) room first_check ≡ (Ok tt)
+  pub bound_next : (most : ℕ) → checks (settings_with (word 0x4030_0000_0000_0001) most) (1 ∷ []) room first_check ≡ Err (Refused 3)
   -- what the program prints of the example
   pub printed : output example ≡ example_text
   -- value 1000, additive 1, proportional 0, base 0, slope 1

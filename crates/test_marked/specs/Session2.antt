@@ -2,11 +2,10 @@
 --
 -- One subject has one observation: value 3, additive 1/2, proportional 0. Theta is (1, 1), omega (1, 1/2; 1/2, 1), and K and
 -- max_evaluations are 25.
-use Rattle.std.specs.Prelude.{List, [], ◌∷◌, ℕ, zero, suc, eqb, Float, get_or}
+use Rattle.std.specs.Prelude.{List, [], ◌∷◌, ℕ, zero, suc, eqb, Float, get_or, None}
 use Rattle.float64.specs.Arithmetic.{word, half, one}
 use Rattle.float64.specs.Pick.{pick}
 use Rattle.likelihood.specs.declared.population_focei.Observation.{Observation}
-use Rattle.subject.specs.declared.AdditiveSd.TheVariants.{Own}
 use Rattle.words.specs.Words.{zeros}
 use Rattle.setup.specs.declared.Setup.{Setup}
 use Rattle.setup.specs.declared.Parameters.{Parameters}
@@ -27,13 +26,13 @@ setup_with eta_bound = record {
   gradient_tolerance = word 0x3f1a_36e2_eb1c_432d;
   width = 1;
   k = 25;
-  additive_sd = Own;
+  additive_sd = None;
   output_budget = 3;
   max_evaluations = 25;
 }
 
 unfoldable pub parameters : Parameters
-parameters = record { theta = record { first = one; second = one }; omega = one; additive_sd = Own }
+parameters = record { theta = record { first = one; second = one }; omega = one; additive_sd = None }
 
 unfoldable pub observations : List Observation
 observations = record { output = 0; row = 0; value = word 0x4008_0000_0000_0000; additive = half; proportional = word 0 } ∷ []

@@ -25,7 +25,7 @@ ghost use Rattle.std.specs.Prelude.{◌≤◌};
 use answers::Answer;
 use program_calls::OBSERVATION_WORDS;
 use search::{CachedRows, Calls, Tally};
-use session::{Begun, Called, Opening, State};
+use session::{Begun, Called, Refusal, State};
 use setup::{Parameters, Setup};
 use std::io;
 use std::io::{Read, Write};
@@ -145,12 +145,12 @@ fn began(begun: Begun, state: State) -> Given {
     let opening = begun.opening;
     let tally = begun.tally;
     match opening {
-        Opening::Opened(first) => Given {
+        Ok(first) => Given {
             answer: answers::opened(),
             state: first,
             tally,
         },
-        Opening::Refused(number, place) => Given {
+        Err(Refusal { number, place }) => Given {
             answer: answers::refused(number, place),
             state,
             tally,

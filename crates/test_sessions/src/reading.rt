@@ -6,7 +6,6 @@ use matrix::Pair;
 use setup::{Parameters, Setup};
 use std::io;
 use std::io::Read;
-use subject::AdditiveSd;
 
 fn wide(byte: u8) -> u64
     ensures { result < 256 }
@@ -74,13 +73,13 @@ pub fn fill(reader: &mut impl Read, words: &mut [u64], n: usize, left: &mut u64)
     Ok(())
 }
 
-fn additive_sd(reader: &mut impl Read, left: &mut u64) -> io::Result<AdditiveSd> {
+fn additive_sd(reader: &mut impl Read, left: &mut u64) -> io::Result<Option<f64>> {
     let has_additive = next(reader, left)?;
     let additive = float(reader, left)?;
     if has_additive == 0 {
-        return Ok(AdditiveSd::Own);
+        return Ok(None);
     }
-    Ok(AdditiveSd::Override(additive))
+    Ok(Some(additive))
 }
 
 // Reads a setup, thirteen words of the script.

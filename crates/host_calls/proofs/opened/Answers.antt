@@ -2,13 +2,13 @@
 use Rattle.host_calls.proofs.Paths.{opens_told, refused_told}
 use Rattle.host_calls.proofs.opened.Goals as goal
 
-pub returns-in-Opened : goal.returns-in-Opened
-returns-in-Opened c =
+pub returns-in-Ok : goal.returns-in-Ok
+returns-in-Ok c =
     opens_told c.args.begun c.args.state.now
-    c.args.answer.now c.in-Opened.is c.write_answer.ensures
+    c.args.answer.now c.in-Ok.is c.write_answer.ensures
     c.save.ensures
 
-pub returns-in-Refused : goal.returns-in-Refused
-returns-in-Refused c =
+pub returns-in-Err : goal.returns-in-Err
+returns-in-Err c =
     refused_told c.args.begun c.args.state.now c.args.answer.now
-    c.in-Refused.is c.place_words.ensures c.write_answer-in-Refused.ensures
+    c.in-Err.is c.place_words.ensures c.write_answer-in-Err.ensures

@@ -8,14 +8,14 @@ overflow_cast-rows c = let most = rows_at_most _ _ c.rows_of-rows.ensures in ome
 
 pub returns-then-is_same_grid : goal.returns-then-is_same_grid
 returns-then-is_same_grid c =
-    same_grid _ _ _ _ _ _ _ c.rows_of-rows.ensures c.closed_by.ensures c.in-Positive.is c.store_warm.ensures
+    same_grid _ _ _ _ _ _ _ c.rows_of-rows.ensures c.closed_by.ensures c.in-Some.is c.store_warm.ensures
     c.is_same_grid.ensures c.if-is_same_grid.true c.write_result.ensures c.write_fitted.ensures
     c.next_subject.ensures
 
 pub returns-else-is_same_grid : goal.returns-else-is_same_grid
 returns-else-is_same_grid c =
-    other_grid _ _ _ _ _ _ _ c.rows_of-rows.ensures c.closed_by.ensures c.in-Positive.is c.store_warm.ensures
+    other_grid _ _ _ _ _ _ _ c.rows_of-rows.ensures c.closed_by.ensures c.in-Some.is c.store_warm.ensures
     c.is_same_grid.ensures c.if-is_same_grid.false c.refused.ensures
 
-pub returns-in-NotPositive : goal.returns-in-NotPositive
-returns-in-NotPositive c = not_positive _ _ _ _ _ _ _ c.rows_of-rows.ensures c.closed_by.ensures c.in-NotPositive.is c.refused-in-NotPositive.ensures
+pub returns-in-None : goal.returns-in-None
+returns-in-None c = not_positive _ _ _ _ _ _ _ c.rows_of-rows.ensures c.closed_by.ensures c.in-None.is c.refused-in-None.ensures

@@ -6,31 +6,31 @@ use Rattle.session.specs.Session.{over}
 use Rattle.session_calls.proofs.Paths.{refused_called, ended_called, lets_in, keeps_out, unsound_out, failure_enters}
 use Rattle.session_calls.proofs.fail.Goals as goal
 
-pub returns-in-Accepted : goal.returns-in-Accepted
-returns-in-Accepted c =
+pub returns-in-Ok : goal.returns-in-Ok
+returns-in-Ok c =
     let h = held_of c.args.state c.args.tally c.args.cache.now c.args.work.now c.args.warm.now c.args.results.now in
     let e = c.ended_as.ensures in
     lets_in (λ x. run c.args.setup c.args.counts.now x) h (over words 8 (Subject c.args.state.progress.subject) h)
     (failure_enters c.args.setup c.args.counts.now c.args.observations c.args.check c.args.state c.args.tally c.args.cache.now c.args.work.now
     c.args.warm.now c.args.results.now
-    c.lent_by-lent.ensures c.admit_awaited-awaited.ensures) c.in-Accepted.is
+    c.lent_by-lent.ensures c.admit_awaited-awaited.ensures) c.in-Ok.is
     (ended_called _ c.args.state c.args.tally 8 (Subject c.args.state.progress.subject) c.args.cache.now c.args.work.now c.args.warm.now
     c.args.results.now e.0 e.1)
 
-pub returns-in-Refused : goal.returns-in-Refused
-returns-in-Refused c =
+pub returns-in-Err-Refused : goal.returns-in-Err-Refused
+returns-in-Err-Refused c =
     let h = held_of c.args.state c.args.tally c.args.cache.now c.args.work.now c.args.warm.now c.args.results.now in
     refused_called c.args.state c.args.tally _ _ c.args.cache.now c.args.work.now c.args.warm.now c.args.results.now c.refused_as.ensures
     (keeps_out (λ x. run c.args.setup c.args.counts.now x) h (over words 8 (Subject c.args.state.progress.subject) h)
     (failure_enters c.args.setup c.args.counts.now c.args.observations c.args.check c.args.state c.args.tally c.args.cache.now c.args.work.now
     c.args.warm.now c.args.results.now
-    c.lent_by-lent.ensures c.admit_awaited-awaited.ensures) c.in-Refused.is)
+    c.lent_by-lent.ensures c.admit_awaited-awaited.ensures) c.in-Err-Refused.is)
 
-pub returns-in-Unsound : goal.returns-in-Unsound
-returns-in-Unsound c =
+pub returns-in-Err-Unsound : goal.returns-in-Err-Unsound
+returns-in-Err-Unsound c =
     let h = held_of c.args.state c.args.tally c.args.cache.now c.args.work.now c.args.warm.now c.args.results.now in
-    refused_called c.args.state c.args.tally _ _ c.args.cache.now c.args.work.now c.args.warm.now c.args.results.now c.refused_as-in-Unsound.ensures
+    refused_called c.args.state c.args.tally _ _ c.args.cache.now c.args.work.now c.args.warm.now c.args.results.now c.refused_as-in-Err-Unsound.ensures
     (unsound_out (λ x. run c.args.setup c.args.counts.now x) h (over words 8 (Subject c.args.state.progress.subject) h)
     (failure_enters c.args.setup c.args.counts.now c.args.observations c.args.check c.args.state c.args.tally c.args.cache.now c.args.work.now
     c.args.warm.now c.args.results.now
-    c.lent_by-lent.ensures c.admit_awaited-awaited.ensures) c.in-Unsound.is)
+    c.lent_by-lent.ensures c.admit_awaited-awaited.ensures) c.in-Err-Unsound.is)

@@ -4,19 +4,19 @@ use Rattle.session.specs.Calls.{held_of}
 use Rattle.session_calls.proofs.Paths.{refused_called, keeps_out, unsound_out, finish_enters, finish_follows}
 use Rattle.session_calls.proofs.finish_reply.Goals as goal
 
-pub returns-in-Accepted : goal.returns-in-Accepted
-returns-in-Accepted c =
+pub returns-in-Ok : goal.returns-in-Ok
+returns-in-Ok c =
     finish_follows c.args.counts.now c.args.admitted.awaited c.args.evaluation (held_of c.args.state c.args.tally c.args.cache.now c.args.work.now
-    c.args.warm.now c.args.results.now) c.in-Accepted.is c.follow.ensures
+    c.args.warm.now c.args.results.now) c.in-Ok.is c.follow.ensures
 
-pub returns-in-Refused : goal.returns-in-Refused
-returns-in-Refused c =
+pub returns-in-Err-Refused : goal.returns-in-Err-Refused
+returns-in-Err-Refused c =
     let h = held_of c.args.state c.args.tally c.args.cache.now c.args.work.now c.args.warm.now c.args.results.now in
     refused_called c.args.state c.args.tally _ _ c.args.cache.now c.args.work.now c.args.warm.now c.args.results.now c.refused_as.ensures
-    (keeps_out _ h _ refl c.in-Refused.is ∙ finish_enters c.args.counts.now c.args.admitted.awaited c.args.evaluation h)
+    (keeps_out _ h _ refl c.in-Err-Refused.is ∙ finish_enters c.args.counts.now c.args.admitted.awaited c.args.evaluation h)
 
-pub returns-in-Unsound : goal.returns-in-Unsound
-returns-in-Unsound c =
+pub returns-in-Err-Unsound : goal.returns-in-Err-Unsound
+returns-in-Err-Unsound c =
     let h = held_of c.args.state c.args.tally c.args.cache.now c.args.work.now c.args.warm.now c.args.results.now in
-    refused_called c.args.state c.args.tally _ _ c.args.cache.now c.args.work.now c.args.warm.now c.args.results.now c.refused_as-in-Unsound.ensures
-    (unsound_out _ h _ refl c.in-Unsound.is ∙ finish_enters c.args.counts.now c.args.admitted.awaited c.args.evaluation h)
+    refused_called c.args.state c.args.tally _ _ c.args.cache.now c.args.work.now c.args.warm.now c.args.results.now c.refused_as-in-Err-Unsound.ensures
+    (unsound_out _ h _ refl c.in-Err-Unsound.is ∙ finish_enters c.args.counts.now c.args.admitted.awaited c.args.evaluation h)

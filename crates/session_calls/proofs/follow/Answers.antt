@@ -2,20 +2,20 @@
 use Rattle.session_calls.proofs.Paths.{follows_sums, follows_refusal, follows_refusal_at}
 use Rattle.session_calls.proofs.follow.Goals as goal
 
-pub returns-in-Running : goal.returns-in-Running
-returns-in-Running c =
+pub returns-in-Ok : goal.returns-in-Ok
+returns-in-Ok c =
     follows_sums c.args.fit c.args.counts.now c.args.eta c.args.evaluation c.args.state c.args.tally c.args.cache.now c.args.work.now
     c.args.warm.now c.args.results.now
-    c.finish.ensures c.keep-kept.result c.in-Running.is c.keep-kept.ensures c.run.ensures
+    c.finish.ensures c.keep-kept.result c.in-Ok.is c.keep-kept.ensures c.run.ensures
 
-pub returns-in-Refused : goal.returns-in-Refused
-returns-in-Refused c =
+pub returns-in-Err-Refused : goal.returns-in-Err-Refused
+returns-in-Err-Refused c =
     follows_refusal c.args.fit c.args.counts.now c.args.eta c.args.evaluation c.args.state c.args.tally c.args.cache.now c.args.work.now
     c.args.warm.now c.args.results.now
-    c.finish.ensures c.in-Refused.is c.ended_as.ensures
+    c.finish.ensures c.in-Err-Refused.is c.ended_as.ensures
 
-pub returns-in-RefusedAt : goal.returns-in-RefusedAt
-returns-in-RefusedAt c =
+pub returns-in-Err-RefusedAt : goal.returns-in-Err-RefusedAt
+returns-in-Err-RefusedAt c =
     follows_refusal_at c.args.fit c.args.counts.now c.args.eta c.args.evaluation c.args.state c.args.tally c.args.cache.now c.args.work.now
     c.args.warm.now c.args.results.now
-    c.finish.ensures c.in-RefusedAt.is c.ended_as-in-RefusedAt.ensures
+    c.finish.ensures c.in-Err-RefusedAt.is c.ended_as-in-Err-RefusedAt.ensures

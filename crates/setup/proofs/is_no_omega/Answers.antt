@@ -14,10 +14,10 @@ returns-then-is_no_variance-2 c = no_second_variance _ c.is_no_variance.ensures 
 pub returns-then-setup : goal.returns-then-setup
 returns-then-setup c = not_symmetric _ c.is_no_variance.ensures c.if-is_no_variance.false c.if-setup-eq1.false c.is_no_variance-2.ensures c.if-is_no_variance-2.false c.if-setup.true
 
-pub returns-in-Exists : goal.returns-in-Exists
-returns-in-Exists c =
+pub returns-in-Some : goal.returns-in-Some
+returns-in-Some c =
     has_inverse _ c.is_no_variance.ensures c.if-is_no_variance.false c.if-setup-eq1.false c.is_no_variance-2.ensures c.if-is_no_variance-2.false c.if-setup.false
-    c.inverse_positive.ensures c.in-Exists.is
+    c.inverse_positive.ensures c.in-Some.is
 
 pub returns-in-None : goal.returns-in-None
 returns-in-None c =

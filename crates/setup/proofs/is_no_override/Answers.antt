@@ -3,13 +3,13 @@ use Rattle.setup.proofs.Paths.{own, two_effects, infinite, finite}
 use Rattle.setup.proofs.is_no_override.Goals as goal
 
 pub returns-then-effects-eq2 : goal.returns-then-effects-eq2
-returns-then-effects-eq2 c = two_effects _ _ c.in-Override.is c.if-effects-eq2.true
+returns-then-effects-eq2 c = two_effects _ _ c.in-Some.is c.if-effects-eq2.true
 
 pub returns-then-is_nonfinite : goal.returns-then-is_nonfinite
-returns-then-is_nonfinite c = infinite _ _ c.in-Override.is c.if-effects-eq2.false c.is_nonfinite.ensures c.if-is_nonfinite.true
+returns-then-is_nonfinite c = infinite _ _ c.in-Some.is c.if-effects-eq2.false c.is_nonfinite.ensures c.if-is_nonfinite.true
 
-pub returns-in-Own : goal.returns-in-Own
-returns-in-Own c = own _ _ c.in-Own.is
+pub returns-in-None : goal.returns-in-None
+returns-in-None c = own _ _ c.in-None.is
 
 pub returns-else-is_nonfinite : goal.returns-else-is_nonfinite
-returns-else-is_nonfinite c = finite _ _ c.in-Override.is c.if-effects-eq2.false c.is_nonfinite.ensures c.if-is_nonfinite.false
+returns-else-is_nonfinite c = finite _ _ c.in-Some.is c.if-effects-eq2.false c.is_nonfinite.ensures c.if-is_nonfinite.false

@@ -2,12 +2,12 @@
 use Rattle.state_words.proofs.Paths.{objective_own, objective_override}
 use Rattle.state_words.proofs.objective_words.Goals as goal
 
-pub returns-in-Own : goal.returns-in-Own
-returns-in-Own c =
+pub returns-in-None : goal.returns-in-None
+returns-in-None c =
     objective_own _ _ c.flag-awaits_word.ensures c.to_word-theta0.ensures c.to_word-theta1.ensures
-    c.to_word-omega.ensures c.in-Own.is
+    c.to_word-omega.ensures c.in-None.is
 
-pub returns-in-Override : goal.returns-in-Override
-returns-in-Override c =
+pub returns-in-Some : goal.returns-in-Some
+returns-in-Some c =
     objective_override _ _ c.flag-awaits_word.ensures c.to_word-theta0.ensures
-    c.to_word-theta1.ensures c.to_word-omega.ensures c.in-Override.is c.to_word.ensures
+    c.to_word-theta1.ensures c.to_word-omega.ensures c.in-Some.is c.to_word.ensures

@@ -3,13 +3,13 @@ use Rattle.subject.proofs.Paths.{sum_overflows, sums_stand, ends_refused, ends_r
 use Rattle.subject.proofs.finish.Goals as goal
 
 pub returns-then-has_nonfinite_sum : goal.returns-then-has_nonfinite_sum
-returns-then-has_nonfinite_sum c = sum_overflows c.in-Running.is c.has_nonfinite_sum.ensures c.if-has_nonfinite_sum.true
+returns-then-has_nonfinite_sum c = sum_overflows c.in-Ok.is c.has_nonfinite_sum.ensures c.if-has_nonfinite_sum.true
 
 pub returns-else-has_nonfinite_sum : goal.returns-else-has_nonfinite_sum
-returns-else-has_nonfinite_sum c = sums_stand c.in-Running.is c.has_nonfinite_sum.ensures c.if-has_nonfinite_sum.false
+returns-else-has_nonfinite_sum c = sums_stand c.in-Ok.is c.has_nonfinite_sum.ensures c.if-has_nonfinite_sum.false
 
-pub returns-in-Refused : goal.returns-in-Refused
-returns-in-Refused c = ends_refused c.in-Refused.is
+pub returns-in-Err-Refused : goal.returns-in-Err-Refused
+returns-in-Err-Refused c = ends_refused c.in-Err-Refused.is
 
-pub returns-in-RefusedAt : goal.returns-in-RefusedAt
-returns-in-RefusedAt c = ends_refused_at c.in-RefusedAt.is
+pub returns-in-Err-RefusedAt : goal.returns-in-Err-RefusedAt
+returns-in-Err-RefusedAt c = ends_refused_at c.in-Err-RefusedAt.is

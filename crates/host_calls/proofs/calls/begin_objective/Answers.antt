@@ -3,12 +3,12 @@ use Rattle.host_calls.specs.Hosting.{setup_of, parameters_of}
 use Rattle.host_calls.proofs.Paths.{objective_given, objective_none}
 use Rattle.host_calls.proofs.calls.begin_objective.Goals as goal
 
-pub returns-in-Given : goal.returns-in-Given
-returns-in-Given c =
+pub returns-in-Some : goal.returns-in-Some
+returns-in-Some c =
     objective_given (setup_of c.args.setup) c.args.counts.now c.args.observations c.args.check
     c.args.tally c.args.state.now c.args.answer.now c.args.cache.now c.args.work.now c.args.warm.now c.args.results.now
     c.load.ensures
-    (parameters_of c.args.parameters) c.in-Given.is c.setup_of.ensures.0
+    (parameters_of c.args.parameters) c.in-Some.is c.setup_of.ensures.0
     c.parameters_of.ensures.0
     c.begin_objective-begun.ensures c.told.ensures
 

@@ -3,10 +3,10 @@ use Rattle.host_calls.specs.Hosting.{setup_of}
 use Rattle.host_calls.proofs.Paths.{failure_given, failure_none}
 use Rattle.host_calls.proofs.calls.fail.Goals as goal
 
-pub returns-in-Given : goal.returns-in-Given
-returns-in-Given c =
+pub returns-in-Some : goal.returns-in-Some
+returns-in-Some c =
     failure_given (setup_of c.args.setup) c.args.counts.now c.args.observations c.args.check c.args.tally c.args.state.now c.args.answer.now
-    c.args.cache.now c.args.work.now c.args.warm.now c.args.results.now c.load.ensures c.in-Given.is
+    c.args.cache.now c.args.work.now c.args.warm.now c.args.results.now c.load.ensures c.in-Some.is
     c.setup_of.ensures.0
     c.fail-failed.ensures c.told.ensures
 

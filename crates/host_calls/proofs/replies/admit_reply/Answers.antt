@@ -4,12 +4,12 @@ use Rattle.host_calls.specs.Hosting.{setup_of, admit_with}
 use Rattle.host_calls.proofs.Paths.{of_given, of_none}
 use Rattle.host_calls.proofs.replies.admit_reply.Goals as goal
 
-pub returns-in-Given : goal.returns-in-Given
+pub returns-in-Some : goal.returns-in-Some
 unfolding admit_with
-returns-in-Given c =
+returns-in-Some c =
     let d = c.args in (
       of_given d.state.now c.load.ensures (admit_with (setup_of d.setup) d.counts.now d.lent d.check d.tally d.reply.now)
-          c.in-Given.is (rw (← c.setup_of.ensures.0) c.admit_reply.ensures),
+          c.in-Some.is (rw (← c.setup_of.ensures.0) c.admit_reply.ensures),
       refl,
     )
 

@@ -2,11 +2,11 @@
 use Rattle.host_calls.proofs.Paths.{finish_given, finish_none}
 use Rattle.host_calls.proofs.replies.finish_reply.Goals as goal
 
-pub returns-in-Given : goal.returns-in-Given
-returns-in-Given c =
+pub returns-in-Some : goal.returns-in-Some
+returns-in-Some c =
     finish_given c.args.counts.now c.args.admitted.awaited c.args.evaluation c.args.tally
     c.args.state.now c.args.answer.now c.args.cache.now c.args.work.now c.args.warm.now c.args.results.now
-    c.load.ensures c.in-Given.is c.finish_reply-finished.ensures c.told.ensures
+    c.load.ensures c.in-Some.is c.finish_reply-finished.ensures c.told.ensures
 
 pub returns-in-None : goal.returns-in-None
 returns-in-None c =

@@ -5,9 +5,9 @@ use Rattle.mode_2d.proofs.population_focei_2d.descend.Goals as goal
 pub try_from-requires : goal.try_from-requires
 try_from-requires c = c.requires
 
-pub returns-in-Exists : goal.returns-in-Exists
-returns-in-Exists c =
-    goes_down _ _ _ _ c.curvature-curvature.ensures c.inverse_positive.ensures c.in-Exists.is c.inverse.ensures c.step_by-step.ensures
+pub returns-in-Some : goal.returns-in-Some
+returns-in-Some c =
+    goes_down _ _ _ _ c.curvature-curvature.ensures c.inverse_positive.ensures c.in-Some.is c.inverse.ensures c.step_by-step.ensures
     c.try_from.ensures
 
 pub returns-in-None : goal.returns-in-None

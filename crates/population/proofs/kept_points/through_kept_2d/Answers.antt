@@ -10,13 +10,13 @@ kept-init c = (refl, refl)
 pub overflow_sub-left : goal.overflow_sub-left
 overflow_sub-left c =
     one_left _ _ _ _ _ c.is_over-over.ensures c.eta_of-at.ensures c.kept_at.ensures
-    c.in-At.is
+    c.in-Some.is
 
 pub kept-smaller : goal.kept-smaller
 kept-smaller c =
     let h = one_left _ _ _ _ _ c.is_over-over.ensures
     c.eta_of-at.ensures c.kept_at.ensures
-    c.in-At.is in omega arith
+    c.in-Some.is in omega arith
 
 pub kept-preserved : goal.kept-preserved
 unfolding with_search
@@ -25,7 +25,7 @@ kept-preserved c =
     let wanted = two_wanted c.args.fit c.args.rows c.args.start c.requires c.settings_2d-settings.ensures _ c.wanted_2d-wanted.ensures in (
       goes_on _ _ _ _ _ _ _ taken wanted c.is_over-over.ensures
           c.eta_of-at.ensures c.kept_at.ensures
-          c.in-At.is c.recall_rows.ensures c.recall.ensures ∙ c.kept.invariant.0,
+          c.in-Some.is c.recall_rows.ensures c.recall.ensures ∙ c.kept.invariant.0,
       c.recall_rows.auto.work ∙ c.take_2d-search.auto.work ∙ c.kept.invariant.1,
     )
 
@@ -37,5 +37,5 @@ unfolding with_search
 returns c =
     let taken = two_taken c.args.fit c.args.rows c.args.start c.requires c.settings_2d-settings.ensures _ _ _ c.take_2d-search.ensures in
     let wanted = two_wanted c.args.fit c.args.rows c.args.start c.requires c.settings_2d-settings.ensures _ c.wanted_2d-wanted.ensures in
-    stops _ _ _ _ _ _ _ taken wanted c.is_over-over.ensures c.eta_of-at.ensures c.kept_at.ensures c.in-Nothing.is ∙
+    stops _ _ _ _ _ _ _ taken wanted c.is_over-over.ensures c.eta_of-at.ensures c.kept_at.ensures c.in-None.is ∙
     c.kept.invariant.0 ∙ from_two _ _ _ _ _ _ _ c.requires c.two_of-search.ensures

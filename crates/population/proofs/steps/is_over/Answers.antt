@@ -2,8 +2,8 @@
 use Rattle.population.proofs.StepsPaths.{goes_on, halts}
 use Rattle.population.proofs.steps.is_over.Goals as goal
 
-pub returns-in-On : goal.returns-in-On
-returns-in-On c = goes_on c.in-On.is
+pub returns-in-Continue : goal.returns-in-Continue
+returns-in-Continue c = goes_on c.in-Continue.is
 
-pub returns-in-Halt : goal.returns-in-Halt
-returns-in-Halt c = halts c.in-Halt.is c.is_over.ensures
+pub returns-in-Break : goal.returns-in-Break
+returns-in-Break c = halts c.in-Break.is c.is_over.ensures

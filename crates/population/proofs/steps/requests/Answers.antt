@@ -20,7 +20,7 @@ pub requests-preserved : goal.requests-preserved
 requests-preserved c =
     let so_far = c.requests.invariant in (
       requests_on _ _ _ _ _ (cache_of c.args.cache.now c.args.order) _ _ _ _ _ c.through_kept-reached.ensures c.if-reached-eq0.false c.turn.ensures
-          c.in-On.is ∙ so_far.0,
+          c.in-Continue.is ∙ so_far.0,
       c.turn.auto.work ∙ c.through_kept-reached.auto.work ∙ so_far.1,
       c.turn.auto.warm ∙ so_far.2,
       c.turn.auto.results ∙ so_far.3,
@@ -38,16 +38,16 @@ shape_of-results-then-reached-eq0 c = c.requests.invariant.3
 pub returns-then-reached-eq0 : goal.returns-then-reached-eq0
 returns-then-reached-eq0 c = requests_spent _ _ _ _ _ _ _ _ _ _ _ c.through_kept-reached.ensures c.if-reached-eq0.true ∙ c.requests.invariant.0
 
-pub shape_of-work-in-Halt : goal.shape_of-work-in-Halt
-shape_of-work-in-Halt c = c.turn.auto.work ∙ c.through_kept-reached.auto.work ∙ c.requests.invariant.1
+pub shape_of-work-in-Break : goal.shape_of-work-in-Break
+shape_of-work-in-Break c = c.turn.auto.work ∙ c.through_kept-reached.auto.work ∙ c.requests.invariant.1
 
-pub shape_of-warm-in-Halt : goal.shape_of-warm-in-Halt
-shape_of-warm-in-Halt c = c.turn.auto.warm ∙ c.requests.invariant.2
+pub shape_of-warm-in-Break : goal.shape_of-warm-in-Break
+shape_of-warm-in-Break c = c.turn.auto.warm ∙ c.requests.invariant.2
 
-pub shape_of-results-in-Halt : goal.shape_of-results-in-Halt
-shape_of-results-in-Halt c = c.turn.auto.results ∙ c.requests.invariant.3
+pub shape_of-results-in-Break : goal.shape_of-results-in-Break
+shape_of-results-in-Break c = c.turn.auto.results ∙ c.requests.invariant.3
 
-pub returns-in-Halt : goal.returns-in-Halt
-returns-in-Halt c =
+pub returns-in-Break : goal.returns-in-Break
+returns-in-Break c =
     requests_halt _ _ _ _ _ (cache_of c.args.cache.now c.args.order) _ _ _ _ _ c.through_kept-reached.ensures c.if-reached-eq0.false c.turn.ensures
-    c.in-Halt.is ∙ c.requests.invariant.0
+    c.in-Break.is ∙ c.requests.invariant.0

@@ -2,9 +2,9 @@
 use Rattle.search.proofs.ObjectivePaths.{not_positive, closes_two}
 use Rattle.search.proofs.objective.closed_2d.Goals as goal
 
-pub returns-in-Exists : goal.returns-in-Exists
-returns-in-Exists c =
-    closes_two _ _ _ c.curvature-curvature.ensures c.inverse_positive.ensures c.in-Exists.is c.array_of-precision.ensures c.product.ensures
+pub returns-in-Some : goal.returns-in-Some
+returns-in-Some c =
+    closes_two _ _ _ c.curvature-curvature.ensures c.inverse_positive.ensures c.in-Some.is c.array_of-precision.ensures c.product.ensures
     c.dot.ensures c.log.ensures
 
 pub returns-in-None : goal.returns-in-None

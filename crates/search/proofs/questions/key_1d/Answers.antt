@@ -1,13 +1,13 @@
 -- `key_1d` meets its contract: each arm by its law. Assumes nothing.
 use Rattle.search.proofs.QuestionsPaths.{own_key, override_key}
 use Rattle.search.proofs.questions.key_1d.Goals as goal
-use Rattle.search.proofs.questions.key_1d.Goals.{in-Own, in-Override}
+use Rattle.search.proofs.questions.key_1d.Goals.{in-None, in-Some}
 
 pub returns : goal.returns
 returns c =
     let theta = c.to_word.ensures in
     let eta = c.to_word-2.ensures in
     elim c.match-additive_sd.branch [
-      | in-Own w ↦ own_key _ _ _ theta eta w.in-Own.is w.has_additive-is w.additive-is
-      | in-Override w ↦ override_key _ _ _ theta eta w.in-Override.is w.to_word-additive.ensures w.has_additive-is w.additive-is
+      | in-None w ↦ own_key _ _ _ theta eta w.in-None.is w.has_additive-is w.additive-is
+      | in-Some w ↦ override_key _ _ _ theta eta w.in-Some.is w.to_word-additive.ensures w.has_additive-is w.additive-is
     ]

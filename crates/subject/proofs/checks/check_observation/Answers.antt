@@ -2,8 +2,8 @@
 use Rattle.subject.proofs.ChecksPaths.{after_sound, after_unsound}
 use Rattle.subject.proofs.checks.check_observation.Goals as goal
 
-pub returns-in-Sound : goal.returns-in-Sound
-returns-in-Sound c = after_sound _ _ _ c.in-Sound.is c.check_at.ensures
+pub returns-in-Ok : goal.returns-in-Ok
+returns-in-Ok c = after_sound _ _ _ c.in-Ok.is c.check_at.ensures
 
-pub returns-in-Unsound : goal.returns-in-Unsound
-returns-in-Unsound c = after_unsound _ _ _ c.in-Unsound.is
+pub returns-in-Err : goal.returns-in-Err
+returns-in-Err c = after_unsound _ _ _ c.in-Err.is

@@ -5,18 +5,18 @@ use Rattle.float64.specs.Answer.{number_of}
 use Rattle.test_exports.specs.Leaves.{observation_of, added, add_row}
 use Rattle.test_exports.proofs.leaves.curlewstand_add_row.Goals as goal
 
-pub returns-in-Valid : goal.returns-in-Valid
+pub returns-in-Ok : goal.returns-in-Ok
 unfolding answer observation_of number_of added add_row
-returns-in-Valid c =
-    let found = sym (ap answer c.in-Valid.is) ∙ c.row_variance.ensures in
+returns-in-Ok c =
+    let found = sym (ap answer c.in-Ok.is) ∙ c.row_variance.ensures in
     let row = c.scaled_row-row.ensures in
     record {
       value = ap number_of found;
       information_after = rw (c.add_nll.ensures, c.add_score-next_score.ensures, c.add_information-next_information.ensures, row) (ap (added _ _ _ _) found);
     }
 
-pub returns-in-Invalid : goal.returns-in-Invalid
+pub returns-in-Err : goal.returns-in-Err
 unfolding answer observation_of number_of added add_row
-returns-in-Invalid c =
-    let found = sym (ap answer c.in-Invalid.is) ∙ c.row_variance.ensures in
+returns-in-Err c =
+    let found = sym (ap answer c.in-Err.is) ∙ c.row_variance.ensures in
     record { value = ap number_of found; information_after = ap (added _ _ _ _) found }

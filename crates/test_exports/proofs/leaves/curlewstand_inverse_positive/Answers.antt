@@ -4,10 +4,10 @@ use Rattle.matrix.specs.Matrix.{answer}
 use Rattle.test_exports.specs.Leaves.{exists, inverse_or, det_or}
 use Rattle.test_exports.proofs.leaves.curlewstand_inverse_positive.Goals as goal
 
-pub returns-in-Exists : goal.returns-in-Exists
+pub returns-in-Some : goal.returns-in-Some
 unfolding answer exists inverse_or det_or
-returns-in-Exists c =
-    let found = sym (ap (answer _) c.in-Exists.is) ∙ c.inverse_positive.ensures in
+returns-in-Some c =
+    let found = sym (ap (answer _) c.in-Some.is) ∙ c.inverse_positive.ensures in
     record { value = ap exists found; inverse_after = c.inverse-i.ensures ∙ ap (inverse_or _) found; det_after = ap (det_or _) found }
 
 pub returns-in-None : goal.returns-in-None

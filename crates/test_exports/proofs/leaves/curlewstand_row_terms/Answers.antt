@@ -5,10 +5,10 @@ use Rattle.float64.specs.Answer.{number_of}
 use Rattle.test_exports.specs.Leaves.{observation_of, terms_or}
 use Rattle.test_exports.proofs.leaves.curlewstand_row_terms.Goals as goal
 
-pub returns-in-Terms : goal.returns-in-Terms
+pub returns-in-Ok : goal.returns-in-Ok
 unfolding answer observation_of number_of terms_or
-returns-in-Terms c =
-    let found = sym (ap answer c.in-Terms.is) ∙ c.row_terms.ensures in
+returns-in-Ok c =
+    let found = sym (ap answer c.in-Ok.is) ∙ c.row_terms.ensures in
     record { value = ap number_of found; terms_after = ap (terms_or _) found }
 
 pub returns-in-InvalidVariance : goal.returns-in-InvalidVariance

@@ -3,9 +3,9 @@ use Rattle.test_exports.specs.Mode2d.{settings_of, point_of}
 use Rattle.test_exports.proofs.Paths.{advance_given, advance_none}
 use Rattle.test_exports.proofs.mode_2d_search.curlewstand_mode_2d_advance.Goals as goal
 
-pub returns-in-Given : goal.returns-in-Given
-returns-in-Given c =
-    let e = advance_given _ c.load.ensures c.settings_of-settings.ensures c.args.search.now c.point_of-c.ensures c.in-Given.is c.advance.ensures c.save-next.ensures in
+pub returns-in-Some : goal.returns-in-Some
+returns-in-Some c =
+    let e = advance_given _ c.load.ensures c.settings_of-settings.ensures c.args.search.now c.point_of-c.ensures c.in-Some.is c.advance.ensures c.save-next.ensures in
     record { value = e.0; search_after = e.1 }
 
 pub returns-in-None : goal.returns-in-None

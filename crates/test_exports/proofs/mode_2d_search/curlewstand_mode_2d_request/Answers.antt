@@ -7,19 +7,19 @@ use Rattle.test_exports.proofs.mode_2d_search.curlewstand_mode_2d_request.Goals 
 pub returns-in-Point : goal.returns-in-Point
 unfolding request_number point_or
 returns-in-Point c =
-    let e = request_given _ c.load.ensures c.settings_of-settings.ensures c.args.point.now c.in-Given.is (sym c.in-Point.is ∙ c.request.ensures) in
+    let e = request_given _ c.load.ensures c.settings_of-settings.ensures c.args.point.now c.in-Some.is (sym c.in-Point.is ∙ c.request.ensures) in
     record { value = e.0; point_after = e.1 }
 
 pub returns-in-Mode : goal.returns-in-Mode
 unfolding request_number point_or
 returns-in-Mode c =
-    let e = request_given _ c.load.ensures c.settings_of-settings.ensures c.args.point.now c.in-Given.is (sym c.in-Mode.is ∙ c.request.ensures) in
+    let e = request_given _ c.load.ensures c.settings_of-settings.ensures c.args.point.now c.in-Some.is (sym c.in-Mode.is ∙ c.request.ensures) in
     record { value = e.0; point_after = e.1 }
 
 pub returns-in-Refused : goal.returns-in-Refused
 unfolding request_number point_or
 returns-in-Refused c =
-    let e = request_given _ c.load.ensures c.settings_of-settings.ensures c.args.point.now c.in-Given.is (sym c.in-Refused.is ∙ c.request.ensures) in
+    let e = request_given _ c.load.ensures c.settings_of-settings.ensures c.args.point.now c.in-Some.is (sym c.in-Refused.is ∙ c.request.ensures) in
     record { value = e.0; point_after = e.1 }
 
 pub returns-in-None : goal.returns-in-None

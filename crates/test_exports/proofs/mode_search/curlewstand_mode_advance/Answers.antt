@@ -5,10 +5,10 @@ use Rattle.state_words.specs.SearchWords.{saved, answer}
 use Rattle.test_exports.specs.Mode.{next, advanced}
 use Rattle.test_exports.proofs.mode_search.curlewstand_mode_advance.Goals as goal
 
-pub returns-in-Given : goal.returns-in-Given
+pub returns-in-Some : goal.returns-in-Some
 unfolding answer through advanced number_of or_old
-returns-in-Given c =
-    let found = ap (through (next _ _)) (sym (ap answer c.in-Given.is) ∙ c.load.ensures) in
+returns-in-Some c =
+    let found = ap (through (next _ _)) (sym (ap answer c.in-Some.is) ∙ c.load.ensures) in
     record { value = ap number_of found; search_after = c.save-next.ensures ∙ ap saved c.advance.ensures ∙ ap (or_old _) found }
 
 pub returns-in-None : goal.returns-in-None

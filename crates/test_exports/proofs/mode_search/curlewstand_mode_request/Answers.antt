@@ -9,21 +9,21 @@ use Rattle.test_exports.proofs.mode_search.curlewstand_mode_request.Goals as goa
 pub returns-in-Point : goal.returns-in-Point
 unfolding answer through requested request_number point_or
 returns-in-Point c =
-    let found = ap (through (request _)) (sym (ap answer c.in-Given.is) ∙ c.load.ensures) in
+    let found = ap (through (request _)) (sym (ap answer c.in-Some.is) ∙ c.load.ensures) in
     let told = ap given (sym c.in-Point.is ∙ c.request.ensures) ∙ found in
     record { value = ap request_number told; point_after = ap (point_or _) told }
 
 pub returns-in-Mode : goal.returns-in-Mode
 unfolding answer through requested request_number point_or
 returns-in-Mode c =
-    let found = ap (through (request _)) (sym (ap answer c.in-Given.is) ∙ c.load.ensures) in
+    let found = ap (through (request _)) (sym (ap answer c.in-Some.is) ∙ c.load.ensures) in
     let told = ap given (sym c.in-Mode.is ∙ c.request.ensures) ∙ found in
     record { value = ap request_number told; point_after = ap (point_or _) told }
 
 pub returns-in-Refused : goal.returns-in-Refused
 unfolding answer through requested request_number point_or
 returns-in-Refused c =
-    let found = ap (through (request _)) (sym (ap answer c.in-Given.is) ∙ c.load.ensures) in
+    let found = ap (through (request _)) (sym (ap answer c.in-Some.is) ∙ c.load.ensures) in
     let told = ap given (sym c.in-Refused.is ∙ c.request.ensures) ∙ found in
     record { value = ap request_number told; point_after = ap (point_or _) told }
 
