@@ -12,7 +12,7 @@ use Rattle.likelihood.specs.declared.population_focei.RowError.{RowError}
 use Rattle.likelihood.specs.declared.population_focei.RowError.TheVariants.{InvalidVariance, Overflow}
 
 -- document 01's number of each of the source's two errors
-unfoldable pub number : RowError → ℕ
+abbrev pub number : RowError → ℕ
 number InvalidVariance = 11
 number Overflow = 12
 

@@ -20,6 +20,7 @@ use Rattle.population.specs.Population.{rows_of}
 use Rattle.session_theorems.proofs.Plain.{true_not_false, false_not_true, positive, split}
 use Rattle.setup.specs.declared.AdmissionError.TheVariants as A
 use Rattle.subject.specs.Observations.{Check}
+use Rattle.setup.specs.declared.Counts.{Counts}
 
 pub record Cohort (effects subjects total observations : ℕ) : Type 0 where
   pub one_or_two : (effects ≡ 1) ⊎ (effects ≡ 2)

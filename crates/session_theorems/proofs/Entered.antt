@@ -52,6 +52,7 @@ use Rattle.session_theorems.proofs.Standing.{advanced_alike}
 use Rattle.subject.specs.declared.EvaluationError.TheVariants as E
 use Rattle.setup.specs.declared.AdmissionError.TheVariants as A
 use Rattle.subject.specs.Observations.{Check}
+use Rattle.setup.specs.declared.Counts.{Counts}
 
 -- ---- 1 to 5: accepted only with 4,096 subjects at most
 unfoldable pub Judged : ℕ → Admission → Type 0

@@ -53,6 +53,7 @@ use Rattle.session_theorems.proofs.Plain.{Not19, before_19, one_not_19}
 use Rattle.subject.specs.declared.EvaluationError.TheVariants as E
 use Rattle.setup.specs.declared.AdmissionError.TheVariants as A
 use Rattle.subject.specs.Observations.{Check}
+use Rattle.setup.specs.declared.Counts.{Counts}
 
 -- ---- the numbers of 1 to 5
 unfoldable pub NumberOther : Admission → Type 0

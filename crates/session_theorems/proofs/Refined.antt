@@ -62,6 +62,7 @@ use Rattle.core.specs.declared.ops.ControlFlow.TheVariants.{Break, Continue}
 use Rattle.subject.specs.declared.EvaluationError.TheVariants as E
 use Rattle.setup.specs.declared.AdmissionError.TheVariants as A
 use Rattle.subject.specs.Observations.{Check}
+use Rattle.setup.specs.declared.Counts.{Counts}
 
 -- ---- one key, one entry
 entry_of_lem : (P : Entry → Type 0) (key : CacheKey) (l : List Entry) (x : Entry) → Every P l → lookup key l ≡ Some x → P x × (x.key ≡ key)

@@ -19,6 +19,7 @@ use Rattle.setup.proofs.Bounds.{not_first, counts_low}
 use Rattle.setup.specs.SubjectChecks.{subject_checks}
 use Rattle.session_theorems.proofs.Accepted.{each_count}
 use Rattle.session_theorems.proofs.Plain.{true_not_false, false_not_true}
+use Rattle.setup.specs.declared.Counts.{Counts}
 
 -- ---- 4: every observation of a list that passed is sound, and so is every one of a part
 abbrev Sounds : ℕ → List Observation → Type 0

@@ -11,6 +11,7 @@ use lib.Dec.{T, ltb, eqb}
 use Rattle.float64.specs.Pick.{pick, both, cases}
 use Rattle.setup.specs.declared.Setup.{Setup}
 use Rattle.setup.specs.Admission.{larger, count_from, count_observations, is_cohort, is_no_shape, within}
+use Rattle.setup.specs.declared.Counts.{Counts}
 
 -- where the answer is not that of a test, the test was false
 pub not_first : {X : Type 0} {x z : X} (b : Bool) (y : X) → (x ≡ z → ⊥) → pick b x y ≡ z → (b ≡ false) × (y ≡ z)

@@ -24,6 +24,7 @@ use Rattle.setup.specs.Admission.{is_beyond, larger, count_from, count_observati
 use Rattle.setup.specs.Admission.{admitted, checks_of, checks, with_parameters}
 use Rattle.setup.specs.declared.AdmissionError.TheVariants.{Refused, Unsound}
 use Rattle.subject.specs.Observations.{Check}
+use Rattle.setup.specs.declared.Counts.{Counts}
 
 -- ---- a range
 module _ (x low high : Float) where

@@ -16,6 +16,7 @@ use Rattle.setup.specs.declared.Lent.{Lent}
 use Rattle.setup.specs.declared.AdmissionError.{AdmissionError}
 use Rattle.setup.specs.declared.AdmissionError.TheVariants.{Refused, Unsound}
 use Rattle.subject.specs.declared.Position.{Position}
+use Rattle.setup.specs.declared.Counts.{Counts}
 
 -- not from low to high
 unfoldable pub is_beyond : Float → Float → Float → Bool

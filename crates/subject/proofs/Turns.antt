@@ -46,7 +46,7 @@ module _ (sums : Sums) (observation : Observation) (prediction : Float) (f-eta :
   unfolding answerRow2 through at_observation
   row_added t p q = added2 t (ap Ok (q ∙ ap (λ (x : Row2). with_row sums x f-eta) p))
 
-  pub no_variance2 : r ≡ (Err (Err InvalidVariance)) → Err (RefusedAt 11 sums.observation) ≡ add_row2 sums observation prediction f-eta
+  pub no_variance2 : r ≡ (Err InvalidVariance) → Err (RefusedAt 11 sums.observation) ≡ add_row2 sums observation prediction f-eta
   unfolding answerRow2 through at_observation
   no_variance2 t = added2 t refl
 
