@@ -1,5 +1,5 @@
 // The answer of each operation, over words. Words that an answer does not use are zero.
-use likelihood::population_focei::{Observation, RowError};
+use likelihood::population_focei::Observation;
 
 fn of_word(word: u64) -> [u64; 8] {
     [word, 0, 0, 0, 0, 0, 0, 0]
@@ -10,10 +10,7 @@ fn of_float(x: f64) -> [u64; 8] {
 }
 
 fn of_bool(b: bool) -> [u64; 8] {
-    if b {
-        return of_word(1);
-    }
-    of_word(0)
+    of_word(b as u64)
 }
 
 // The floats of the first words.
@@ -75,8 +72,7 @@ fn of_row_terms(observation: Observation, prediction: f64, f_eta: f64, additive:
             0,
             0,
         ],
-        Err(RowError::InvalidVariance) => of_word(11),
-        Err(RowError::Overflow) => of_word(12),
+        Err(error) => of_word(error.number() as u64),
     }
 }
 
@@ -105,7 +101,7 @@ fn of_add_row(observation: Observation, prediction: f64, f_eta: [f64; 2]) -> [u6
                 float64::to_word(i[1][1]),
             ]
         }
-        Err(RowError::InvalidVariance) => of_word(11),
+        Err(error) => of_word(error.number() as u64),
     }
 }
 

@@ -14,19 +14,11 @@ use std::io::{Read, Write};
 fn digit(glyph: u8) -> u64
     ensures { result < 16 }
 {
-    if glyph < 48 {
-        return 0;
+    match glyph {
+        b'0'..=b'9' => (glyph - b'0') as u64,
+        b'a'..=b'f' => (glyph - b'a' + 10) as u64,
+        _ => 0,
     }
-    if glyph < 58 {
-        return (glyph - 48) as u64;
-    }
-    if glyph < 97 {
-        return 0;
-    }
-    if glyph < 103 {
-        return (glyph - 87) as u64;
-    }
-    0
 }
 
 // The glyph of a value below 16.
@@ -34,9 +26,9 @@ fn glyph(value: u64) -> u8
     requires { value < 16 }
 {
     if value < 10 {
-        return 48 + value as u8;
+        return b'0' + value as u8;
     }
-    87 + value as u8
+    b'a' + (value - 10) as u8
 }
 
 // The word whose sixteen digits start at a place of the line.
@@ -44,10 +36,8 @@ fn word_at(line: &[u8; 139], at: usize) -> u64
     requires { at + 16 ≤ 139 }
 {
     let mut word: u64 = 0;
-    let mut i = 0;
-    while i < 16 {
-        word = word % 0x1000_0000_0000_0000 * 16 + digit(line[at + i]);
-        i += 1;
+    for glyph in &line[at..at + 16] {
+        word = word % 0x1000_0000_0000_0000 * 16 + digit(*glyph);
     }
     word
 }
@@ -56,12 +46,8 @@ fn word_at(line: &[u8; 139], at: usize) -> u64
 fn put_word(line: &mut [u8; 139], at: usize, word: u64)
     requires { at + 16 ≤ 139 }
 {
-    let mut rest = word;
-    let mut i = 16;
-    while 0 < i {
-        i -= 1;
-        line[at + i] = glyph(rest % 16);
-        rest /= 16;
+    for i in 0..16 {
+        line[at + i] = glyph(word >> (60 - 4 * i) & 15);
     }
 }
 

@@ -8,7 +8,7 @@ use std::io::Write;
 
 // The answer of a call: its kind (0 asked, 1 finished or opened, 2 refused), and the four words that it
 // carries.
-#[derive(Clone, Copy)]
+#[derive(Clone, Copy, Default)]
 pub struct Answer {
     pub kind: u64,
     pub a: u64,
@@ -17,18 +17,11 @@ pub struct Answer {
     pub d: u64,
 }
 
-fn word(number: usize) -> u64 {
-    number as u64
-}
-
 // The answer of a setup that opened a session.
 pub fn opened() -> Answer {
     Answer {
         kind: 1,
-        a: 0,
-        b: 0,
-        c: 0,
-        d: 0,
+        ..Answer::default()
     }
 }
 
@@ -50,23 +43,21 @@ pub fn refused(number: u32, place: Place) -> Answer {
         Place::Nowhere => Answer {
             kind: 2,
             a,
-            b: 0,
-            c: 0,
-            d: 0,
+            ..Answer::default()
         },
         Place::Subject(subject) => Answer {
             kind: 2,
             a,
             b: 1,
-            c: word(subject),
+            c: subject as u64,
             d: 0,
         },
         Place::Observation(subject, observation) => Answer {
             kind: 2,
             a,
             b: 2,
-            c: word(subject),
-            d: word(observation),
+            c: subject as u64,
+            d: observation as u64,
         },
     }
 }
@@ -79,8 +70,7 @@ pub fn told(step: Step, shrinkage: u64) -> Answer {
             kind: 1,
             a: float64::to_word(objective),
             b: shrinkage,
-            c: 0,
-            d: 0,
+            ..Answer::default()
         },
         Step::Refused(number, place) => refused(number, place),
     }
@@ -89,13 +79,7 @@ pub fn told(step: Step, shrinkage: u64) -> Answer {
 fn put_word(bytes: &mut [u8; 80], at: usize, word: u64)
     requires { at + 8 ≤ 80 }
 {
-    let mut rest = word;
-    let mut i = 0;
-    while i < 8 {
-        bytes[at + i] = (rest % 256) as u8;
-        rest /= 256;
-        i += 1;
-    }
+    bytes[at..at + 8].copy_from_slice(&word.to_le_bytes());
 }
 
 // Writes the ten words of a call: its answer, the tally, the digests of the warm starts and of the results,
@@ -115,7 +99,7 @@ pub fn write(
     put_word(&mut bytes, 24, answer.c);
     put_word(&mut bytes, 32, answer.d);
     put_word(&mut bytes, 40, tally.calls.0 as u64);
-    put_word(&mut bytes, 48, word(tally.cached_rows.0));
+    put_word(&mut bytes, 48, tally.cached_rows.0 as u64);
     put_word(&mut bytes, 56, warm);
     put_word(&mut bytes, 64, results);
     put_word(&mut bytes, 72, seen);

@@ -25,34 +25,17 @@ fn counted(word: u64) -> u64 {
 
 // The digest of lent words. Any NaN counts as any other.
 pub fn digest(words: &[u64]) -> u64 {
-    let mut h = FIRST;
-    let mut i = 0;
-    while i < words.len() {
-        h = with_word(h, counted(words[i]));
-        i += 1;
-    }
-    h
+    words
+        .iter()
+        .fold(FIRST, |h, word| with_word(h, counted(*word)))
 }
 
 // A digest of the words as they are, which goes on from another: a word that is changed shows in it.
 pub fn mark(words: &[u64], before: u64) -> u64 {
-    let mut h = before;
-    let mut i = 0;
-    while i < words.len() {
-        h = with_word(h, words[i]);
-        i += 1;
-    }
-    h
+    words.iter().fold(before, |h, word| with_word(h, *word))
 }
 
 // Whether every word is 0.
 pub fn is_zero(words: &[u64]) -> bool {
-    let mut i = 0;
-    while i < words.len() {
-        if words[i] != 0 {
-            return false;
-        }
-        i += 1;
-    }
-    true
+    words.iter().all(|word| *word == 0)
 }

@@ -130,30 +130,24 @@ fn shrinkage_of(setup: Setup, state: State, counts: &[u64]) -> u64 {
 }
 
 fn told(setup: Setup, called: Called, counts: &[u64]) -> Given {
-    let state = called.state;
-    let tally = called.tally;
-    let step = called.step;
-    let answer = answers::told(step, shrinkage_of(setup, state, counts));
     Given {
-        answer,
-        state,
-        tally,
+        answer: answers::told(called.step, shrinkage_of(setup, called.state, counts)),
+        state: called.state,
+        tally: called.tally,
     }
 }
 
 fn began(begun: Begun, state: State) -> Given {
-    let opening = begun.opening;
-    let tally = begun.tally;
-    match opening {
+    match begun.opening {
         Ok(first) => Given {
             answer: answers::opened(),
             state: first,
-            tally,
+            tally: begun.tally,
         },
         Err(Refusal { number, place }) => Given {
             answer: answers::refused(number, place),
             state,
-            tally,
+            tally: begun.tally,
         },
     }
 }
@@ -167,12 +161,9 @@ fn open(
     warm: &mut [u64],
     results: &[u64],
 ) -> Given {
-    let setup = host.setup;
-    let state = host.state;
-    let tally = host.tally;
     let begun = program_calls::open(
-        setup,
-        tally,
+        host.setup,
+        host.tally,
         observations,
         counts,
         cache,
@@ -180,7 +171,7 @@ fn open(
         warm,
         results,
     );
-    began(begun, state)
+    began(begun, host.state)
 }
 
 fn objective(
@@ -192,15 +183,11 @@ fn objective(
     warm: &mut [u64],
     results: &mut [u64],
 ) -> Given {
-    let setup = host.setup;
-    let state = host.state;
-    let tally = host.tally;
-    let parameters = host.parameters;
     let called = program_calls::objective(
-        setup,
-        parameters,
-        state,
-        tally,
+        host.setup,
+        host.parameters,
+        host.state,
+        host.tally,
         observations,
         counts,
         cache,
@@ -208,7 +195,7 @@ fn objective(
         warm,
         results,
     );
-    told(setup, called, counts)
+    told(host.setup, called, counts)
 }
 
 fn reply(
@@ -221,13 +208,10 @@ fn reply(
     warm: &mut [u64],
     results: &mut [u64],
 ) -> Given {
-    let setup = host.setup;
-    let state = host.state;
-    let tally = host.tally;
     let called = program_calls::reply(
-        setup,
-        state,
-        tally,
+        host.setup,
+        host.state,
+        host.tally,
         observations,
         counts,
         reply,
@@ -236,7 +220,7 @@ fn reply(
         warm,
         results,
     );
-    told(setup, called, counts)
+    told(host.setup, called, counts)
 }
 
 fn failure(
@@ -248,13 +232,10 @@ fn failure(
     warm: &[u64],
     results: &[u64],
 ) -> Given {
-    let setup = host.setup;
-    let state = host.state;
-    let tally = host.tally;
     let called = program_calls::failure(
-        setup,
-        state,
-        tally,
+        host.setup,
+        host.state,
+        host.tally,
         observations,
         counts,
         cache,
@@ -262,7 +243,7 @@ fn failure(
         warm,
         results,
     );
-    told(setup, called, counts)
+    told(host.setup, called, counts)
 }
 
 fn dispatched(
@@ -339,12 +320,10 @@ fn call(
         results,
     );
     let after = digests::mark(work, digests::mark(cache, 0));
-    let answer = given.answer;
-    let tally = given.tally;
     answers::write(
         writer,
-        answer,
-        tally,
+        given.answer,
+        given.tally,
         digests::digest(warm),
         digests::digest(results),
         seen(cache, work, before != after),
@@ -382,12 +361,11 @@ fn lend(
         &mut warm[0..warm_end],
         &mut results[0..results_end],
     )?;
-    let mut next = host;
-    let state = given.state;
-    let tally = given.tally;
-    next.state = state;
-    next.tally = tally;
-    Ok(next)
+    Ok(Host {
+        state: given.state,
+        tally: given.tally,
+        ..host
+    })
 }
 
 // ---- an act's own words
@@ -516,7 +494,6 @@ fn begin(
     let subjects = read_words(reader, counts, left)?;
     let number = read_observations(reader, observations, left)?;
     let state = session::first_state(setup);
-    let parameters = state.parameters;
     Ok(Host {
         setup,
         state,
@@ -527,7 +504,7 @@ fn begin(
         lengths,
         subjects,
         observations: number,
-        parameters,
+        parameters: state.parameters,
         replied: 0,
     })
 }
@@ -548,9 +525,10 @@ fn replay_session(reader: &mut impl Read, writer: &mut impl Write) -> io::Result
     let mut warm = [UNTOUCHED; WARM];
     let mut results = [UNTOUCHED; RESULTS];
     let mut host = begin(reader, &mut left, &mut observations, &mut counts)?;
-    let mut turns = u64::MAX;
-    while turns > 0 && left > 0 {
-        turns -= 1;
+    for _ in 0..u64::MAX {
+        if left == 0 {
+            break;
+        }
         host = act(
             reader,
             writer,

@@ -7,12 +7,6 @@ use setup::{Parameters, Setup};
 use std::io;
 use std::io::Read;
 
-fn wide(byte: u8) -> u64
-    ensures { result < 256 }
-{
-    byte as u64
-}
-
 // A word as a usize.
 pub fn number(word: u64) -> usize {
     word as usize
@@ -27,20 +21,7 @@ pub fn small(word: u64) -> u32 {
 pub fn at_most(n: usize, most: usize) -> usize
     ensures { result ≤ most }
 {
-    if n < most {
-        return n;
-    }
-    most
-}
-
-fn word_of(bytes: &[u8; 8]) -> u64 {
-    let mut word = 0;
-    let mut i = 8;
-    while 0 < i {
-        i -= 1;
-        word = word % 0x100_0000_0000_0000 * 256 + wide(bytes[i]);
-    }
-    word
+    n.min(most)
 }
 
 // The next word of the script; 0 beyond the last. Where the input ends, none is left.
@@ -54,7 +35,7 @@ pub fn next(reader: &mut impl Read, left: &mut u64) -> io::Result<u64> {
         return Ok(0);
     }
     *left -= 1;
-    Ok(word_of(&bytes))
+    Ok(u64::from_le_bytes(bytes))
 }
 
 fn float(reader: &mut impl Read, left: &mut u64) -> io::Result<f64> {
@@ -64,11 +45,8 @@ fn float(reader: &mut impl Read, left: &mut u64) -> io::Result<f64> {
 // Reads the next n words of the script to the first n of these. Words that have no room here are passed over.
 pub fn fill(reader: &mut impl Read, words: &mut [u64], n: usize, left: &mut u64) -> io::Result<()> {
     let end = at_most(n, number(*left));
-    let mut i = 0;
-    while i < end {
-        let word = next(reader, left)?;
-        words::put(words, i, word);
-        i += 1;
+    for i in 0..end {
+        words::put(words, i, next(reader, left)?);
     }
     Ok(())
 }
