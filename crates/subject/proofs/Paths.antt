@@ -9,7 +9,8 @@ use Rattle.matrix.specs.declared.Pair.{Pair}
 use Rattle.subject.specs.declared.Sums.{Sums}
 use Rattle.subject.specs.Reply.{output_values, row_length, rows}
 use Rattle.subject.specs.Subject.{answer, individual, is_no_individual, individual_values, no_sums, begin, has_nonfinite_sum, finish, Evaluation}
-use Rattle.subject.specs.declared.EvaluationError.TheVariants.{Refused, RefusedAt}
+use Rattle.subject.specs.declared.EvaluationError.{EvaluationError}
+use Rattle.subject.specs.declared.EvaluationError.TheVariants.{Refused}
 
 -- ---- individual values; x and y are the first and the second, b and d what `is_no_individual` answered of them
 module _ (theta eta : Pair) (effects : ℕ) {x : Float} {b : Bool} (ex : x ≡ individual theta.first eta.first) (eb : b ≡ is_no_individual x) where
@@ -76,10 +77,6 @@ module _ {x : Evaluation} where
     unfolding finish
     sums_stand u = no_of _ e u refl ∙ ap finish (sym t)
 
-  pub ends_refused : {number : ℕ} → x ≡ Err (Refused number) → Err (Refused number) ≡ finish x
+  pub ends_refused : {error : EvaluationError} → x ≡ Err error → Err error ≡ finish x
   unfolding finish
   ends_refused t = ap finish (sym t)
-
-  pub ends_refused_at : {number n : ℕ} → x ≡ Err (RefusedAt number n) → Err (RefusedAt number n) ≡ finish x
-  unfolding finish
-  ends_refused_at t = ap finish (sym t)

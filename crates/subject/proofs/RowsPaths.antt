@@ -13,7 +13,8 @@ use Rattle.subject.specs.declared.Sums.{Sums}
 use Rattle.subject.specs.declared.PredictionRow.{PredictionRow}
 use Rattle.subject.specs.Reply.{row_length, rows, row_at, column, side, prediction_row, written}
 use Rattle.subject.specs.Subject.{additive_of, add_row, add_row2, f_eta, add_row_at, Evaluating, evaluating, add_at, add_to, add_after, add_observation, Evaluation}
-use Rattle.subject.specs.declared.EvaluationError.TheVariants.{Refused, RefusedAt}
+use Rattle.subject.specs.declared.EvaluationError.{EvaluationError}
+use Rattle.subject.specs.declared.EvaluationError.TheVariants.{RefusedAt}
 
 -- ---- the words of a reply
 -- within a row, no block begins further on than the second effect's
@@ -128,10 +129,6 @@ module _ (trial : Trial) (reply : List ℕ) (observation : Observation) {x : Eva
   unfolding add_after
   after_running t q = came t q
 
-  pub after_refused : {number : ℕ} → x ≡ Err (Refused number) → evaluating (Err (Refused number)) work ≡ add_observation trial reply observation (evaluating x work)
+  pub after_refused : {error : EvaluationError} → x ≡ Err error → evaluating (Err error) work ≡ add_observation trial reply observation (evaluating x work)
   unfolding add_after
   after_refused t = came t refl
-
-  pub after_refused_at : {number n : ℕ} → x ≡ Err (RefusedAt number n) → evaluating (Err (RefusedAt number n)) work ≡ add_observation trial reply observation (evaluating x work)
-  unfolding add_after
-  after_refused_at t = came t refl
