@@ -15,7 +15,6 @@ use Rattle.setup.specs.declared.Parameters.{Parameters}
 use Rattle.setup.specs.declared.Lent.{Lent}
 use Rattle.setup.specs.declared.AdmissionError.{AdmissionError}
 use Rattle.setup.specs.declared.AdmissionError.TheVariants.{Refused, Unsound}
-use Rattle.subject.specs.declared.Position.{Position}
 use Rattle.setup.specs.declared.Counts.{Counts}
 
 -- not from low to high
