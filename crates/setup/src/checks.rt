@@ -9,7 +9,8 @@ use subject::Check;
 
 // ---- 1
 
-// The sum and the largest of the subjects' numbers of observations, for checks 1 and 5.
+// The sum and the largest of the subjects' numbers of observations, for checks 1 and 5; none outside document
+// 01's domain, where a subject has none or all have more than 100,000.
 pub fn count_observations(counts: &[u64]) -> Option<Counts>
     ensures { result ≡ count_observations counts.now }
 {

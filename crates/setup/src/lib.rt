@@ -4,7 +4,8 @@
 #![tactic(auto)]
 
 ghost use Rattle.std.specs.Prelude.{◌≡◌};
-ghost use Rattle.setup.specs.Admission.{is_beyond, is_no_variance, is_no_omega, is_no_override, is_no_tolerance, is_no_shape, with_parameters};
+ghost use Rattle.setup.specs.Admission.{is_beyond, is_no_variance, is_no_omega, is_no_override, is_no_tolerance, is_no_shape};
+ghost use Rattle.setup.specs.Admission.{with_parameters};
 
 pub mod checks;
 
