@@ -41,17 +41,17 @@ struct ReplyRow<'a> {
 
 impl ReplyRow<'_> {
     // A word of the observation's output: its value (block 0), or its derivative by an effect (block 1 or 2).
-    fn column(self, block: u32) -> u64
+    fn column(&self, block: u32) -> u64
         requires { block < 3 }
-        ensures { result ≡ column self.entry.reply.now self.entry.at self.entry.trial.width block self.entry.observation.output }
+        ensures { result ≡ column self.now.reply.now self.now.at self.now.trial.width block self.now.observation.output }
     {
         let before = self.trial.width as usize * block as usize;
         words::read(self.reply, self.at + 2 + before + self.observation.output)
     }
 
     // What is kept of the row. A side of any word but 0 is post.
-    fn prediction_row(self) -> PredictionRow
-        ensures { result ≡ prediction_row self.entry.reply.now self.entry.at self.entry.trial.width self.entry.observation.output }
+    fn prediction_row(&self) -> PredictionRow
+        ensures { result ≡ prediction_row self.now.reply.now self.now.at self.now.trial.width self.now.observation.output }
     {
         let prediction = self.column(0);
         let time = words::read(self.reply, self.at);
@@ -69,16 +69,16 @@ impl ReplyRow<'_> {
 
     // The derivative of the prediction by an effect's eta: the simulator's, by the individual value, times
     // that value, since the value is theta times exp of eta.
-    fn f_eta(self, block: u32, individual: f64) -> f64
+    fn f_eta(&self, block: u32, individual: f64) -> f64
         requires { block < 3 }
-        ensures { result ≡ f_eta self.entry.reply.now self.entry.at self.entry.trial.width block self.entry.observation.output individual }
+        ensures { result ≡ f_eta self.now.reply.now self.now.at self.now.trial.width block self.now.observation.output individual }
     {
         float64::from_word(self.column(block)) * individual
     }
 
     // The sums with the row's terms.
-    fn added_to(self, sums: Sums) -> Evaluation
-        ensures { result ≡ add_row_at sums self.entry.observation self.entry.trial self.entry.reply.now self.entry.at }
+    fn added_to(&self, sums: Sums) -> Evaluation
+        ensures { result ≡ add_row_at sums self.now.observation self.now.trial self.now.reply.now self.now.at }
     {
         let prediction = float64::from_word(self.column(0));
         let first = self.f_eta(1, self.trial.individual.first);

@@ -5,13 +5,13 @@ use Rattle.subject.specs.Reply.{column}
 use Rattle.subject.proofs.rows.ReplyRow.column.Goals as goal
 
 pub overflow_mul-before : goal.overflow_mul-before
-overflow_mul-before c = omega (arith, last_block c.args.self.trial.width c.args.block c.requires)
+overflow_mul-before c = omega (arith, last_block c.args.self.now.trial.width c.args.block c.requires)
 
 pub overflow_add-self-2 : goal.overflow_add-self-2
-overflow_add-self-2 c = omega (arith, last_block c.args.self.trial.width c.args.block c.requires)
+overflow_add-self-2 c = omega (arith, last_block c.args.self.now.trial.width c.args.block c.requires)
 
 pub overflow_add-self-3 : goal.overflow_add-self-3
-overflow_add-self-3 c = omega (arith, last_block c.args.self.trial.width c.args.block c.requires)
+overflow_add-self-3 c = omega (arith, last_block c.args.self.now.trial.width c.args.block c.requires)
 
 pub returns : goal.returns
 unfolding column
