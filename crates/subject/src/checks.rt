@@ -46,8 +46,8 @@ fn next_place(place: Position, count: u64) -> Position
     let next = std::num::wrapping_add_usize(place.observation, 1);
     if (next as u64) < count {
         return Position {
-            subject: place.subject,
             observation: next,
+            ..place
         };
     }
     Position {
@@ -87,8 +87,6 @@ pub fn check_observation(
 ) -> Check
     ensures { result ≡ check_observation width counts.now observation check }
 {
-    match check {
-        Ok(place) => check_at(place, observation, width, counts),
-        Err(place) => Err(place),
-    }
+    let place = check?;
+    check_at(place, observation, width, counts)
 }

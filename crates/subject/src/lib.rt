@@ -79,10 +79,7 @@ pub type Check = Result<Position, Position>;
 pub fn additive_sd(has_additive: bool, additive: f64) -> Option<f64>
     ensures { result ≡ additive_sd has_additive additive }
 {
-    if has_additive {
-        return Some(additive);
-    }
-    None
+    has_additive.then_some(additive)
 }
 
 // ---- individual values
@@ -140,6 +137,21 @@ pub fn row_length(width: u32, effects: u32) -> usize
 
 // ---- the sums
 
+const NO_SUMS: Sums = Sums {
+    nll: 0.0,
+    score: Pair {
+        first: 0.0,
+        second: 0.0,
+    },
+    information: Matrix {
+        m00: 0.0,
+        m01: 0.0,
+        m10: 0.0,
+        m11: 0.0,
+    },
+    observation: 0,
+};
+
 // The beginning of an evaluation: 8 where the reply is not whole rows, 9 where their values and derivatives
 // are beyond the output budget, else sums of 0. A reply of no words is whole: it has no rows.
 pub fn begin(reply: &[u64], width: u32, effects: u32, output_budget: u32) -> Evaluation
@@ -152,20 +164,7 @@ pub fn begin(reply: &[u64], width: u32, effects: u32, output_budget: u32) -> Eva
     if (output_budget as usize) < reply.len() / words * output_values(width, effects) {
         return Err(EvaluationError::Refused(9));
     }
-    Ok(Sums {
-        nll: 0.0,
-        score: Pair {
-            first: 0.0,
-            second: 0.0,
-        },
-        information: Matrix {
-            m00: 0.0,
-            m01: 0.0,
-            m10: 0.0,
-            m11: 0.0,
-        },
-        observation: 0,
-    })
+    Ok(NO_SUMS)
 }
 
 fn has_nonfinite_sum(sums: Sums) -> bool
@@ -188,13 +187,9 @@ fn has_nonfinite_sum(sums: Sums) -> bool
 pub fn finish(evaluation: Evaluation) -> Evaluation
     ensures { result ≡ finish evaluation }
 {
-    match evaluation {
-        Ok(sums) => {
-            if has_nonfinite_sum(sums) {
-                return Err(EvaluationError::Refused(12));
-            }
-            Ok(sums)
-        }
-        Err(error) => Err(error),
+    let sums = evaluation?;
+    if has_nonfinite_sum(sums) {
+        return Err(EvaluationError::Refused(12));
     }
+    Ok(sums)
 }

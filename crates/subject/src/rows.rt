@@ -2,12 +2,12 @@
 // it is written, and its terms are added (11, 12). No other module reads the simulator's words.
 ghost use Rattle.std.specs.Prelude.{◌≡◌, ◌<◌, ◌≤◌, length};
 ghost use Rattle.subject.specs.Reply.{row_at, column, prediction_row, written};
-ghost use Rattle.subject.specs.Subject.{additive_of, with_terms, add_row, with_row, add_row2, f_eta, add_row_at, evaluating, add_to};
+ghost use Rattle.subject.specs.Subject.{with_terms, add_row, with_row, add_row2, f_eta, add_row_at, evaluating, add_to};
 ghost use Rattle.subject.specs.Subject.{add_observation};
 
 use super::{Evaluation, EvaluationError, PredictionRow, Sums, Trial};
 use cache::ROW_WORDS;
-use likelihood::population_focei::{Observation, RowError, RowTerms};
+use likelihood::population_focei::{Observation, RowTerms};
 use likelihood::population_focei_2d::Row2;
 use matrix::{Matrix, Pair};
 
@@ -28,33 +28,66 @@ fn row_at(reply: &[u64], width: u32, effects: u32, output: usize, row: usize) ->
     Some(row * words)
 }
 
-// A word of the row at `at`, for this output: its value (block 0), or its derivative by an effect (block 1 or
-// 2).
-fn column(reply: &[u64], at: usize, width: u32, block: u32, output: usize) -> u64
-    requires at_in_bounds { at ≤ length reply.now }
-    requires block_bound { block < 3 }
-    requires output_lt_width { output < width }
-    ensures { result ≡ column reply.now at width block output }
-{
-    words::read(reply, at + 2 + width as usize * block as usize + output)
+// The row of a reply that answers an observation, from the word `at`.
+#[derive(Clone, Copy)]
+struct ReplyRow<'a> {
+    observation: Observation,
+    trial: Trial,
+    reply: &'a [u64],
+    at: usize,
+    ghost begins: { at ≤ length reply.now },
+    ghost has_output: { observation.output < trial.width },
 }
 
-// What is kept of the row at `at`. A side of any word but 0 is post.
-fn prediction_row(reply: &[u64], at: usize, width: u32, output: usize) -> PredictionRow
-    requires at_in_bounds { at ≤ length reply.now }
-    requires output_lt_width { output < width }
-    ensures { result ≡ prediction_row reply.now at width output }
-{
-    let prediction = column(reply, at, width, 0, output);
-    let time = words::read(reply, at);
-    let mut side = 1;
-    if words::read(reply, at + 1) == 0 {
-        side = 0;
+impl ReplyRow<'_> {
+    // A word of the observation's output: its value (block 0), or its derivative by an effect (block 1 or 2).
+    fn column(&self, block: u32) -> u64
+        requires { block < 3 }
+        ensures { result ≡ column self.now.reply.now self.now.at self.now.trial.width block self.now.observation.output }
+    {
+        let before = self.trial.width as usize * block as usize;
+        words::read(self.reply, self.at + 2 + before + self.observation.output)
     }
-    PredictionRow {
-        prediction,
-        time,
-        side,
+
+    // What is kept of the row. A side of any word but 0 is post.
+    fn prediction_row(&self) -> PredictionRow
+        ensures { result ≡ prediction_row self.now.reply.now self.now.at self.now.trial.width self.now.observation.output }
+    {
+        let prediction = self.column(0);
+        let time = words::read(self.reply, self.at);
+        let side = if words::read(self.reply, self.at + 1) == 0 {
+            0
+        } else {
+            1
+        };
+        PredictionRow {
+            prediction,
+            time,
+            side,
+        }
+    }
+
+    // The derivative of the prediction by an effect's eta: the simulator's, by the individual value, times
+    // that value, since the value is theta times exp of eta.
+    fn f_eta(&self, block: u32, individual: f64) -> f64
+        requires { block < 3 }
+        ensures { result ≡ f_eta self.now.reply.now self.now.at self.now.trial.width block self.now.observation.output individual }
+    {
+        float64::from_word(self.column(block)) * individual
+    }
+
+    // The sums with the row's terms.
+    fn added_to(&self, sums: Sums) -> Evaluation
+        ensures { result ≡ add_row_at sums self.now.observation self.now.trial self.now.reply.now self.now.at }
+    {
+        let prediction = float64::from_word(self.column(0));
+        let first = self.f_eta(1, self.trial.individual.first);
+        if self.trial.effects != 2 {
+            let additive = self.trial.additive_sd.unwrap_or(self.observation.additive);
+            return add_row(sums, self.observation, prediction, first, additive);
+        }
+        let second = self.f_eta(2, self.trial.individual.second);
+        add_row_2d(sums, self.observation, prediction, [first, second])
     }
 }
 
@@ -77,15 +110,6 @@ fn write_row(work: &mut [u64], block: usize, observation: usize, row: Prediction
 
 // ---- the sums
 
-fn additive_of(additive_sd: Option<f64>, observation: Observation) -> f64
-    ensures { result ≡ additive_of additive_sd observation }
-{
-    match additive_sd {
-        None => observation.additive,
-        Some(additive) => additive,
-    }
-}
-
 // One effect: the row's terms are added.
 fn add_row(
     sums: Sums,
@@ -96,6 +120,7 @@ fn add_row(
 ) -> Evaluation
     ensures { result ≡ add_row sums observation prediction f_eta additive }
 {
+    // by a match, here and below, since the closure of a `map_err` would need a contract of its own
     match likelihood::population_focei::row_terms(observation, prediction, f_eta, additive) {
         Ok(terms) => Ok(with_terms(sums, terms)),
         Err(error) => Err(EvaluationError::RefusedAt(error.number(), sums.observation)),
@@ -109,13 +134,11 @@ fn with_terms(sums: Sums, terms: RowTerms) -> Sums
         nll: sums.nll + terms.nll,
         score: Pair {
             first: sums.score.first + terms.score,
-            second: sums.score.second,
+            ..sums.score
         },
         information: Matrix {
             m00: sums.information.m00 + terms.information,
-            m01: sums.information.m01,
-            m10: sums.information.m10,
-            m11: sums.information.m11,
+            ..sums.information
         },
         observation: std::num::wrapping_add_usize(sums.observation, 1),
     }
@@ -163,46 +186,6 @@ fn with_row(sums: Sums, row: Row2, f_eta: [f64; 2]) -> Sums
     }
 }
 
-// The derivative of the prediction by an effect's eta: the simulator's, by the individual value, times
-// that value, since the value is theta times exp of eta.
-fn f_eta(reply: &[u64], at: usize, width: u32, block: u32, output: usize, individual: f64) -> f64
-    requires at_in_bounds { at ≤ length reply.now }
-    requires block_bound { block < 3 }
-    requires output_lt_width { output < width }
-    ensures { result ≡ f_eta reply.now at width block output individual }
-{
-    float64::from_word(column(reply, at, width, block, output)) * individual
-}
-
-// The row at `at` is added.
-fn add_row_at(
-    sums: Sums,
-    observation: Observation,
-    trial: Trial,
-    reply: &[u64],
-    at: usize,
-) -> Evaluation
-    requires at_in_bounds { at ≤ length reply.now }
-    requires output_lt_width { observation.output < trial.width }
-    ensures { result ≡ add_row_at sums observation trial reply.now at }
-{
-    let output = observation.output;
-    let prediction = float64::from_word(column(reply, at, trial.width, 0, output));
-    let first = f_eta(reply, at, trial.width, 1, output, trial.individual.first);
-    if trial.effects != 2 {
-        let additive_sd = trial.additive_sd;
-        return add_row(
-            sums,
-            observation,
-            prediction,
-            first,
-            additive_of(additive_sd, observation),
-        );
-    }
-    let second = f_eta(reply, at, trial.width, 2, output, trial.individual.second);
-    add_row_2d(sums, observation, prediction, [first, second])
-}
-
 fn add_to(
     sums: Sums,
     observation: Observation,
@@ -212,20 +195,17 @@ fn add_to(
 ) -> Evaluation
     ensures { evaluating result work.new ≡ add_to sums observation trial reply.now work.old }
 {
-    match row_at(
+    let output = observation.output;
+    let missing = EvaluationError::RefusedAt(10, sums.observation);
+    let at = row_at(reply, trial.width, trial.effects, output, observation.row).ok_or(missing)?;
+    let row = ReplyRow {
+        observation,
+        trial,
         reply,
-        trial.width,
-        trial.effects,
-        observation.output,
-        observation.row,
-    ) {
-        Some(at) => {
-            let row = prediction_row(reply, at, trial.width, observation.output);
-            write_row(work, trial.block, sums.observation, row);
-            add_row_at(sums, observation, trial, reply, at)
-        }
-        None => Err(EvaluationError::RefusedAt(10, sums.observation)),
-    }
+        at,
+    };
+    write_row(work, trial.block, sums.observation, row.prediction_row());
+    row.added_to(sums)
 }
 
 // An evaluation with one observation more, a turn of the loop in the source's `subject`: its row's
@@ -241,8 +221,6 @@ pub fn add_observation(
     ensures { evaluating result work.new
         ≡ add_observation trial reply.now observation (evaluating evaluation work.old) }
 {
-    match evaluation {
-        Ok(sums) => add_to(sums, observation, trial, reply, work),
-        Err(error) => Err(error),
-    }
+    let sums = evaluation?;
+    add_to(sums, observation, trial, reply, work)
 }
