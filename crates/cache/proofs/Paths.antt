@@ -1,6 +1,6 @@
 -- The ways through the code: one law for each, over plain variables. Assumes nothing.
 use Rattle.std.specs.Prelude.{None, Option, Some}
-use Rattle.std.proofs.Common.{◌≡◌, ℕ, zero, suc, ◌+◌, ◌-◌, ◌*◌, ◌/◌, ◌%◌, ◌<◌, ◌≤◌, Bool, true, false, T, eqb, ltb, List, get_or, sym, refl, ap, ◌∙◌, subst, mul-le-mul, sub-one, arith, ltb-true, le-ltb, lt-ltb, eq-eqb, ne_eqb}
+use Rattle.std.proofs.Common.{◌≡◌, ℕ, zero, suc, ◌+◌, ◌-◌, ◌*◌, ◌/◌, ◌%◌, ◌<◌, ◌≤◌, Bool, true, false, T, eqb, ltb, List, get_or, sym, refl, ap, ◌∙◌, subst, mul-le-mul, arith, ltb-true, le-ltb, lt-ltb, eq-eqb, ne_eqb}
 use borrow.Author.Tests.{eqb-false}
 use Rattle.float64.specs.Pick.{pick, yes, no, yes_of, no_of, pass, cases}
 use Rattle.cache.specs.declared.CacheKey.{CacheKey}
@@ -70,17 +70,14 @@ module _ (w : List ℕ) (k oldest b : ℕ) (key : CacheKey) (entry : ℕ) where
   unfolding walk
   walk_spent n e = rw e
 
-  pub walk_hit : {s : Bool} (n : ℕ) → (n ≡ 0 → ⊥) → oldest ≤ entry → s ≡ is_at w k entry b key → s ≡ true → Some (entry % k) ≡ walk n w k oldest b key entry
-  unfolding walk
-  walk_hit zero z h e t = absurd (z refl)
-  walk_hit (suc n) z h e t = no _ (le-ltb entry oldest h) (yes_of _ e t refl)
+  module _ {s : Bool} (n m : ℕ) (z : n ≡ suc m) (h : oldest ≤ entry) (e : s ≡ is_at w k entry b key) where
+    pub walk_hit : s ≡ true → Some (entry % k) ≡ walk n w k oldest b key entry
+    unfolding walk
+    walk_hit t = rw z (no _ (le-ltb entry oldest h) (yes_of _ e t refl))
 
-  pub walk_on : {s : Bool} {r q : ℕ} (n : ℕ) → (n ≡ 0 → ⊥) → oldest ≤ entry → s ≡ is_at w k entry b key → s ≡ false → r ≡ get_or w (k + entry % k) 0 → q ≡ r % half → walk (n - 1) w k oldest b key q ≡
-      walk n w k oldest b key entry
-  unfolding walk link_of link_place
-  walk_on zero z h e t l m = absurd (z refl)
-  walk_on (suc n) z h e t l m =
-      no _ (le-ltb entry oldest h) (no_of _ e t (rw (sub-one) (ap (walk n w k oldest b key) (m ∙ ap (λ (x : ℕ). x % half) l))))
+    pub walk_on : {r q : ℕ} → s ≡ false → r ≡ get_or w (k + entry % k) 0 → q ≡ r % half → walk m w k oldest b key q ≡ walk n w k oldest b key entry
+    unfolding walk link_of link_place
+    walk_on t l j = rw z (no _ (le-ltb entry oldest h) (no_of _ e t (ap (walk m w k oldest b key) (j ∙ ap (λ (x : ℕ). x % half) l))))
 
 -- ---- finding; r is what `is_room` answered, n the number of entries claimed
 module _ (w : List ℕ) (k : ℕ) (o : CacheOrder) (key : CacheKey) {r : Bool} (e : r ≡ is_room k) where

@@ -1,5 +1,5 @@
 -- `copy_words` meets its contract: in one run, or in two. Assumes nothing.
-use Rattle.std.proofs.Common.{◌≡◌, ℕ, ◌%◌, ◌<◌, ◌∙◌, mod-lt, arith}
+use Rattle.std.proofs.Common.{◌≡◌, refl, ℕ, ◌%◌, ◌<◌, ◌∙◌, mod-lt, arith}
 use Rattle.cache.proofs.EntriesPaths.{in_one_run, in_two_runs}
 use Rattle.cache.proofs.entries.copy_words.Goals as goal
 
@@ -24,7 +24,7 @@ copy_run-requires c =
 pub returns-then-n-left : goal.returns-then-n-left
 returns-then-n-left c =
     let m = c.modulo-at.ensures in
-    in_one_run _ _ _ _ _ _ c.requires.0 c.entry_place.ensures.0 c.read.ensures c.number-first.ensures
+    in_one_run _ _ _ _ _ _ c.requires.0 c.entry_place.ensures.0 c.read-first.ensures refl
     (rw m at c.if-n-left.true) (rw m at c.copy_run.ensures)
 
 pub overflow_add-base-2 : goal.overflow_add-base-2
@@ -46,6 +46,6 @@ shape_of-out c = c.copy_run-3.auto.out ∙ c.copy_run-2.auto.out
 pub returns : goal.returns
 returns c =
     let m = c.modulo-at.ensures in
-    in_two_runs _ _ _ _ _ _ c.requires.0 c.entry_place.ensures.0 c.read.ensures c.number-first.ensures c.requires.2
+    in_two_runs _ _ _ _ _ _ c.requires.0 c.entry_place.ensures.0 c.read-first.ensures refl c.requires.2
     (rw m at c.if-n-left.false) (rw m at c.copy_run-2.ensures)
     (rw m at c.copy_run-3.ensures)
