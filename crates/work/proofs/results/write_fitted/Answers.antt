@@ -1,7 +1,8 @@
 -- `write_fitted` meets its contract: each turn by its law. Assumes nothing.
-use Rattle.std.proofs.Common.{rules, refl, ◌∙◌}
+use Rattle.std.proofs.Common.{◌≡◌, rules, refl, arith, ◌∙◌}
 use native.Mathlib.Nat.{sub-zero}
-use Rattle.work.specs.Work.{block, fitted_at}
+use Rattle.words.specs.Words.{smaller}
+use Rattle.work.specs.Work.{most_rows, block, fitted_at}
 use Rattle.work.proofs.ResultsPaths.{fitted_end, fitted_step, fitted}
 use Rattle.work.proofs.results.write_fitted.Goals as goal
 
@@ -41,4 +42,6 @@ pub shape_of-results : goal.shape_of-results
 shape_of-results c = c.loop-i.invariant.1
 
 pub returns : goal.returns
-returns c = fitted _ _ _ _ _ c.smaller-n.ensures c.fitted_at-at.ensures (fitted_end _ _ _ _ _ _ c.loop-i-test.false ∙ c.loop-i.invariant.0)
+returns c =
+    let n : c.min-i-end.result ≡ smaller c.args.rows most_rows = omega arith in
+    fitted _ _ _ _ _ n c.fitted_at-at.ensures (fitted_end _ _ _ _ _ _ c.loop-i-test.false ∙ c.loop-i.invariant.0)
