@@ -26,6 +26,21 @@ agree e q = eq-eqb _ _ (sym e ∙ q)
 pub alike : {r z : ℕ} (y : ℕ) → r ≡ z → eqb r y ≡ eqb z y
 alike y e = ap (λ (x : ℕ). eqb x y) e
 
+more : {v t : Bool} (b : Bool) → v ≡ t → pick v b false ≡ pick t b false
+more b e = ap (λ (x : Bool). pick x b false) e
+
+-- tests in turn: each of v1 to v5 and r is the one before it and one test more
+in_turn : (a b x : Bool) → pick (pick a b false) x false ≡ pick a (pick b x false) false
+unfolding pick
+in_turn true b x = refl
+in_turn false b x = refl
+
+module _ {v1 v2 v3 v4 v5 r : Bool} (a1 a2 a3 a4 a5 a6 a7 : Bool) where
+  pub seven : v1 ≡ pick a1 a2 false → v2 ≡ pick v1 a3 false → v3 ≡ pick v2 a4 false → v4 ≡ pick v3 a5 false → v5 ≡ pick v4 a6 false → r ≡ pick v5 a7 false
+      → r ≡ pick a1 (pick a2 (pick a3 (pick a4 (pick a5 (pick a6 a7 false) false) false) false) false) false
+  seven e1 e2 e3 e4 e5 e6 =
+      e6 ∙ more a7 (e5 ∙ more a6 (e4 ∙ more a5 (e3 ∙ more a4 (e2 ∙ more a3 e1)))) ∙ simp in_turn
+
 -- ---- the hash: a product of halves is a word
 pub product_fits : (a b : ℕ) → a < half → b < half → a * b < 18446744073709551616
 product_fits a b h j =

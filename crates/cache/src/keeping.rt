@@ -77,7 +77,7 @@ fn onward(at: usize, c: usize) -> usize
 
 // Writes the values as `put_ring` does, where some places may lie beyond the end.
 fn put_each(words: &mut [u64], base: usize, c: usize, start: usize, values: &[u64])
-    requires { (0 < c) × (length values.now ≤ c) × (base + c < 100000000) }
+    requires { (0 < c) × (base + c < 100000000) }
     ensures { words.new ≡ put_ring (length values.now) words.old base c start values.now 0 0 }
 {
     let mut at = start % c;
@@ -181,6 +181,7 @@ fn write_entry(
 fn is_kept(k: usize, order: CacheOrder, n: usize, lent: usize, from: usize) -> bool
     ensures { result ≡ is_kept k order n lent from }
 {
+    // test after test, since the product fits only where those before it hold
     if !is_room(k) {
         return false;
     }

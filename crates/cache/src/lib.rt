@@ -147,30 +147,18 @@ pub fn is_room(k: usize) -> bool
     k != 0 && k < 100001
 }
 
-// Whether the entry at `at` has this key.
+// Whether the entry at `at` has this key. The first test is of what differs most from one entry to the next.
 fn is_same(words: &[u64], at: usize, key: CacheKey) -> bool
     requires { at < 100000000 }
     ensures { result ≡ is_same words.now at key }
 {
-    if read(words, at + 3) != key.eta0 {
-        return false;
-    }
-    if read(words, at) != key.subject {
-        return false;
-    }
-    if read(words, at + 1) != key.theta0 {
-        return false;
-    }
-    if read(words, at + 4) != key.eta1 {
-        return false;
-    }
-    if read(words, at + 2) != key.theta1 {
-        return false;
-    }
-    if read(words, at + 5) != key.has_additive {
-        return false;
-    }
-    read(words, at + 6) == key.additive
+    read(words, at + 3) == key.eta0
+        && read(words, at) == key.subject
+        && read(words, at + 1) == key.theta0
+        && read(words, at + 4) == key.eta1
+        && read(words, at + 2) == key.theta1
+        && read(words, at + 5) == key.has_additive
+        && read(words, at + 6) == key.additive
 }
 
 // The word at which the slot of an entry begins.
