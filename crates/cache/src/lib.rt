@@ -79,7 +79,8 @@ pub fn modulo(a: usize, b: usize) -> usize
     if a < b || b == 0 { a } else { a % b }
 }
 
-// Copies n words, from word `from` on, to `out`, from word `to` on.
+// Copies n words, from word `from` on, to `out`, from word `to` on: by places, as the definitions of runs and
+// rings have them.
 fn copy_run(words: &[u64], from: usize, n: usize, out: &mut [u64], to: usize)
     requires { (from + n ≤ length words.now) × (to + n ≤ length out.old) }
     ensures { out.new ≡ copy_run n words.now from out.old to 0 }
@@ -102,23 +103,15 @@ fn part(word: u64, low: u64, high: u64) -> u64
 pub fn hash(key: CacheKey) -> u64
     ensures { result ≡ hash key }
 {
-    let subject_theta0 = std::num::wrapping_add_u64(
-        part(key.subject, 0x9e37_79b1, 0x85eb_ca77),
-        part(key.theta0, 0xc2b2_ae3d, 0x27d4_eb2f),
-    );
-    let theta1_eta0 = std::num::wrapping_add_u64(
-        part(key.theta1, 0x1656_67b1, 0xd3a2_646d),
-        part(key.eta0, 0xfd70_46c5, 0xb55a_4f09),
-    );
-    let eta1_override = std::num::wrapping_add_u64(
-        part(key.eta1, 0x8f1b_bcdd, 0x6ed9_eba1),
-        part(key.has_additive, 0x5a82_7999, 0xca62_c1d7),
-    );
+    let subject_theta0 = part(key.subject, 0x9e37_79b1, 0x85eb_ca77)
+        .wrapping_add(part(key.theta0, 0xc2b2_ae3d, 0x27d4_eb2f));
+    let theta1_eta0 = part(key.theta1, 0x1656_67b1, 0xd3a2_646d)
+        .wrapping_add(part(key.eta0, 0xfd70_46c5, 0xb55a_4f09));
+    let eta1_override = part(key.eta1, 0x8f1b_bcdd, 0x6ed9_eba1)
+        .wrapping_add(part(key.has_additive, 0x5a82_7999, 0xca62_c1d7));
     let additive = part(key.additive, 0xb7e1_5163, 0x7f4a_7c15);
-    let sum = std::num::wrapping_add_u64(
-        std::num::wrapping_add_u64(subject_theta0, theta1_eta0),
-        std::num::wrapping_add_u64(eta1_override, additive),
-    );
+    let keyed = subject_theta0.wrapping_add(theta1_eta0);
+    let sum = keyed.wrapping_add(eta1_override.wrapping_add(additive));
     sum % HALF * 1640531527 + sum / HALF * 2146121005
 }
 
@@ -140,7 +133,8 @@ fn has_bit(filter: u64, bit: u64) -> bool
 
 // ---- finding
 
-// Whether K is in range: room for 1 to 100,000 rows.
+// Whether K is in range: room for 1 to 100,000 rows. K stays a number of its own, as in the definitions: with a
+// struct for it each contract would have to open it.
 pub fn is_room(k: usize) -> bool
     ensures { result ≡ is_room k }
 {

@@ -118,6 +118,7 @@ fn is_same_row(work: &[u64], a: usize, b: usize) -> bool
 }
 
 // Document 01's check 17: whether times and sides are the same at eta zero and at the best point.
+#[tactic(auto, unfolding(crate::specs::Work::block))]
 pub fn is_same_grid(work: &[u64], rows: usize) -> bool
     ensures { result ≡ is_same_grid work.now rows }
 {

@@ -29,6 +29,7 @@ fn fitted_at(subjects: usize, first: usize) -> usize
 
 // Writes the fitted rows of a subject, from the work words' blocks: for each observation its predictions at
 // eta zero and at the mode. `first` is the number of the subject's first observation among all.
+#[tactic(auto, unfolding(crate::specs::Work::block, crate::specs::Work::fitted_at))]
 pub fn write_fitted(results: &mut [u64], subjects: usize, first: usize, work: &[u64], rows: usize)
     ensures { results.new ≡ fitted_written subjects first work.now rows results.old }
 {

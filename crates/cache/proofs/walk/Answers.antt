@@ -1,20 +1,13 @@
 -- `walk` meets its contract: each turn and each exit by its law. Assumes nothing.
-use Rattle.std.proofs.Common.{refl, ◌+◌, ◌-◌, ◌∙◌, mod-lt, arith}
-use native.Mathlib.Nat.{sub-zero}
+use Rattle.std.proofs.Common.{refl, ◌+◌, ◌-◌, ◌∙◌, arith}
 use Rattle.cache.proofs.Paths.{walk_dead, walk_spent, walk_hit, walk_on}
 use Rattle.cache.proofs.walk.Goals as goal
-
-pub loop-passed-init : goal.loop-passed-init
-loop-passed-init c = simp sub-zero
 
 pub returns-then-entry-oldest : goal.returns-then-entry-oldest
 returns-then-entry-oldest c = walk_dead _ _ _ _ _ _ _ c.if-entry-oldest.true ∙ c.loop-passed.invariant
 
 pub returns-then-is_at : goal.returns-then-is_at
 returns-then-is_at c = rw c.modulo.ensures (walk_hit _ _ _ _ _ _ _ (c.args.most - (c.loop-passed.passed + 1)) (omega arith) c.if-entry-oldest.false c.is_at.ensures c.if-is_at.true ∙ c.loop-passed.invariant)
-
-pub overflow_add-k : goal.overflow_add-k
-overflow_add-k c = omega (arith, c.modulo-in-loop-passed.ensures, mod-lt c.loop-passed.entry c.requires.0)
 
 pub loop-passed-preserved : goal.loop-passed-preserved
 loop-passed-preserved c =

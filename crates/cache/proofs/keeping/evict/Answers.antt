@@ -3,9 +3,6 @@ use Rattle.std.proofs.Common.{refl, ◌∙◌, arith}
 use Rattle.cache.proofs.KeepingPaths.{evict_end, evict_fits, evict_more}
 use Rattle.cache.proofs.keeping.evict.Goals as goal
 
-pub loop-oldest-init : goal.loop-oldest-init
-loop-oldest-init c = (refl, omega arith)
-
 pub returns-then-saturating_sub-room : goal.returns-then-saturating_sub-room
 returns-then-saturating_sub-room c =
     evict_fits _ _ _ _ _ _ _ c.loop-oldest-test.true c.saturating_sub.ensures c.if-saturating_sub-room.true ∙ c.loop-oldest.invariant.0

@@ -1,17 +1,7 @@
 -- `put_each` meets its contract: each turn by its law. Assumes nothing.
-use Rattle.std.proofs.Common.{ℕ, refl, sym, ap, get_or, ◌∙◌, add-zero, zero-add, arith}
-use native.Mathlib.Nat.{sub-zero}
-use Rattle.cache.proofs.KeepingPaths.{round, within, put_end, put_step}
+use Rattle.std.proofs.Common.{ℕ, sym, ap, get_or, ◌∙◌, zero-add}
+use Rattle.cache.proofs.KeepingPaths.{round, put_end, put_step}
 use Rattle.cache.proofs.keeping.put_each.Goals as goal
-
-pub loop-value-init : goal.loop-value-init
-loop-value-init c = (simp sub-zero, simp add-zero, refl)
-
-pub overflow_add-base : goal.overflow_add-base
-overflow_add-base c = omega (arith, within _ _ c.requires.0 c.loop-value.invariant.1)
-
-pub onward-at-requires : goal.onward-at-requires
-onward-at-requires c = within _ _ c.requires.0 c.loop-value.invariant.1
 
 pub loop-value-preserved : goal.loop-value-preserved
 loop-value-preserved c =
@@ -20,9 +10,6 @@ loop-value-preserved c =
       round _ _ _ so_far.1 c.onward-at.ensures,
       c.put.auto.words ∙ so_far.2,
     )
-
-pub shape_of-words : goal.shape_of-words
-shape_of-words c = c.loop-value.invariant.2
 
 pub returns : goal.returns
 returns c = put_end _ _ _ _ _ _ _ _ c.loop-value-test.false ∙ c.loop-value.invariant.0
