@@ -1,6 +1,6 @@
 -- The ways through the code: one law for each, over plain variables. Assumes nothing.
 use Rattle.std.proofs.Common.{◌≡◌, ℕ, zero, suc, ◌+◌, ◌-◌, ◌*◌, ◌/◌, ◌%◌, ◌^◌, ◌<◌, ◌≤◌, Bool, true, false, ltb, List, length, take, drop, get_or, set, sym, refl, ap, ◌∙◌, subst, mod-lt, mod-eq_of_lt, one-mul, zero-add, length-drop, length-take-le, arith, ltb-false, ltb-true, le-ltb, lt-ltb, eq-eqb, ne_eqb}
-use native.Mathlib.Nat.{mod-add-mod, mod_self}
+use native.Mathlib.Nat.{mod-add-mod}
 use lib.Bits.{bit_or, or_lt}
 use lib.Pow.{pow-lt}
 use Rattle.float64.specs.Pick.{pick, both, yes, no, yes_of, no_of}
@@ -33,12 +33,6 @@ one_bit_more latest oldest filter bit h f l =
     (no _ (le-ltb _ _ l) (ap (bit_or filter) (shifted bit h)), subst (λ (x : ℕ). bit_or filter x < 4294967296) (sym (shifted bit h)) (or_lt 32 filter (2 ^ bit) f (power_lt bit h)))
 
 -- ---- rings: the place after (x + i) % c
-pub onward_end : (at c : ℕ) → at + 1 ≡ c → 0 ≡ (at + 1) % c
-onward_end at c e = sym (ap (λ (y : ℕ). y % c) e ∙ mod_self c)
-
-pub onward_on : (at c : ℕ) → at < c → (at + 1 ≡ c → ⊥) → at + 1 ≡ (at + 1) % c
-onward_on at c h d = sym (mod-eq_of_lt (let z : at + 1 < c = omega arith in z))
-
 pub round : {at r : ℕ} (c x i : ℕ) → at ≡ (x + i) % c → r ≡ (at + 1) % c → r ≡ (x + (i + 1)) % c
 round c x i p q =
     q ∙ ap (λ (y : ℕ). (y + 1) % c) p ∙ mod-add-mod (x + i) c 1 ∙ ap (λ (y : ℕ). y % c) (let z : x + i + 1 ≡ x + (i + 1) = omega arith in z)

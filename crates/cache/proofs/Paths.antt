@@ -1,11 +1,11 @@
 -- The ways through the code: one law for each, over plain variables. Assumes nothing.
 use Rattle.std.specs.Prelude.{None, Option, Some}
-use Rattle.std.proofs.Common.{◌≡◌, ℕ, zero, suc, ◌+◌, ◌-◌, ◌*◌, ◌/◌, ◌%◌, ◌<◌, ◌≤◌, Bool, true, false, T, eqb, ltb, List, get_or, sym, refl, ap, ◌∙◌, subst, mul-le-mul, arith, ltb-true, le-ltb, lt-ltb, eq-eqb, ne_eqb}
+use Rattle.std.proofs.Common.{◌≡◌, ℕ, zero, suc, ◌+◌, ◌-◌, ◌/◌, ◌%◌, ◌<◌, ◌≤◌, Bool, true, false, T, eqb, ltb, List, get_or, sym, refl, ap, ◌∙◌, subst, arith, ltb-true, le-ltb, lt-ltb, eq-eqb, ne_eqb}
 use borrow.Author.Tests.{eqb-false}
 use Rattle.float64.specs.Pick.{pick, yes, no, yes_of, no_of, pass, cases}
 use Rattle.cache.specs.declared.CacheKey.{CacheKey}
 use Rattle.cache.specs.declared.CacheOrder.{CacheOrder}
-use Rattle.cache.specs.Cache.{half, mixed, hash, head_of, chain, bits, bit_of, has_bit, latest_of, filter_of, entry_place, link_place, link_of, bits_of, is_room, is_same, is_at, walk, find}
+use Rattle.cache.specs.Cache.{half, hash, head_of, chain, bits, bit_of, has_bit, latest_of, filter_of, entry_place, link_place, link_of, bits_of, is_room, is_same, is_at, walk, find}
 
 -- ---- tests
 pub picked : (b x : Bool) → pick b x false ≡ true → (b ≡ true) × (x ≡ true)
@@ -40,20 +40,6 @@ module _ {v1 v2 v3 v4 v5 r : Bool} (a1 a2 a3 a4 a5 a6 a7 : Bool) where
       → r ≡ pick a1 (pick a2 (pick a3 (pick a4 (pick a5 (pick a6 a7 false) false) false) false) false) false
   seven e1 e2 e3 e4 e5 e6 =
       e6 ∙ more a7 (e5 ∙ more a6 (e4 ∙ more a5 (e3 ∙ more a4 (e2 ∙ more a3 e1)))) ∙ simp in_turn
-
--- ---- the hash: a product of halves is a word
-pub product_fits : (a b : ℕ) → a < half → b < half → a * b < 18446744073709551616
-product_fits a b h j =
-    let m : a * b ≤ 4294967295 * 4294967295 = mul-le-mul (let x : a ≤ 4294967295 = omega arith in x) (let y : b ≤ 4294967295 = omega arith in y) in
-    omega arith
-
--- and so is what is mixed of a sum
-module _ (x sum : ℕ) (e : sum ≡ x % 18446744073709551616) where
-  pub high_fits : sum / half * 2146121005 < 18446744073709551616
-  high_fits = omega arith
-
-  pub mixed_fits : mixed sum < 18446744073709551616
-  mixed_fits = omega arith
 
 -- ---- room; r is what `is_room` answered
 pub room_says : {r : Bool} (k : ℕ) → r ≡ is_room k → r ≡ true → (0 < k) × (k ≤ 100000)

@@ -103,12 +103,21 @@ fn part(word: u64, low: u64, high: u64) -> u64
 pub fn hash(key: CacheKey) -> u64
     ensures { result ≡ hash key }
 {
-    let subject_theta0 = part(key.subject, 0x9e37_79b1, 0x85eb_ca77)
-        .wrapping_add(part(key.theta0, 0xc2b2_ae3d, 0x27d4_eb2f));
-    let theta1_eta0 = part(key.theta1, 0x1656_67b1, 0xd3a2_646d)
-        .wrapping_add(part(key.eta0, 0xfd70_46c5, 0xb55a_4f09));
-    let eta1_override = part(key.eta1, 0x8f1b_bcdd, 0x6ed9_eba1)
-        .wrapping_add(part(key.has_additive, 0x5a82_7999, 0xca62_c1d7));
+    let subject_theta0 = part(key.subject, 0x9e37_79b1, 0x85eb_ca77).wrapping_add(part(
+        key.theta0,
+        0xc2b2_ae3d,
+        0x27d4_eb2f,
+    ));
+    let theta1_eta0 = part(key.theta1, 0x1656_67b1, 0xd3a2_646d).wrapping_add(part(
+        key.eta0,
+        0xfd70_46c5,
+        0xb55a_4f09,
+    ));
+    let eta1_override = part(key.eta1, 0x8f1b_bcdd, 0x6ed9_eba1).wrapping_add(part(
+        key.has_additive,
+        0x5a82_7999,
+        0xca62_c1d7,
+    ));
     let additive = part(key.additive, 0xb7e1_5163, 0x7f4a_7c15);
     let keyed = subject_theta0.wrapping_add(theta1_eta0);
     let sum = keyed.wrapping_add(eta1_override.wrapping_add(additive));

@@ -1,11 +1,7 @@
 -- `copy_words` meets its contract: in one run, or in two. Assumes nothing.
-use Rattle.std.proofs.Common.{◌≡◌, refl, ℕ, ◌%◌, ◌<◌, mod-lt}
+use Rattle.std.proofs.Common.{refl}
 use Rattle.cache.proofs.EntriesPaths.{in_one_run, in_two_runs}
 use Rattle.cache.proofs.entries.copy_words.Goals as goal
-
--- the first row's place in the ring
-below : {at k : ℕ} (first : ℕ) → at ≡ first % k → 0 < k → at < k
-below first e some = rw e (mod-lt first some)
 
 pub returns-then-n-left : goal.returns-then-n-left
 returns-then-n-left c =
