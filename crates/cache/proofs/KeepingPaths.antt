@@ -1,14 +1,15 @@
 -- The ways through the code: one law for each, over plain variables. Assumes nothing.
-use Rattle.std.proofs.Common.{◌≡◌, ℕ, suc, ◌+◌, ◌-◌, ◌*◌, ◌/◌, ◌%◌, ◌^◌, ◌<◌, ◌≤◌, Bool, true, false, ltb, List, length, get_or, set, sym, refl, ap, ◌∙◌, subst, mod-lt, mod-eq_of_lt, one-mul, arith, ltb-false, ltb-true, le-ltb, lt-ltb, eq-eqb, ne_eqb}
-use native.Mathlib.Nat.{mod-add-mod, mod_self}
+use Rattle.std.proofs.Common.{◌≡◌, ℕ, zero, suc, ◌+◌, ◌-◌, ◌*◌, ◌/◌, ◌%◌, ◌^◌, ◌<◌, ◌≤◌, Bool, true, false, ltb, List, length, take, drop, get_or, set, sym, refl, ap, ◌∙◌, subst, mod-lt, mod-eq_of_lt, one-mul, zero-add, length-drop, length-take-le, arith, ltb-false, ltb-true, le-ltb, lt-ltb, eq-eqb, ne_eqb}
+use native.Mathlib.Nat.{mod-add-mod}
 use lib.Bits.{bit_or, or_lt}
 use lib.Pow.{pow-lt}
-use Rattle.float64.specs.Pick.{pick, yes, no, yes_of, no_of}
+use Rattle.float64.specs.Pick.{pick, both, yes, no, yes_of, no_of}
 use Rattle.cache.specs.declared.CacheKey.{CacheKey}
 use Rattle.cache.specs.declared.CachedTerms.{CachedTerms}
 use Rattle.cache.specs.declared.CacheOrder.{CacheOrder}
-use Rattle.cache.specs.Cache.{row_words, rows_from, half, hash, head_of, chain, bits, with_bit, latest_of, filter_of, entry_place, link_place, count_of, is_room, order, raised, evict, copy_run, put_ring}
+use Rattle.cache.specs.Cache.{row_words, rows_from, half, hash, head_of, chain, bits, bit_of, with_bit, latest_of, filter_of, entry_place, link_place, count_of, is_room, order, raised, evict, copy_run, put_ring}
 use Rattle.cache.specs.Cache.{entry_words, written, is_kept, after, placed, insert}
+use Rattle.words.proofs.Runs.{at_part}
 use Rattle.cache.proofs.Paths.{picked, passed, room_says}
 use Rattle.cache.proofs.Runs.{ring_moves, one_run, two_runs, near, far}
 
@@ -32,12 +33,6 @@ one_bit_more latest oldest filter bit h f l =
     (no _ (le-ltb _ _ l) (ap (bit_or filter) (shifted bit h)), subst (λ (x : ℕ). bit_or filter x < 4294967296) (sym (shifted bit h)) (or_lt 32 filter (2 ^ bit) f (power_lt bit h)))
 
 -- ---- rings: the place after (x + i) % c
-pub onward_end : (at c : ℕ) → at + 1 ≡ c → 0 ≡ (at + 1) % c
-onward_end at c e = sym (ap (λ (y : ℕ). y % c) e ∙ mod_self c)
-
-pub onward_on : (at c : ℕ) → at < c → (at + 1 ≡ c → ⊥) → at + 1 ≡ (at + 1) % c
-onward_on at c h d = sym (mod-eq_of_lt (let z : at + 1 < c = omega arith in z))
-
 pub round : {at r : ℕ} (c x i : ℕ) → at ≡ (x + i) % c → r ≡ (at + 1) % c → r ≡ (x + (i + 1)) % c
 round c x i p q =
     q ∙ ap (λ (y : ℕ). (y + 1) % c) p ∙ mod-add-mod (x + i) c 1 ∙ ap (λ (y : ℕ). y % c) (let z : x + i + 1 ≡ x + (i + 1) = omega arith in z)
@@ -47,9 +42,12 @@ within c x h e = let m : x % c < c = mod-lt x h in omega arith
 
 -- ---- a turn of eviction; d is the number of rows left
 module _ (w : List ℕ) (k room next next_row oldest first-row : ℕ) where
-  pub evict_end : next ≤ oldest → order oldest next next_row next_row ≡ evict (next - oldest) w k room next next_row oldest first-row
+  pub evict_end : {last : ℕ} → last ≡ oldest → next ≤ oldest → order last next next_row next_row ≡ evict (next - oldest) w k room next next_row oldest first-row
   unfolding evict
-  evict_end h = let z : next - oldest ≡ 0 = omega arith in ap (λ (m : ℕ). evict m w k room next next_row oldest first-row) (sym z)
+  evict_end e h =
+      let z : next - oldest ≡ 0 = omega arith in
+      let x : order oldest next next_row next_row ≡ evict 0 w k room next next_row oldest first-row = refl in
+      ap (λ (m : ℕ). order m next next_row next_row) e ∙ x ∙ ap (λ (m : ℕ). evict m w k room next next_row oldest first-row) (sym z)
 
   one_more : oldest < next → suc (next - (oldest + 1)) ≡ next - oldest
   one_more h = omega arith
@@ -71,6 +69,29 @@ module _ (w : List ℕ) (k room next next_row oldest first-row : ℕ) where
         yes _ (lt-ltb _ _ (let z : room < next_row - first-row = omega arith in z)) (ap (evict (next - (oldest + 1)) w k room next next_row (oldest + 1)) (t ∙ ap (raised first-row next_row) c)) in
         x ∙ ap (λ (m : ℕ). evict m w k room next next_row oldest first-row) (one_more h)
 
+-- the next entry and row stay
+evict_keeps : (m : ℕ) (w : List ℕ) (k room next next_row oldest first-row : ℕ) → let r = evict m w k room next next_row oldest first-row in (r.next ≡ next) × (r.next_row ≡ next_row)
+unfolding evict
+evict_keeps zero w k room next next_row oldest first-row = (refl, refl)
+evict_keeps (suc m) w k room next next_row oldest first-row =
+    both (λ (r : CacheOrder). (r.next ≡ next) × (r.next_row ≡ next_row)) (ltb room (next_row - first-row)) (evict_keeps m w k room next next_row (oldest + 1) _) (refl, refl)
+
+pub left_says : {left : CacheOrder} (o : CacheOrder) (m : ℕ) (w : List ℕ) (k room : ℕ) → left ≡ evict m w k room o.next o.next_row o.oldest o.first_row → (left.next ≡ o.next) × (left.next_row ≡ o.next_row)
+left_says o m w k room e =
+    let stay = evict_keeps m w k room o.next o.next_row o.oldest o.first_row in
+    (ap (λ (x : CacheOrder). x.next) e ∙ stay.0, ap (λ (x : CacheOrder). x.next_row) e ∙ stay.1)
+
+-- ---- a part of what is put is put like the whole: j values of it, from `from` on
+pub put_part : (n : ℕ) (w : List ℕ) (base c x : ℕ) (v : List ℕ) (from j i : ℕ) → i + n ≤ j → from + j ≤ length v → put_ring n w base c x (take j (drop from v)) 0 i ≡ put_ring n w base c x v from i
+unfolding put_ring
+put_part zero w base c x v from j i h l = refl
+put_part (suc n) w base c x v from j i h l =
+    let size : length (take j (drop from v)) ≡ j = length-take-le j (drop from v) (omega (arith, length-drop from v)) in
+    let y : get_or (take j (drop from v)) (0 + i) 0 ≡ get_or v (from + i) 0 =
+    ap (λ (m : ℕ). get_or (take j (drop from v)) m 0) (zero-add i) ∙ sym (at_part 0 v from j i (omega arith)) in
+    ap (λ (z : ℕ). put_ring n (set w (base + (x + i) % c) z) base c x (take j (drop from v)) 0 (i + 1)) y
+    ∙ put_part n (set w (base + (x + i) % c) (get_or v (from + i) 0)) base c x v from j (i + 1) (omega arith) l
+
 -- ---- a turn around a ring
 module _ (base c x : ℕ) (v : List ℕ) (from n i : ℕ) (w : List ℕ) where
   pub put_end : n ≤ i → w ≡ put_ring (n - i) w base c x v from i
@@ -86,39 +107,51 @@ module _ (base c x : ℕ) (v : List ℕ) (from n i : ℕ) (w : List ℕ) where
       ap (λ (l : List ℕ). put_ring (n - (i + 1)) l base c x v from (i + 1)) t ∙ ap (λ (m : ℕ). put_ring m w base c x v from i) (sym z)
 
 -- ---- around a ring in one run, or in two
-module _ (w : List ℕ) (base c x : ℕ) (v : List ℕ) (from n : ℕ) (some : 0 < c) where
+module _ (w : List ℕ) (base c x : ℕ) (v : List ℕ) (n : ℕ) (some : 0 < c) where
   before_end : (t : ℕ) → t < c - x % c → base + (x + t) % c ≡ base + x % c + t
   before_end t h =
       let m : x % c < c = mod-lt x some in
       let z : base + (x % c + t) ≡ base + x % c + t = omega arith in
       ap (λ (y : ℕ). base + y) (near c x t (omega (arith, m, h))) ∙ z
 
-  pub in_one_run : {w₁ : List ℕ} → n ≤ c - x % c → w₁ ≡ copy_run n v from w (base + x % c) 0 → w₁ ≡ put_ring n w base c x v from 0
-  in_one_run h e = one_run v _ _ w from (base + x % c) n (λ t l. (refl, before_end t (omega (arith, h, l)))) e ∙ ring_moves n w base c x v from 0
+  pub in_one_run : {w₁ : List ℕ} → n ≤ c - x % c → w₁ ≡ copy_run n v 0 w (base + x % c) 0 → w₁ ≡ put_ring n w base c x v 0 0
+  in_one_run h e = one_run v _ _ w 0 (base + x % c) n (λ t l. (refl, before_end t (omega (arith, h, l)))) e ∙ ring_moves n w base c x v 0 0
 
-  pub in_two_runs : {w₁ w₂ : List ℕ} → n ≤ c → c - x % c < n → w₁ ≡ copy_run (c - x % c) v from w (base + x % c) 0 → w₂ ≡ copy_run (n - (c - x % c)) v (from + (c - x % c)) w₁ base 0 → w₂ ≡ put_ring n w
-      base c x v from 0
+  pub in_two_runs : {w₁ w₂ : List ℕ} → n ≤ c → c - x % c < n → w₁ ≡ copy_run (c - x % c) v 0 w (base + x % c) 0 → w₂ ≡ copy_run (n - (c - x % c)) v (c - x % c) w₁ base 0 → w₂ ≡ put_ring n w
+      base c x v 0 0
   in_two_runs most h e r =
       let left = c - x % c in
-      two_runs v _ _ w from (base + x % c) (from + left) base left n (omega (arith, h)) (λ t l. (refl, before_end t l)) (λ t l.
-      let z : from + (left + t) ≡ from + left + t = omega arith in
-      (z, ap (λ (y : ℕ). base + y) (far c x t some (omega (arith, most, l))))) e r ∙ ring_moves n w base c x v from 0
+      two_runs v _ _ w 0 (base + x % c) left base left n (omega (arith, h)) (λ t l. (refl, before_end t l)) (λ t l.
+      (zero-add (left + t), ap (λ (y : ℕ). base + y) (far c x t some (omega (arith, most, l))))) e r ∙ ring_moves n w base c x v 0 0
 
 -- ---- the stores of one entry, from what each call ensures: r is the head that was read, f its new filter, w1 to w4 the words after each store
-module _ (w : List ℕ) (k oldest entry row : ℕ) (key : CacheKey) (terms : CachedTerms) (n : ℕ) (rows : List ℕ) (from : ℕ) where
-  pub written_is : {h head r latest f a number : ℕ} {es w1 w2 w3 w4 : List ℕ} → h ≡ hash key → head ≡ head_of h k → r ≡ get_or w head 0 → latest ≡ r % half → f ≡ with_bit latest oldest (r / half)
-      (h / half % 32) → es ≡ entry_words key terms n row → a ≡ entry_place k entry → w1 ≡ put_ring 16 w a 16 0 es 0 0 → w2 ≡ put_ring (row_words * n) w1 (rows_from * k) (row_words * k) (row_words * row) rows
-      from 0 → w3 ≡ set w2 (k + entry % k) (r % half + h / half * half) → number ≡ entry → w4 ≡ set w3 head (number + f * half) → w4 ≡ written w k oldest entry row key terms n rows from
-  unfolding written link_place chain bits latest_of filter_of
-  written_is {h} {head} {r} {w1 = w1} {w2 = w2} eh ed er el eg es ea e1 e2 e3 en e4 =
+module _ (w : List ℕ) (k oldest entry row : ℕ) (key : CacheKey) (terms : CachedTerms) (n : ℕ) (rows : List ℕ) where
+  pub written_is : {h head r f a : ℕ} {es w1 w2 w3 w4 : List ℕ} → length rows ≡ row_words * n → h ≡ hash key → head ≡ head_of h k → r ≡ get_or w head 0 → f ≡ with_bit (r % half) oldest (r / half)
+      (h / half % 32) → es ≡ entry_words key terms n row → a ≡ entry_place k entry → w1 ≡ put_ring (length es) w a 16 0 es 0 0
+      → w2 ≡ put_ring (length rows) w1 (rows_from * k) (row_words * k) (row_words * row) rows 0 0 → w3 ≡ set w2 (k + entry % k) (r % half + h / half * half) → w4 ≡ set w3 head (entry + f * half)
+      → w4 ≡ written w k oldest entry row key terms n rows 0
+  unfolding written link_place chain bits latest_of filter_of entry_words
+  written_is {h} {head} {r} {w1 = w1} {w2 = w2} long eh ed er eg es ea e1 e2 e3 e4 =
       let d : head ≡ head_of (hash key) k = ed ∙ ap (λ (x : ℕ). head_of x k) eh in
       let l : r ≡ get_or w (head_of (hash key) k) 0 = er ∙ ap (λ (x : ℕ). get_or w x 0) d in
       let u1 = put_ring 16 w (entry_place k entry) 16 0 (entry_words key terms n row) 0 0 in
-      let u2 = put_ring (row_words * n) u1 (rows_from * k) (row_words * k) (row_words * row) rows from 0 in
-      let f1 : w1 ≡ u1 = e1 ∙ (λ i. put_ring 16 w (ea i) 16 0 (es i) 0 0) in
-      let f2 : w2 ≡ u2 = e2 ∙ ap (λ (x : List ℕ). put_ring (row_words * n) x (rows_from * k) (row_words * k) (row_words * row) rows from 0) f1 in
-      let g = eg ∙ ap (λ (x : ℕ). with_bit x oldest (r / half) (h / half % 32)) el ∙ (λ i. with_bit (l i % half) oldest (l i / half) (eh i / half % 32)) in
-      e4 ∙ (λ i. set ((e3 ∙ (λ j. set (f2 j) (k + entry % k) (l j % half + eh j / half * half))) i) (d i) (en i + g i * half))
+      let u2 = put_ring (row_words * n) u1 (rows_from * k) (row_words * k) (row_words * row) rows 0 0 in
+      let f1 : w1 ≡ u1 = e1 ∙ (λ i. put_ring (length (es i)) w (ea i) 16 0 (es i) 0 0) in
+      let f2 : w2 ≡ u2 = e2 ∙ (λ i. put_ring (long i) (f1 i) (rows_from * k) (row_words * k) (row_words * row) rows 0 0) in
+      let g = eg ∙ (λ i. with_bit (l i % half) oldest (l i / half) (eh i / half % 32)) in
+      e4 ∙ (λ i. set ((e3 ∙ (λ j. set (f2 j) (k + entry % k) (l j % half + eh j / half * half))) i) (d i) (entry + g i * half))
+
+-- where the rows are a part of others
+pub written_part : (w : List ℕ) (k oldest entry row : ℕ) (key : CacheKey) (terms : CachedTerms) (n : ℕ) (v : List ℕ) (from : ℕ) {j : ℕ} → j ≡ row_words * n → from + row_words * n ≤ length v
+    → written w k oldest entry row key terms n (take j (drop from v)) 0 ≡ written w k oldest entry row key terms n v from
+unfolding written
+written_part w k oldest entry row key terms n v from e h =
+    let head = chain k key in
+    let w1 = put_ring 16 w (entry_place k entry) 16 0 (entry_words key terms n row) 0 0 in
+    let put = ap (λ (m : ℕ). put_ring (row_words * n) w1 (rows_from * k) (row_words * k) (row_words * row) (take m (drop from v)) 0 0) e
+    ∙ put_part (row_words * n) w1 (rows_from * k) (row_words * k) (row_words * row) v from (row_words * n) 0 (omega arith) h in
+    ap (λ (u : List ℕ). set (set u (link_place k entry) (latest_of w head + bits key * half)) head
+    (entry + with_bit (latest_of w head) oldest (filter_of w head) (bit_of key) * half)) put
 
 -- ---- whether an evaluation is kept; r is what `is_room` answered, d the number of entries claimed
 module _ (k : ℕ) (o : CacheOrder) (n lent from : ℕ) {r : Bool} (e : r ≡ is_room k) where
@@ -190,9 +223,12 @@ module _ (w : List ℕ) (k : ℕ) (o : CacheOrder) (key : CacheKey) (terms : Cac
   unfolding insert
   not_kept_lem t = no_of _ e t refl
 
-  pub keeps : {left : CacheOrder} {w' : List ℕ} → b ≡ true → left ≡ evict (o.next - o.oldest) w k (k - n) o.next o.next_row o.oldest o.first_row → w' ≡ written w k left.oldest
-      o.next o.next_row key terms n rows from → after (order left.oldest (o.next + 1) left.first_row (o.next_row + n)) w' ≡ insert w k o key terms n rows from
+  pub keeps : {left : CacheOrder} {j : ℕ} {w' : List ℕ} → b ≡ true → from + row_words * n ≤ length rows → j ≡ row_words * n → left ≡ evict (o.next - o.oldest) w k (k - n) o.next o.next_row o.oldest o.first_row
+      → w' ≡ written w k left.oldest left.next left.next_row key terms n (take j (drop from rows)) 0
+      → after (order left.oldest (left.next + 1) left.first_row (left.next_row + n)) w' ≡ insert w k o key terms n rows from
   unfolding insert placed
-  keeps t p q =
-      let r = q ∙ ap (λ (z : CacheOrder). written w k z.oldest o.next o.next_row key terms n rows from) p in
-      yes_of _ e t (λ i. after (order (p i).oldest (o.next + 1) (p i).first_row (o.next_row + n)) (r i))
+  keeps {left} {j} t h z p q =
+      let stay = left_says o (o.next - o.oldest) w k (k - n) p in
+      let r = q ∙ written_part w k left.oldest left.next left.next_row key terms n rows from z h
+      ∙ (λ i. written w k (p i).oldest (stay.0 i) (stay.1 i) key terms n rows from) in
+      yes_of _ e t (λ i. after (order (p i).oldest (stay.0 i + 1) (p i).first_row (stay.1 i + n)) (r i))

@@ -1,11 +1,11 @@
 -- The ways through the code: one law for each, over plain variables. Assumes nothing.
 use Rattle.std.specs.Prelude.{None, Option, Some}
-use Rattle.std.proofs.Common.{◌≡◌, ℕ, zero, suc, ◌+◌, ◌-◌, ◌*◌, ◌/◌, ◌%◌, ◌<◌, ◌≤◌, Bool, true, false, T, eqb, ltb, List, get_or, sym, refl, ap, ◌∙◌, subst, mul-le-mul, sub-one, arith, ltb-true, le-ltb, lt-ltb, eq-eqb, ne_eqb}
+use Rattle.std.proofs.Common.{◌≡◌, ℕ, zero, suc, ◌+◌, ◌-◌, ◌/◌, ◌%◌, ◌<◌, ◌≤◌, Bool, true, false, T, eqb, ltb, List, get_or, sym, refl, ap, ◌∙◌, subst, arith, ltb-true, le-ltb, lt-ltb, eq-eqb, ne_eqb}
 use borrow.Author.Tests.{eqb-false}
 use Rattle.float64.specs.Pick.{pick, yes, no, yes_of, no_of, pass, cases}
 use Rattle.cache.specs.declared.CacheKey.{CacheKey}
 use Rattle.cache.specs.declared.CacheOrder.{CacheOrder}
-use Rattle.cache.specs.Cache.{half, mixed, hash, head_of, chain, bits, bit_of, has_bit, latest_of, filter_of, entry_place, link_place, link_of, bits_of, is_room, is_same, is_at, walk, find}
+use Rattle.cache.specs.Cache.{half, hash, head_of, chain, bits, bit_of, has_bit, latest_of, filter_of, entry_place, link_place, link_of, bits_of, is_room, is_same, is_at, walk, find}
 
 -- ---- tests
 pub picked : (b x : Bool) → pick b x false ≡ true → (b ≡ true) × (x ≡ true)
@@ -26,19 +26,20 @@ agree e q = eq-eqb _ _ (sym e ∙ q)
 pub alike : {r z : ℕ} (y : ℕ) → r ≡ z → eqb r y ≡ eqb z y
 alike y e = ap (λ (x : ℕ). eqb x y) e
 
--- ---- the hash: a product of halves is a word
-pub product_fits : (a b : ℕ) → a < half → b < half → a * b < 18446744073709551616
-product_fits a b h j =
-    let m : a * b ≤ 4294967295 * 4294967295 = mul-le-mul (let x : a ≤ 4294967295 = omega arith in x) (let y : b ≤ 4294967295 = omega arith in y) in
-    omega arith
+more : {v t : Bool} (b : Bool) → v ≡ t → pick v b false ≡ pick t b false
+more b e = ap (λ (x : Bool). pick x b false) e
 
--- and so is what is mixed of a sum
-module _ (x sum : ℕ) (e : sum ≡ x % 18446744073709551616) where
-  pub high_fits : sum / half * 2146121005 < 18446744073709551616
-  high_fits = omega arith
+-- tests in turn: each of v1 to v5 and r is the one before it and one test more
+in_turn : (a b x : Bool) → pick (pick a b false) x false ≡ pick a (pick b x false) false
+unfolding pick
+in_turn true b x = refl
+in_turn false b x = refl
 
-  pub mixed_fits : mixed sum < 18446744073709551616
-  mixed_fits = omega arith
+module _ {v1 v2 v3 v4 v5 r : Bool} (a1 a2 a3 a4 a5 a6 a7 : Bool) where
+  pub seven : v1 ≡ pick a1 a2 false → v2 ≡ pick v1 a3 false → v3 ≡ pick v2 a4 false → v4 ≡ pick v3 a5 false → v5 ≡ pick v4 a6 false → r ≡ pick v5 a7 false
+      → r ≡ pick a1 (pick a2 (pick a3 (pick a4 (pick a5 (pick a6 a7 false) false) false) false) false) false
+  seven e1 e2 e3 e4 e5 e6 =
+      e6 ∙ more a7 (e5 ∙ more a6 (e4 ∙ more a5 (e3 ∙ more a4 (e2 ∙ more a3 e1)))) ∙ simp in_turn
 
 -- ---- room; r is what `is_room` answered
 pub room_says : {r : Bool} (k : ℕ) → r ≡ is_room k → r ≡ true → (0 < k) × (k ≤ 100000)
@@ -70,17 +71,14 @@ module _ (w : List ℕ) (k oldest b : ℕ) (key : CacheKey) (entry : ℕ) where
   unfolding walk
   walk_spent n e = rw e
 
-  pub walk_hit : {s : Bool} (n : ℕ) → (n ≡ 0 → ⊥) → oldest ≤ entry → s ≡ is_at w k entry b key → s ≡ true → Some (entry % k) ≡ walk n w k oldest b key entry
-  unfolding walk
-  walk_hit zero z h e t = absurd (z refl)
-  walk_hit (suc n) z h e t = no _ (le-ltb entry oldest h) (yes_of _ e t refl)
+  module _ {s : Bool} (n m : ℕ) (z : n ≡ suc m) (h : oldest ≤ entry) (e : s ≡ is_at w k entry b key) where
+    pub walk_hit : s ≡ true → Some (entry % k) ≡ walk n w k oldest b key entry
+    unfolding walk
+    walk_hit t = rw z (no _ (le-ltb entry oldest h) (yes_of _ e t refl))
 
-  pub walk_on : {s : Bool} {r q : ℕ} (n : ℕ) → (n ≡ 0 → ⊥) → oldest ≤ entry → s ≡ is_at w k entry b key → s ≡ false → r ≡ get_or w (k + entry % k) 0 → q ≡ r % half → walk (n - 1) w k oldest b key q ≡
-      walk n w k oldest b key entry
-  unfolding walk link_of link_place
-  walk_on zero z h e t l m = absurd (z refl)
-  walk_on (suc n) z h e t l m =
-      no _ (le-ltb entry oldest h) (no_of _ e t (rw (sub-one) (ap (walk n w k oldest b key) (m ∙ ap (λ (x : ℕ). x % half) l))))
+    pub walk_on : {r q : ℕ} → s ≡ false → r ≡ get_or w (k + entry % k) 0 → q ≡ r % half → walk m w k oldest b key q ≡ walk n w k oldest b key entry
+    unfolding walk link_of link_place
+    walk_on t l j = rw z (no _ (le-ltb entry oldest h) (no_of _ e t (ap (walk m w k oldest b key) (j ∙ ap (λ (x : ℕ). x % half) l))))
 
 -- ---- finding; r is what `is_room` answered, n the number of entries claimed
 module _ (w : List ℕ) (k : ℕ) (o : CacheOrder) (key : CacheKey) {r : Bool} (e : r ≡ is_room k) where

@@ -3,40 +3,25 @@
 ghost use Rattle.std.specs.Prelude.{◌≡◌, ◌+◌, ◌*◌, ◌<◌, ◌≤◌, length};
 ghost use Rattle.cache.specs.Cache.{row_words, rows_from, terms_of, rows_to, copied};
 
-use super::{CachedTerms, ROW_WORDS, ROWS_FROM, copy_run, entry_place, is_room, modulo, number};
+use super::{CachedTerms, ROW_WORDS, ROWS_FROM, copy_run, entry_place, is_room, modulo};
 use words::read;
 
 // The terms of the kept evaluation in a slot; all 0 where K is out of range.
 pub fn terms_of(words: &[u64], k: usize, slot: usize) -> CachedTerms
     ensures { result ≡ terms_of words.now k slot }
 {
-    if is_room(k) {
-        let at = entry_place(k, slot);
-        let nll = read(words, at + 7);
-        let score0 = read(words, at + 8);
-        let score1 = read(words, at + 9);
-        let i00 = read(words, at + 10);
-        let i01 = read(words, at + 11);
-        let i10 = read(words, at + 12);
-        let i11 = read(words, at + 13);
-        return CachedTerms {
-            nll,
-            score0,
-            score1,
-            i00,
-            i01,
-            i10,
-            i11,
-        };
+    if !is_room(k) {
+        return CachedTerms::default();
     }
+    let at = entry_place(k, slot);
     CachedTerms {
-        nll: 0,
-        score0: 0,
-        score1: 0,
-        i00: 0,
-        i01: 0,
-        i10: 0,
-        i11: 0,
+        nll: read(words, at + 7),
+        score0: read(words, at + 8),
+        score1: read(words, at + 9),
+        i00: read(words, at + 10),
+        i01: read(words, at + 11),
+        i10: read(words, at + 12),
+        i11: read(words, at + 13),
     }
 }
 
@@ -47,7 +32,7 @@ fn copy_words(words: &[u64], k: usize, slot: usize, n: usize, out: &mut [u64], t
         × (to + n ≤ length out.old) }
     ensures { out.new ≡ rows_to words.now k slot n out.old to }
 {
-    let first = number(read(words, entry_place(k, slot) + 15));
+    let first = read(words, entry_place(k, slot) + 15) as usize;
     let base = ROWS_FROM * k;
     let at = ROW_WORDS * modulo(first, k);
     let left = ROW_WORDS * k - at;
@@ -64,17 +49,19 @@ fn copy_words(words: &[u64], k: usize, slot: usize, n: usize, out: &mut [u64], t
 pub fn copy_rows(words: &[u64], k: usize, slot: usize, n: usize, out: &mut [u64], to: usize)
     ensures { out.new ≡ copied words.now k slot n out.old to }
 {
-    if is_room(k) {
-        if k < n {
-            return;
-        }
-        if words.len() < (ROWS_FROM + ROW_WORDS) * k {
-            return;
-        }
-        if to <= out.len() {
-            if ROW_WORDS * n <= out.len() - to {
-                copy_words(words, k, slot, ROW_WORDS * n, out, to);
-            }
-        }
+    if !is_room(k) {
+        return;
+    }
+    if k < n {
+        return;
+    }
+    if words.len() < (ROWS_FROM + ROW_WORDS) * k {
+        return;
+    }
+    if out.len() < to {
+        return;
+    }
+    if ROW_WORDS * n <= out.len() - to {
+        copy_words(words, k, slot, ROW_WORDS * n, out, to);
     }
 }

@@ -7,7 +7,7 @@ ghost use Rattle.cache.specs.Cache.{insert};
 
 use super::{
     CacheKey, CacheOrder, CachedTerms, HALF, ROW_WORDS, ROWS_FROM, copy_run, entry_place, hash,
-    head_of, is_room, less, number, word,
+    head_of, is_room,
 };
 use words::{put, read};
 
@@ -20,10 +20,11 @@ const ENTRY_NUMBERS: usize = 4294967296;
 fn raised(first_row: usize, next_row: usize, n: usize) -> usize
     ensures { result ≡ raised first_row next_row n }
 {
-    if n < less(next_row, first_row) {
-        return first_row + n;
+    if n < next_row.saturating_sub(first_row) {
+        first_row + n
+    } else {
+        next_row
     }
-    next_row
 }
 
 // Drops the oldest entries until at most `room` rows are left. Where no entry is left there is no row.
@@ -32,28 +33,22 @@ fn evict(words: &[u64], k: usize, room: usize, order: CacheOrder) -> CacheOrder
     ensures { result ≡ evict (order.next - order.oldest) words.now k room
         order.next order.next_row order.oldest order.first_row }
 {
-    let mut oldest = order.oldest;
     let mut first_row = order.first_row;
-    let next = order.next;
-    let next_row = order.next_row;
-    while oldest < next {
-        if less(next_row, first_row) <= room {
+    for oldest in order.oldest..order.next {
+        if order.next_row.saturating_sub(first_row) <= room {
             return CacheOrder {
                 oldest,
-                next,
                 first_row,
-                next_row,
+                ..order
             };
         }
-        let n = number(read(words, entry_place(k, oldest) + 14));
-        first_row = raised(first_row, next_row, n);
-        oldest += 1;
+        let n = read(words, entry_place(k, oldest) + 14) as usize;
+        first_row = raised(first_row, order.next_row, n);
     }
     CacheOrder {
-        oldest,
-        next,
-        first_row: next_row,
-        next_row,
+        oldest: order.oldest.max(order.next),
+        first_row: order.next_row,
+        ..order
     }
 }
 
@@ -66,9 +61,10 @@ fn with_bit(latest: usize, oldest: usize, filter: u64, bit: u64) -> u64
     ensures { (result ≡ with_bit latest oldest filter bit) × (result < half) }
 {
     if latest < oldest {
-        return 1 << bit;
+        1 << bit
+    } else {
+        filter | 1 << bit
     }
-    filter | 1 << bit
 }
 
 // The place after `at` in a ring of c words.
@@ -76,78 +72,47 @@ fn onward(at: usize, c: usize) -> usize
     requires { at < c }
     ensures { result ≡ (at + 1) % c }
 {
-    if at + 1 == c {
-        return 0;
-    }
-    at + 1
+    if at + 1 == c { 0 } else { at + 1 }
 }
 
-// Writes n words of `values` as `put_ring` does, where some may lie beyond the end.
-fn put_each(
-    words: &mut [u64],
-    base: usize,
-    c: usize,
-    start: usize,
-    values: &[u64],
-    from: usize,
-    n: usize,
-)
-    requires { (0 < c) × (base + c < 100000000) × (from + n < 18446744073709551616) }
-    ensures { words.new ≡ put_ring n words.old base c start values.now from 0 }
+// Writes the values as `put_ring` does, where some places may lie beyond the end.
+fn put_each(words: &mut [u64], base: usize, c: usize, start: usize, values: &[u64])
+    requires { (0 < c) × (base + c < 100000000) }
+    ensures { words.new ≡ put_ring (length values.now) words.old base c start values.now 0 0 }
 {
     let mut at = start % c;
-    let mut i = 0;
-    while i < n {
-        put(words, base + at, read(values, from + i));
+    for value in values {
+        put(words, base + at, *value);
         at = onward(at, c);
-        i += 1;
     }
 }
 
-// Writes n words of `values` as `put_ring` does, where all are lent: those before the end of the ring, then
-// those from its beginning on.
-fn put_lent(
-    words: &mut [u64],
-    base: usize,
-    c: usize,
-    start: usize,
-    values: &[u64],
-    from: usize,
-    n: usize,
-)
-    requires { (0 < c) × (n ≤ c) × (base + c ≤ length words.old) × (from + n ≤ length values.now) }
-    ensures { words.new ≡ put_ring n words.old base c start values.now from 0 }
+// Writes the values as `put_ring` does, where the whole ring is lent: those before its end, then those from
+// its beginning on.
+fn put_lent(words: &mut [u64], base: usize, c: usize, start: usize, values: &[u64])
+    requires { (0 < c) × (length values.now ≤ c) × (base + c ≤ length words.old) }
+    ensures { words.new ≡ put_ring (length values.now) words.old base c start values.now 0 0 }
 {
     let at = start % c;
     let left = c - at;
-    if n <= left {
-        copy_run(values, from, n, words, base + at);
+    if values.len() <= left {
+        copy_run(values, 0, values.len(), words, base + at);
         return;
     }
-    copy_run(values, from, left, words, base + at);
-    copy_run(values, from + left, n - left, words, base);
+    copy_run(values, 0, left, words, base + at);
+    copy_run(values, left, values.len() - left, words, base);
 }
 
-// Writes n words of `values`, from word `from` on, around the ring of c words at `base`, the first at `start`.
-fn put_ring(
-    words: &mut [u64],
-    base: usize,
-    c: usize,
-    start: usize,
-    values: &[u64],
-    from: usize,
-    n: usize,
-)
-    requires { (0 < c) × (n ≤ c) × (base + c < 100000000) × (from + n < 18446744073709551616) }
-    ensures { words.new ≡ put_ring n words.old base c start values.now from 0 }
+// Writes the values around the ring of c words at `base`, the first at `start`.
+fn put_ring(words: &mut [u64], base: usize, c: usize, start: usize, values: &[u64])
+    requires { (0 < c) × (length values.now ≤ c) × (base + c < 100000000) }
+    ensures { words.new ≡ put_ring (length values.now) words.old base c start values.now 0 0 }
 {
     if base + c <= words.len() {
-        if from + n <= values.len() {
-            put_lent(words, base, c, start, values, from, n);
-            return;
-        }
+        put_lent(words, base, c, start, values);
+    } else {
+        put_each(words, base, c, start, values);
     }
-    put_each(words, base, c, start, values, from, n);
 }
 
 // An entry's words: key, terms, the number of its rows and the number of the first.
@@ -169,48 +134,44 @@ fn entry_words(key: CacheKey, terms: CachedTerms, n: usize, row: usize) -> [u64;
         terms.i01,
         terms.i10,
         terms.i11,
-        word(n),
-        word(row),
+        n as u64,
+        row as u64,
     ]
 }
 
-// Writes the entry numbered `entry` with its n rows, the first numbered `row`; entries older than `oldest`
+// Writes the entry with the next number and its n rows, whose words are `rows`; entries older than the oldest
 // have been dropped.
 fn write_entry(
     words: &mut [u64],
     k: usize,
-    oldest: usize,
-    entry: usize,
-    row: usize,
+    order: CacheOrder,
     key: CacheKey,
     terms: CachedTerms,
     n: usize,
     rows: &[u64],
-    from: usize,
 )
-    requires { (0 < k) × (k ≤ 100000) × (n ≤ k) × (entry < half) × (row < 1152921504606846976)
-        × (from + row_words * n < 18446744073709551616) }
-    ensures { words.new ≡ written words.old k oldest entry row key terms n rows.now from }
+    requires { (0 < k) × (k ≤ 100000) × (n ≤ k) × (order.next < half) × (order.next_row < 1152921504606846976)
+        × (length rows.now ≡ row_words * n) }
+    ensures { words.new ≡ written words.old k order.oldest order.next order.next_row key terms n rows.now 0 }
 {
+    let entry = order.next;
     let hash = hash(key);
     let bits = hash / HALF;
     let head = head_of(hash, k);
     let old = read(words, head);
     let latest = old % HALF;
-    let filter = with_bit(number(latest), oldest, old / HALF, bits % 32);
-    let new = entry_words(key, terms, n, row);
-    put_ring(words, entry_place(k, entry), 16, 0, &new, 0, 16);
+    let filter = with_bit(latest as usize, order.oldest, old / HALF, bits % 32);
+    let new = entry_words(key, terms, n, order.next_row);
+    put_ring(words, entry_place(k, entry), 16, 0, &new);
     put_ring(
         words,
         ROWS_FROM * k,
         ROW_WORDS * k,
-        ROW_WORDS * row,
+        ROW_WORDS * order.next_row,
         rows,
-        from,
-        ROW_WORDS * n,
     );
     put(words, k + entry % k, latest + bits * HALF);
-    put(words, head, word(entry) + filter * HALF);
+    put(words, head, entry as u64 + filter * HALF);
 }
 
 // ---- keeping
@@ -220,28 +181,26 @@ fn write_entry(
 fn is_kept(k: usize, order: CacheOrder, n: usize, lent: usize, from: usize) -> bool
     ensures { result ≡ is_kept k order n lent from }
 {
-    if is_room(k) {
-        if n == 0 {
-            return false;
-        }
-        if k < n {
-            return false;
-        }
-        if lent < from {
-            return false;
-        }
-        if lent - from < ROW_WORDS * n {
-            return false;
-        }
-        if k < less(order.next, order.oldest) {
-            return false;
-        }
-        if order.next < ENTRY_NUMBERS {
-            return order.next_row < 1152921504606846976;
-        }
+    // test after test, since the product fits only where those before it hold
+    if !is_room(k) {
         return false;
     }
-    false
+    if n == 0 {
+        return false;
+    }
+    if k < n {
+        return false;
+    }
+    if lent < from {
+        return false;
+    }
+    if lent - from < ROW_WORDS * n {
+        return false;
+    }
+    if k < order.next.saturating_sub(order.oldest) {
+        return false;
+    }
+    order.next < ENTRY_NUMBERS && order.next_row < 1152921504606846976
 }
 
 // Keeps an evaluation with its n rows, which stand in `rows` from word `from` on, and gives the positions
@@ -259,26 +218,15 @@ pub fn insert(
 ) -> CacheOrder
     ensures { after result words.new ≡ insert words.old k order key terms n rows.now from }
 {
-    if is_kept(k, order, n, rows.len(), from) {
-        let left = evict(words, k, k - n, order);
-        write_entry(
-            words,
-            k,
-            left.oldest,
-            order.next,
-            order.next_row,
-            key,
-            terms,
-            n,
-            rows,
-            from,
-        );
-        return CacheOrder {
-            oldest: left.oldest,
-            next: order.next + 1,
-            first_row: left.first_row,
-            next_row: order.next_row + n,
-        };
+    if !is_kept(k, order, n, rows.len(), from) {
+        return order;
     }
-    order
+    let left = evict(words, k, k - n, order);
+    let rows = &rows[from..from + ROW_WORDS * n];
+    write_entry(words, k, left, key, terms, n, rows);
+    CacheOrder {
+        next: left.next + 1,
+        next_row: left.next_row + n,
+        ..left
+    }
 }

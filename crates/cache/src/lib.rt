@@ -18,7 +18,7 @@ ghost use Rattle.cache.specs.Cache.{half, part, hash, head_of, has_bit, is_room,
 pub mod entries;
 pub mod keeping;
 
-use words::{put, read};
+use words::read;
 
 // The words of a row: prediction, time and side.
 pub const ROW_WORDS: usize = 3;
@@ -51,7 +51,7 @@ pub struct CacheKey {
 
 // What is kept of an evaluation beside its rows: the words of its nll, score and information, by row and
 // column. None of them includes the prior.
-#[derive(Clone, Copy)]
+#[derive(Clone, Copy, Default)]
 pub struct CachedTerms {
     pub nll: u64,
     pub score0: u64,
@@ -72,51 +72,20 @@ pub struct CacheOrder {
     pub next_row: usize,
 }
 
-fn number(word: u64) -> usize
-    ensures { result ≡ word }
-{
-    word as usize
-}
-
-fn word(number: usize) -> u64
-    ensures { result ≡ number }
-{
-    number as u64
-}
-
-// a - b, or 0.
-fn less(a: usize, b: usize) -> usize
-    ensures { result ≡ a - b }
-{
-    if b < a {
-        return a - b;
-    }
-    0
-}
-
 // a modulo b; where b is 0, a itself. A division takes long, and most numbers are below b already.
 pub fn modulo(a: usize, b: usize) -> usize
     ensures { result ≡ a % b }
 {
-    if a < b {
-        return a;
-    }
-    if b == 0 {
-        return a;
-    }
-    a % b
+    if a < b || b == 0 { a } else { a % b }
 }
 
-// Copies n words, from word `from` on, to `out`, from word `to` on.
+// Copies n words, from word `from` on, to `out`, from word `to` on: by places, as the definitions of runs and
+// rings have them.
 fn copy_run(words: &[u64], from: usize, n: usize, out: &mut [u64], to: usize)
     requires { (from + n ≤ length words.now) × (to + n ≤ length out.old) }
     ensures { out.new ≡ copy_run n words.now from out.old to 0 }
 {
-    let mut i = 0;
-    while i < n {
-        out[to + i] = words[from + i];
-        i += 1;
-    }
+    out[to..to + n].copy_from_slice(&words[from..from + n]);
 }
 
 // ---- the hash
@@ -134,23 +103,24 @@ fn part(word: u64, low: u64, high: u64) -> u64
 pub fn hash(key: CacheKey) -> u64
     ensures { result ≡ hash key }
 {
-    let subject_theta0 = std::num::wrapping_add_u64(
-        part(key.subject, 0x9e37_79b1, 0x85eb_ca77),
-        part(key.theta0, 0xc2b2_ae3d, 0x27d4_eb2f),
-    );
-    let theta1_eta0 = std::num::wrapping_add_u64(
-        part(key.theta1, 0x1656_67b1, 0xd3a2_646d),
-        part(key.eta0, 0xfd70_46c5, 0xb55a_4f09),
-    );
-    let eta1_override = std::num::wrapping_add_u64(
-        part(key.eta1, 0x8f1b_bcdd, 0x6ed9_eba1),
-        part(key.has_additive, 0x5a82_7999, 0xca62_c1d7),
-    );
+    let subject_theta0 = part(key.subject, 0x9e37_79b1, 0x85eb_ca77).wrapping_add(part(
+        key.theta0,
+        0xc2b2_ae3d,
+        0x27d4_eb2f,
+    ));
+    let theta1_eta0 = part(key.theta1, 0x1656_67b1, 0xd3a2_646d).wrapping_add(part(
+        key.eta0,
+        0xfd70_46c5,
+        0xb55a_4f09,
+    ));
+    let eta1_override = part(key.eta1, 0x8f1b_bcdd, 0x6ed9_eba1).wrapping_add(part(
+        key.has_additive,
+        0x5a82_7999,
+        0xca62_c1d7,
+    ));
     let additive = part(key.additive, 0xb7e1_5163, 0x7f4a_7c15);
-    let sum = std::num::wrapping_add_u64(
-        std::num::wrapping_add_u64(subject_theta0, theta1_eta0),
-        std::num::wrapping_add_u64(eta1_override, additive),
-    );
+    let keyed = subject_theta0.wrapping_add(theta1_eta0);
+    let sum = keyed.wrapping_add(eta1_override.wrapping_add(additive));
     sum % HALF * 1640531527 + sum / HALF * 2146121005
 }
 
@@ -159,7 +129,7 @@ fn head_of(hash: u64, k: usize) -> usize
     requires { k ≤ 100000 }
     ensures { result ≡ head_of hash k }
 {
-    number(hash % HALF * word(k) / HALF)
+    (hash % HALF * k as u64 / HALF) as usize
 }
 
 // Whether the filter has this bit.
@@ -172,40 +142,26 @@ fn has_bit(filter: u64, bit: u64) -> bool
 
 // ---- finding
 
-// Whether K is in range: room for 1 to 100,000 rows.
+// Whether K is in range: room for 1 to 100,000 rows. K stays a number of its own, as in the definitions: with a
+// struct for it each contract would have to open it.
 pub fn is_room(k: usize) -> bool
     ensures { result ≡ is_room k }
 {
-    if k == 0 {
-        return false;
-    }
-    k < 100001
+    k != 0 && k < 100001
 }
 
-// Whether the entry at `at` has this key.
+// Whether the entry at `at` has this key. The first test is of what differs most from one entry to the next.
 fn is_same(words: &[u64], at: usize, key: CacheKey) -> bool
     requires { at < 100000000 }
     ensures { result ≡ is_same words.now at key }
 {
-    if read(words, at + 3) != key.eta0 {
-        return false;
-    }
-    if read(words, at) != key.subject {
-        return false;
-    }
-    if read(words, at + 1) != key.theta0 {
-        return false;
-    }
-    if read(words, at + 4) != key.eta1 {
-        return false;
-    }
-    if read(words, at + 2) != key.theta1 {
-        return false;
-    }
-    if read(words, at + 5) != key.has_additive {
-        return false;
-    }
-    read(words, at + 6) == key.additive
+    read(words, at + 3) == key.eta0
+        && read(words, at) == key.subject
+        && read(words, at + 1) == key.theta0
+        && read(words, at + 4) == key.eta1
+        && read(words, at + 2) == key.theta1
+        && read(words, at + 5) == key.has_additive
+        && read(words, at + 6) == key.additive
 }
 
 // The word at which the slot of an entry begins.
@@ -221,10 +177,7 @@ fn is_at(words: &[u64], k: usize, entry: usize, bits: u64, key: CacheKey) -> boo
     requires { (0 < k) × (k ≤ 100000) }
     ensures { result ≡ is_at words.now k entry bits key }
 {
-    if read(words, k + modulo(entry, k)) / HALF == bits {
-        return is_same(words, entry_place(k, entry), key);
-    }
-    false
+    read(words, k + modulo(entry, k)) / HALF == bits && is_same(words, entry_place(k, entry), key)
 }
 
 // The slot of the entry with this key, from the entry `start` along its chain, in at most `most` entries, if it
@@ -242,16 +195,14 @@ fn walk(
     ensures { result ≡ walk most words.now k oldest bits key start }
 {
     let mut entry = start;
-    let mut left = most;
-    while oldest <= entry {
-        if left == 0 {
+    for passed in 0..most {
+        if entry < oldest {
             return None;
         }
-        left -= 1;
         if is_at(words, k, entry, bits, key) {
             return Some(modulo(entry, k));
         }
-        entry = number(read(words, k + modulo(entry, k)) % HALF);
+        entry = (read(words, k + modulo(entry, k)) % HALF) as usize;
     }
     None
 }
@@ -260,23 +211,23 @@ fn walk(
 pub fn find(words: &[u64], k: usize, order: CacheOrder, key: CacheKey) -> Option<usize>
     ensures { result ≡ find words.now k order key }
 {
-    if is_room(k) {
-        let most = less(order.next, order.oldest);
-        if most == 0 {
-            return None;
-        }
-        // no more than K entries can be kept
-        if k < most {
-            return None;
-        }
-        let hash = hash(key);
-        let head = read(words, head_of(hash, k));
-        let bits = hash / HALF;
-        if has_bit(head / HALF, bits % 32) {
-            let latest = number(head % HALF);
-            return walk(words, k, order.oldest, bits, key, latest, most);
-        }
+    if !is_room(k) {
         return None;
     }
-    None
+    let most = order.next.saturating_sub(order.oldest);
+    if most == 0 {
+        return None;
+    }
+    // no more than K entries can be kept
+    if k < most {
+        return None;
+    }
+    let hash = hash(key);
+    let head = read(words, head_of(hash, k));
+    let bits = hash / HALF;
+    if !has_bit(head / HALF, bits % 32) {
+        return None;
+    }
+    let latest = (head % HALF) as usize;
+    walk(words, k, order.oldest, bits, key, latest, most)
 }

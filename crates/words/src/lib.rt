@@ -10,20 +10,14 @@ ghost use Rattle.words.specs.Written.{written, write};
 pub fn smaller(a: usize, b: usize) -> usize
     ensures { result ≡ smaller a b }
 {
-    if a < b {
-        return a;
-    }
-    b
+    a.min(b)
 }
 
 // Word i of the lent words, or 0 beyond their end.
 pub fn read(words: &[u64], i: usize) -> u64
     ensures { result ≡ get_or words.now i 0 }
 {
-    if i < words.len() {
-        return words[i];
-    }
-    0
+    if i < words.len() { words[i] } else { 0 }
 }
 
 // Writes word i of the lent words; beyond their end nothing is written.
@@ -39,15 +33,11 @@ pub fn put(words: &mut [u64], i: usize, value: u64)
 pub fn clear(words: &mut [u64])
     ensures { words.new ≡ zeros (length words.old) }
 {
-    let n = words.len();
-    let mut i = 0;
-    while i < n {
-        words[i] = 0;
-        i += 1;
-    }
+    words.fill(0);
 }
 
-// ---- bytes and words written one after the other, as far as there is room
+// ---- bytes and words written one after the other, as far as there is room; one function for each, since what
+// they ensure is defined for numbers, and not for any type
 
 // Writes a byte at a place and gives the place after it. At the end of what is lent nothing is written, and
 // the place stays.

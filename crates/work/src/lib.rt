@@ -8,13 +8,11 @@
 #![tactic(auto)]
 
 ghost use Rattle.std.specs.Prelude.{◌≡◌, ◌+◌, ◌*◌, ◌≤◌, ◌<◌, length};
-ghost use Rattle.words.specs.Words.{smaller, zeros};
 ghost use Rattle.work.specs.Work.{rows_length, block, copy_words, copy_block, move_rows, is_same_row, is_same_grid};
 
 pub mod results;
 
 use cache::ROW_WORDS;
-use words::smaller;
 
 // Document 01's largest number of subjects.
 pub const MOST_SUBJECTS: usize = 4096;
@@ -58,26 +56,14 @@ pub struct Sources {
 fn rows_length(rows: usize) -> usize
     ensures { result ≡ rows_length rows }
 {
-    ROW_WORDS * smaller(rows, MOST_ROWS)
+    ROW_WORDS * rows.min(MOST_ROWS)
 }
 
 // The work word at which a block begins, for a subject of so many rows.
 pub fn block(rows: usize, number: usize) -> usize
     ensures { result ≡ block rows number }
 {
-    rows_length(rows) * smaller(number, TRIAL)
-}
-
-// Copies n words as `copy_words` does, where all of them are lent: a loop without a test for each word.
-fn copy_lent(work: &mut [u64], n: usize, from: usize, to: usize)
-    requires { (from + n ≤ length work.old) × (to + n ≤ length work.old) }
-    ensures { work.new ≡ copy_words n from to work.old }
-{
-    let mut i = 0;
-    while i < n {
-        work[to + i] = work[from + i];
-        i += 1;
-    }
+    rows_length(rows) * number.min(TRIAL)
 }
 
 // Copies n words as `copy_words` does, where some may lie beyond the end.
@@ -85,29 +71,13 @@ fn copy_each(work: &mut [u64], n: usize, from: usize, to: usize)
     requires { (n ≤ 300000) × (from ≤ 900000) × (to ≤ 900000) }
     ensures { work.new ≡ copy_words n from to work.old }
 {
-    let mut i = 0;
-    while i < n {
+    for i in 0..n {
         let word = words::read(work, from + i);
         words::put(work, to + i, word);
-        i += 1;
     }
 }
 
-// Copies n words, from word `from` on, to those from word `to` on, one after the other.
-fn copy_words(work: &mut [u64], n: usize, from: usize, to: usize)
-    requires { (n ≤ 300000) × (from ≤ 900000) × (to ≤ 900000) }
-    ensures { work.new ≡ copy_words n from to work.old }
-{
-    if from + n <= work.len() {
-        if to + n <= work.len() {
-            copy_lent(work, n, from, to);
-            return;
-        }
-    }
-    copy_each(work, n, from, to);
-}
-
-// Copies a block to another.
+// Copies a block to another: at once where both are lent.
 fn copy_block(work: &mut [u64], rows: usize, from: usize, to: usize)
     ensures { work.new ≡ copy_block rows from to work.old }
 {
@@ -117,7 +87,11 @@ fn copy_block(work: &mut [u64], rows: usize, from: usize, to: usize)
     let n = rows_length(rows);
     let first = block(rows, from);
     let last = block(rows, to);
-    copy_words(work, n, first, last);
+    if first.max(last) + n <= work.len() {
+        work.copy_within(first..first + n, last);
+    } else {
+        copy_each(work, n, first, last);
+    }
 }
 
 // Moves the rows of a trial to the blocks where an evaluation puts them: the best before the latest, since
@@ -140,24 +114,18 @@ fn is_same_row(work: &[u64], a: usize, b: usize) -> bool
 {
     let time = float64::from_word(words::read(work, a + 1));
     let other = float64::from_word(words::read(work, b + 1));
-    if time == other {
-        return words::read(work, a + 2) == words::read(work, b + 2);
-    }
-    false
+    time == other && words::read(work, a + 2) == words::read(work, b + 2)
 }
 
 // Document 01's check 17: whether times and sides are the same at eta zero and at the best point.
+#[tactic(auto, unfolding(crate::specs::Work::block))]
 pub fn is_same_grid(work: &[u64], rows: usize) -> bool
     ensures { result ≡ is_same_grid work.now rows }
 {
-    let n = smaller(rows, MOST_ROWS);
     let population = block(rows, POPULATION);
     let best = block(rows, BEST);
-    let mut i = 0;
-    while i < n {
-        if is_same_row(work, population + ROW_WORDS * i, best + ROW_WORDS * i) {
-            i += 1;
-        } else {
+    for i in 0..rows.min(MOST_ROWS) {
+        if !is_same_row(work, population + ROW_WORDS * i, best + ROW_WORDS * i) {
             return false;
         }
     }

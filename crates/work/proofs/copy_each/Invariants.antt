@@ -7,6 +7,3 @@ use Rattle.work.proofs.copy_each.Given as goal
 
 abbrev pub invariant-loop-i : goal.invariant-loop-i
 invariant-loop-i l = (copy_words (l.n - l.i) (l.from + l.i) (l.to + l.i) l.work ≡ copy_words l.n l.from l.to l.initial.work) × (length l.work ≡ length l.initial.work)
-
-abbrev pub decreases-loop-i : goal.decreases-loop-i
-decreases-loop-i l = l.n - l.i

@@ -5,7 +5,4 @@ use Rattle.work.specs.Work.{same_from}
 use Rattle.work.proofs.is_same_grid.Given as goal
 
 abbrev pub invariant-loop-i : goal.invariant-loop-i
-invariant-loop-i l = same_from (l.n - l.i) l.work l.rows l.i ≡ same_from l.n l.work l.rows 0
-
-abbrev pub decreases-loop-i : goal.decreases-loop-i
-decreases-loop-i l = l.n - l.i
+invariant-loop-i l = same_from (l.i-end - l.i) l.work l.rows l.i ≡ same_from l.i-end l.work l.rows 0

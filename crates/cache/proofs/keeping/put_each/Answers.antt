@@ -1,28 +1,15 @@
 -- `put_each` meets its contract: each turn by its law. Assumes nothing.
-use Rattle.std.proofs.Common.{refl, ◌∙◌, add-zero, arith}
-use native.Mathlib.Nat.{sub-zero}
-use Rattle.cache.proofs.KeepingPaths.{round, within, put_end, put_step}
+use Rattle.std.proofs.Common.{ℕ, sym, ap, get_or, ◌∙◌, zero-add}
+use Rattle.cache.proofs.KeepingPaths.{round, put_end, put_step}
 use Rattle.cache.proofs.keeping.put_each.Goals as goal
 
-pub loop-i-init : goal.loop-i-init
-loop-i-init c = (simp sub-zero, simp add-zero, refl)
-
-pub overflow_add-base : goal.overflow_add-base
-overflow_add-base c = omega (arith, within _ _ c.requires.0 c.loop-i.invariant.1)
-
-pub onward-at-requires : goal.onward-at-requires
-onward-at-requires c = within _ _ c.requires.0 c.loop-i.invariant.1
-
-pub loop-i-preserved : goal.loop-i-preserved
-loop-i-preserved c =
-    let so_far = c.loop-i.invariant in (
-      put_step _ _ _ _ _ _ _ _ c.loop-i-test.true so_far.1 c.read.ensures c.put.ensures ∙ so_far.0,
+pub loop-value-preserved : goal.loop-value-preserved
+loop-value-preserved c =
+    let so_far = c.loop-value.invariant in (
+      put_step _ _ _ _ _ _ _ _ c.loop-value-test.true so_far.1 (ap (λ (j : ℕ). get_or c.args.values.now j 0) (sym (zero-add _))) c.put.ensures ∙ so_far.0,
       round _ _ _ so_far.1 c.onward-at.ensures,
       c.put.auto.words ∙ so_far.2,
     )
 
-pub shape_of-words : goal.shape_of-words
-shape_of-words c = c.loop-i.invariant.2
-
 pub returns : goal.returns
-returns c = put_end _ _ _ _ _ _ _ _ c.loop-i-test.false ∙ c.loop-i.invariant.0
+returns c = put_end _ _ _ _ _ _ _ _ c.loop-value-test.false ∙ c.loop-value.invariant.0

@@ -4,10 +4,10 @@ use Rattle.float64.specs.Pick.{yes, no}
 use Rattle.cache.specs.Cache.{raised}
 use Rattle.cache.proofs.keeping.raised.Goals as goal
 
-pub returns-then-n-less : goal.returns-then-n-less
+pub returns-then-n-saturating_sub : goal.returns-then-n-saturating_sub
 unfolding raised
-returns-then-n-less c = rw (← c.less.ensures) (yes _ (lt-ltb _ _ c.if-n-less.true) refl)
+returns-then-n-saturating_sub c = rw (← c.saturating_sub.ensures) (yes _ (lt-ltb _ _ c.if-n-saturating_sub.true) refl)
 
-pub returns : goal.returns
+pub returns-else-n-saturating_sub : goal.returns-else-n-saturating_sub
 unfolding raised
-returns c = rw (← c.less.ensures) (no _ (le-ltb _ _ c.if-n-less.false) refl)
+returns-else-n-saturating_sub c = rw (← c.saturating_sub.ensures) (no _ (le-ltb _ _ c.if-n-saturating_sub.false) refl)

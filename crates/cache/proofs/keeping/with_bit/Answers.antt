@@ -5,5 +5,5 @@ use Rattle.cache.proofs.keeping.with_bit.Goals as goal
 pub returns-then-latest-oldest : goal.returns-then-latest-oldest
 returns-then-latest-oldest c = begins_anew _ _ _ _ c.requires.bit_bound c.if-latest-oldest.true
 
-pub returns : goal.returns
-returns c = one_bit_more _ _ _ _ c.requires.bit_bound c.requires.filter_lt_half c.if-latest-oldest.false
+pub returns-else-latest-oldest : goal.returns-else-latest-oldest
+returns-else-latest-oldest c = one_bit_more _ _ _ _ c.requires.bit_bound c.requires.filter_lt_half c.if-latest-oldest.false

@@ -6,7 +6,4 @@ use Rattle.work.specs.Work.{fitted_from}
 use Rattle.work.proofs.results.write_fitted.Given as goal
 
 abbrev pub invariant-loop-i : goal.invariant-loop-i
-invariant-loop-i l = (fitted_from (l.n - l.i) l.at l.work l.rows l.i l.results ≡ fitted_from l.n l.at l.work l.rows 0 l.initial.results) × (length l.results ≡ length l.initial.results)
-
-abbrev pub decreases-loop-i : goal.decreases-loop-i
-decreases-loop-i l = l.n - l.i
+invariant-loop-i l = (fitted_from (l.i-end - l.i) l.at l.work l.rows l.i l.results ≡ fitted_from l.i-end l.at l.work l.rows 0 l.initial.results) × (length l.results ≡ length l.initial.results)
