@@ -65,7 +65,6 @@ pub fn is_no_variance(variance: f64) -> bool
 
 // The terms of a row, the source's `row_terms`. `f_eta` is the derivative of the prediction by eta;
 // `additive` is the observation's own additive deviation, or the one that overrides it.
-#[tactic(auto, using(crate::proofs::Variance::refuses), unfolding(crate::specs::RowTerms::row_terms, crate::specs::RowTerms::answer, crate::specs::RowTerms::terms_at, crate::specs::RowTerms::finite_terms,),)]
 pub fn row_terms(
     observation: Observation,
     prediction: f64,
