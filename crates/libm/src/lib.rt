@@ -144,6 +144,7 @@ fn exp_around(x: f64, k: i64) -> f64
 }
 
 // The multiple of ln 2 that is nearest to x, hx being the high word of |x|.
+#[tactic(auto, using(float64::specs::Pick::picks), unfolding(crate::specs::Exp::multiple))]
 fn multiple(x: f64, hx: u64) -> i64
     requires { Within x }
     ensures { result ≡ multiple x hx }
@@ -161,6 +162,7 @@ fn multiple(x: f64, hx: u64) -> i64
 }
 
 // exp of an x from -EDGE to EDGE, by musl's three ranges of |x|.
+#[tactic(auto, using(float64::specs::Pick::picks), unfolding(crate::specs::Exp::exp_within))]
 fn exp_within(x: f64) -> f64
     requires { Within x }
     ensures { result ≡ exp_within x }
