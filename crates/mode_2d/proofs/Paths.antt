@@ -1,10 +1,13 @@
 -- The ways through the loop of `next_reduction` and of `Search2::advance`: one law for each, over plain variables. Assumes nothing.
-use mathlib.Core.Path.{◌≡◌, refl, sym, ap, ◌∙◌}
+use Rattle.std.specs.Prelude.{Some, None}
+use mathlib.Core.Path.{◌≡◌, refl, sym, ap, subst, ◌∙◌}
 use mathlib.Core.Bool.{Bool, true, false}
 use Prim.Native.Nat.{ℕ, suc, ◌+◌, ◌-◌, ◌<◌, ◌≤◌}
 use native.Mathlib.Omega.{arith}
+use borrow.Author.Tests.{lt-ltb, le-ltb}
+use lib.Dec.{ltb}
 use lib.Ieee.{Float}
-use Rattle.float64.specs.Pick.{pick, yes_of, no_of}
+use Rattle.float64.specs.Pick.{pick, yes, no, yes_of, no_of}
 use Rattle.mode_2d.specs.declared.population_focei_2d.Settings2.{Settings2}
 use Rattle.mode_2d.specs.declared.population_focei_2d.Conditional2.{Conditional2}
 use Rattle.mode_2d.specs.declared.population_focei_2d.NewtonStep.{NewtonStep}
@@ -39,6 +42,13 @@ module _ (eta-bound : Float) (step : NewtonStep) (reduction : ℕ) where
   pub all_passed : {a : ℕ} → 22 ≤ reduction → next_from eta-bound step reduction ≡ a → reduction ≡ a
   unfolding next_reduction
   all_passed h q = ap (λ (n : ℕ). next_reduction eta-bound step n reduction) (no_more reduction h) ∙ q
+
+-- what the loop answers, where its answer is the reduction a
+pub found_lem : {reduction a : ℕ} → reduction < 22 → reduction ≡ a → Some reduction ≡ pick (ltb a 22) (Some a) None
+found_lem {reduction} h e = subst (λ (a : ℕ). Some reduction ≡ pick (ltb a 22) (Some a) None) e (yes _ (lt-ltb _ _ h) refl)
+
+pub none_lem : {reduction a : ℕ} → 22 ≤ reduction → reduction ≡ a → None ≡ pick (ltb a 22) (Some a) None
+none_lem h e = subst (λ (a : ℕ). None ≡ pick (ltb a 22) (Some a) None) e (no _ (le-ltb _ _ h) refl)
 
 -- ---- what an evaluated point makes of the search: z is the search afterwards, t what `turn_after` answered
 module _ (s : Settings2) (x : Search2) (c : Conditional2) where

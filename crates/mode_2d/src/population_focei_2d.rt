@@ -1,6 +1,7 @@
 // The two-effect search, `mode` of population_focei_2d.rs: the point zero, then from each of six starts up to
 // 48 Newton rounds of up to 22 reductions (`mode_from_seed`). Each public function is defined for all values.
-ghost use Rattle.std.specs.Prelude.{◌≡◌, ◌<◌, ◌≤◌, ◌-◌};
+ghost use Rattle.std.specs.Prelude.{◌≡◌, ◌-◌, ltb, Some, None};
+ghost use Rattle.float64.specs.Pick.{pick};
 ghost use Rattle.mode_2d.specs.Rules.{prior_score, joint, penalised_score, max_abs, norm, curvature, step_by};
 ghost use Rattle.mode_2d.specs.Rules.{scale, reduced, trial_point, decrease, is_passed_over, next_reduction, is_taken, start_point};
 ghost use Rattle.mode_2d.specs.Rules.{is_unresolved, is_far, better, between, finish, start, request, advance};
@@ -155,12 +156,11 @@ fn step_by(s: Settings2, c: Conditional2, inverse: [[f64; 2]; 2]) -> NewtonStep
     }
 }
 
-// 2 to the minus `reduction`, by its exponent's bits.
+// 2 to the minus `reduction`, by its exponent's bits; 0 from 1023 on, which no search gets to.
 fn scale(reduction: u32) -> f64
-    requires { reduction < 22 }
     ensures { result ≡ scale reduction }
 {
-    f64::from_bits((1023 - reduction as u64) * 0x10_0000_0000_0000)
+    f64::from_bits(1023u64.saturating_sub(reduction as u64) * 0x10_0000_0000_0000)
 }
 
 // One effect's value `scale` of the way along, kept within the bound.
@@ -173,7 +173,6 @@ fn reduced(eta_bound: f64, eta: f64, scale: f64, direction: f64) -> f64
 
 #[tactic(auto, unfolding(crate::specs::Rules::trial_point))]
 fn trial_point(eta_bound: f64, step: NewtonStep, reduction: u32) -> Pair
-    requires { reduction < 22 }
     ensures { result ≡ trial_point eta_bound step reduction }
 {
     let scale = scale(reduction);
@@ -196,24 +195,22 @@ fn decrease(step: NewtonStep, trial: Pair) -> f64
 // fall is asked for.
 #[tactic(auto, using(float64::specs::Pick::picks), unfolding(crate::specs::Rules::is_passed_over, crate::specs::Rules::is_same))]
 fn is_passed_over(eta_bound: f64, step: NewtonStep, reduction: u32) -> bool
-    requires { reduction < 22 }
     ensures { result ≡ is_passed_over eta_bound step reduction }
 {
     let trial = trial_point(eta_bound, step, reduction);
     trial == step.eta || decrease(step, trial) <= 0.0
 }
 
-// The first reduction from `from` on that is not passed over, or 22.
-fn next_reduction(eta_bound: f64, step: NewtonStep, from: u32) -> u32
-    requires { from ≤ 22 }
-    ensures { result ≡ next_reduction eta_bound step (22 - from) from }
+// The first reduction from `from` on that is not passed over, of 22.
+fn next_reduction(eta_bound: f64, step: NewtonStep, from: u32) -> Option<u32>
+    ensures { let next = next_reduction eta_bound step (22 - from) from in result ≡ pick (ltb next 22) (Some next) None }
 {
     for reduction in from..22 {
         if !is_passed_over(eta_bound, step, reduction) {
-            return reduction;
+            return Some(reduction);
         }
     }
-    22
+    None
 }
 
 // Whether the trial of a round is taken: `joint` at its evaluation c falls by at least 1e-4 of what was
@@ -324,21 +321,20 @@ fn finish(s: Settings2, seed: u32, c: Conditional2, best: Conditional2) -> Searc
 // The first trial along the step from reduction `from` on.
 #[tactic(auto, using(float64::specs::Pick::picks), unfolding(crate::specs::Turns::tried))]
 fn try_from(eta_bound: f64, round: u32, from: u32, step: NewtonStep) -> Onward
-    requires { from ≤ 22 }
     ensures { result ≡ tried eta_bound round from step }
 {
-    let reduction = next_reduction(eta_bound, step, from);
-    if reduction < 22 {
-        let trial = trial_point(eta_bound, step, reduction);
-        return Onward::Try(round, reduction, trial, decrease(step, trial));
+    match next_reduction(eta_bound, step, from) {
+        Some(reduction) => {
+            let trial = trial_point(eta_bound, step, reduction);
+            Onward::Try(round, reduction, trial, decrease(step, trial))
+        }
+        None => Onward::Over,
     }
-    Onward::Over
 }
 
 // The trials of a round, from reduction `from` on.
 #[tactic(auto, unfolding(crate::specs::Turns::descended, crate::specs::Turns::descended_by, matrix::specs::Matrix::answer))]
 fn descend(s: Settings2, round: u32, from: u32, c: Conditional2) -> Onward
-    requires { from ≤ 22 }
     ensures { result ≡ descended s round from c }
 {
     let curvature = curvature(s.precision, c.information);
