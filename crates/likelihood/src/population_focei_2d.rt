@@ -45,15 +45,12 @@ pub fn scaled_row(observation: Observation, prediction: f64, f_eta: [f64; 2], va
     let prop = observation.proportional;
     let residual = observation.value - prediction;
     let z2 = residual * residual / variance;
-    let r_eta = [
-        2.0 * prop * prop * prediction * f_eta[0] / variance,
-        2.0 * prop * prop * prediction * f_eta[1] / variance,
-    ];
+    let scaled = |f: f64| 2.0 * prop * prop * prediction * f / variance;
     Row2 {
         residual,
         variance,
         z2,
-        r_eta,
+        r_eta: [scaled(f_eta[0]), scaled(f_eta[1])],
     }
 }
 

@@ -362,29 +362,21 @@ fn proceed(s: Settings2, round: u32, from: u32, c: Conditional2) -> Onward
 // The search after an evaluated point, in the rounds of a start. Without an inverse of the curvature it ends
 // with 16.
 #[tactic(auto, unfolding(crate::specs::Turns::gone_on_by))]
-fn go_on(
-    s: Settings2,
-    seed: u32,
-    round: u32,
-    from: u32,
-    current: Conditional2,
-    best: Conditional2,
-) -> Search2
-    ensures { result ≡ gone_on s seed round from current best }
+fn go_on(s: Settings2, x: Search2, round: u32, from: u32, current: Conditional2) -> Search2
+    ensures { result ≡ gone_on s x.seed round from current x.best }
 {
     match proceed(s, round, from, current) {
         Onward::Try(round, reduction, trial, decrease) => Search2 {
             stage: Stage2::Trial,
-            seed,
             round,
             reduction,
             current,
             trial,
             decrease,
-            best,
+            ..x
         },
-        Onward::Over => finish(s, seed, current, best),
-        Onward::NoInverse => between(Stage2::Halted(16), seed, current, best),
+        Onward::Over => finish(s, x.seed, current, x.best),
+        Onward::NoInverse => between(Stage2::Halted(16), x.seed, current, x.best),
     }
 }
 
@@ -486,9 +478,7 @@ impl Search2 {
     {
         match turn_after(s, self, c) {
             Turn::FirstStart => between(Stage2::Start, 0, c, c),
-            Turn::Rounds(round, from, current) => go_on(
-                s, self.seed, round, from, current, self.best,
-            ),
+            Turn::Rounds(round, from, current) => go_on(s, self, round, from, current),
             Turn::Ended => self,
         }
     }
