@@ -76,9 +76,10 @@ pub fn add_score(score: [f64; 2], row: Row2, f_eta: [f64; 2]) -> [f64; 2]
         r_eta,
     } = row;
     let weight = 0.5 * (1.0 - z2);
+    let term = |f: f64, r: f64| -residual * f / variance + weight * r;
     [
-        score[0] + (-residual * f_eta[0] / variance + weight * r_eta[0]),
-        score[1] + (-residual * f_eta[1] / variance + weight * r_eta[1]),
+        score[0] + term(f_eta[0], r_eta[0]),
+        score[1] + term(f_eta[1], r_eta[1]),
     ]
 }
 
@@ -91,14 +92,15 @@ pub fn add_information(information: [[f64; 2]; 2], row: Row2, f_eta: [f64; 2]) -
     let variance = row.variance;
     let [f_0, f_1] = f_eta;
     let [r_0, r_1] = row.r_eta;
+    let term = |f: f64, g: f64, r: f64, q: f64| f * g / variance + 0.5 * r * q;
     [
         [
-            information[0][0] + (f_0 * f_0 / variance + 0.5 * r_0 * r_0),
-            information[0][1] + (f_0 * f_1 / variance + 0.5 * r_0 * r_1),
+            information[0][0] + term(f_0, f_0, r_0, r_0),
+            information[0][1] + term(f_0, f_1, r_0, r_1),
         ],
         [
-            information[1][0] + (f_1 * f_0 / variance + 0.5 * r_1 * r_0),
-            information[1][1] + (f_1 * f_1 / variance + 0.5 * r_1 * r_1),
+            information[1][0] + term(f_1, f_0, r_1, r_0),
+            information[1][1] + term(f_1, f_1, r_1, r_1),
         ],
     ]
 }
