@@ -58,3 +58,6 @@ pick_no b x y e = sym (no x e refl)
 
 pub pick_same : {X : Type 0} (b : Bool) (x y : X) → y ≡ x → pick b x y ≡ x
 pick_same b x y e = sym (pass b (sym e))
+
+-- a proof by the tests that the code has passed, in a `using(..)`
+pub ruleset picks = (pick_yes, pick_no)

@@ -52,6 +52,7 @@ fn difference(a: u32, b: u32) -> f64
 }
 
 // The polynomial of log.c at z = s * s.
+#[tactic(auto, unfolding(crate::specs::Log::remainder))]
 fn remainder(z: f64) -> f64
     ensures { result ≡ remainder z }
 {
@@ -62,6 +63,7 @@ fn remainder(z: f64) -> f64
 }
 
 // log of 2^k * x, with dk = k, for an x from sqrt(2)/2 to sqrt(2).
+#[tactic(auto, unfolding(crate::specs::Log::log_around))]
 fn log_around(dk: f64, x: f64) -> f64
     ensures { result ≡ log_around dk x }
 {
@@ -74,6 +76,7 @@ fn log_around(dk: f64, x: f64) -> f64
 
 // log of the float of a word, less up * ln 2: the float is split into 2^k and a part from sqrt(2)/2
 // to sqrt(2).
+#[tactic(auto, unfolding(crate::specs::Log::log_of_word))]
 fn log_of_word(word: u64, up: u32) -> f64
     requires { up ≤ 54 }
     ensures { result ≡ log_of_word word up }
@@ -111,6 +114,7 @@ pub fn log(x: f64) -> f64
 }
 
 // exp of x = hi - lo, for an x of at most ln(2)/2 or so.
+#[tactic(auto, unfolding(crate::specs::Exp::exp_primary))]
 fn exp_primary(x: f64, hi: f64, lo: f64) -> f64
     ensures { result ≡ exp_primary x hi lo }
 {
@@ -128,6 +132,7 @@ fn power_of_two(k: i64) -> f64
 }
 
 // exp of x, with k times ln 2 taken out of x.
+#[tactic(auto, unfolding(crate::specs::Exp::exp_around))]
 fn exp_around(x: f64, k: i64) -> f64
     requires { mag k < 1000 }
     ensures { result ≡ exp_around x k }
@@ -139,6 +144,7 @@ fn exp_around(x: f64, k: i64) -> f64
 }
 
 // The multiple of ln 2 that is nearest to x, hx being the high word of |x|.
+#[tactic(auto, using(float64::specs::Pick::picks), unfolding(crate::specs::Exp::multiple))]
 fn multiple(x: f64, hx: u64) -> i64
     requires { Within x }
     ensures { result ≡ multiple x hx }
@@ -156,6 +162,7 @@ fn multiple(x: f64, hx: u64) -> i64
 }
 
 // exp of an x from -EDGE to EDGE, by musl's three ranges of |x|.
+#[tactic(auto, using(float64::specs::Pick::picks), unfolding(crate::specs::Exp::exp_within))]
 fn exp_within(x: f64) -> f64
     requires { Within x }
     ensures { result ≡ exp_within x }
@@ -172,15 +179,13 @@ fn exp_within(x: f64) -> f64
 }
 
 // e^x, exp of musl's exp.c, for x from -EDGE to EDGE (16), both included; NaN elsewhere.
+#[tactic(auto, using(float64::specs::Pick::picks), unfolding(crate::specs::Exp::exp))]
 pub fn exp(x: f64) -> f64
     ensures { result ≡ exp x }
 {
-    let nan = 0.0 / 0.0;
-    if -EDGE <= x {
-        if x <= EDGE {
-            return exp_within(x);
-        }
-        return nan;
+    if -EDGE <= x && x <= EDGE {
+        exp_within(x)
+    } else {
+        0.0 / 0.0
     }
-    nan
 }

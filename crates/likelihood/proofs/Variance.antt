@@ -9,7 +9,7 @@ use lib.Ieee.{Float, nan, inf, fin, binary64, of_bits, fits, is_nan, lt, le}
 use lib.Ieee.Bits.{is_true}
 use Rattle.float64.specs.Arithmetic.{word}
 use Rattle.float64.specs.Float64.{nonfinite}
-use Rattle.float64.specs.Pick.{pick, yes, no}
+use Rattle.float64.specs.Pick.{pick, yes, no, picks}
 use Rattle.float64.proofs.Order.{zero⁺, of_true, of_none, le_not_lt, le_or_gt}
 use Rattle.float64.proofs.Largest.{largest, none_above}
 
@@ -45,3 +45,12 @@ unfolding pick
 neither true b x y e t q = absurd (subst T (sym e ∙ t) tt)
 neither false true x y e t q = absurd (subst T (sym e ∙ t) tt)
 neither false false x y e t q = q
+
+-- by what `is_no_variance` and the other tests answered
+pub refused_by : {X : Type 0} {r : Bool} (a b : Bool) (x y : X) → r ≡ pick a true b → r ≡ true → pick a x (pick b x y) ≡ x
+refused_by a b x y e t = sym (either a b x y e t)
+
+pub passed_by : {X : Type 0} {r : Bool} (a b : Bool) (x y : X) → r ≡ pick a true b → r ≡ false → pick a x (pick b x y) ≡ y
+passed_by a b x y e t = sym (neither a b x y e t refl)
+
+pub ruleset refuses = (picks, refused_by, passed_by)

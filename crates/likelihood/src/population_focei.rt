@@ -57,9 +57,10 @@ pub fn is_no_variance(variance: f64) -> bool
     ensures { result ≡ pick (nonfinite variance) true (le variance (word 0)) }
 {
     if 0.0 < variance {
-        return LARGEST < variance;
+        LARGEST < variance
+    } else {
+        true
     }
-    true
 }
 
 // The terms of a row, the source's `row_terms`. `f_eta` is the derivative of the prediction by eta;
@@ -75,10 +76,7 @@ pub fn row_terms(
     let proportional = observation.proportional;
     let prop = proportional * prediction;
     let variance = additive * additive + prop * prop;
-    if is_no_variance(variance) {
-        return Err(RowError::InvalidVariance);
-    }
-    if float64::is_nonfinite(f_eta) {
+    if is_no_variance(variance) || float64::is_nonfinite(f_eta) {
         return Err(RowError::InvalidVariance);
     }
     let residual = observation.value - prediction;
@@ -88,13 +86,10 @@ pub fn row_terms(
     let nll = 0.5 * (z2 + libm::log(variance) + LOG_2PI);
     let score = -residual * f_eta / variance + 0.5 * (1.0 - z2) * scaled_r_eta;
     let information = f_eta * f_eta / variance + 0.5 * scaled_r_eta * scaled_r_eta;
-    if float64::is_nonfinite(nll) {
-        return Err(RowError::Overflow);
-    }
-    if float64::is_nonfinite(score) {
-        return Err(RowError::Overflow);
-    }
-    if float64::is_nonfinite(information) {
+    if float64::is_nonfinite(nll)
+        || float64::is_nonfinite(score)
+        || float64::is_nonfinite(information)
+    {
         return Err(RowError::Overflow);
     }
     Ok(RowTerms {

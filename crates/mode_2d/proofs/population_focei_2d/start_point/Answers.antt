@@ -1,35 +1,19 @@
--- `population_focei_2d::start_point` meets its contract: each start by its number, the last by the tests that lead there. Assumes nothing.
+-- `population_focei_2d::start_point` meets its contract: the last start is that of no number below 5. Assumes nothing.
 use borrow.Author.Tests.{ne_eqb}
-use Rattle.std.proofs.Common.{refl}
-use Rattle.float64.specs.Pick.{pick, no}
+use Rattle.std.proofs.Common.{◌≡◌, ◌<◌, ◌≤◌, ℕ, false, eqb, refl, arith}
+use Rattle.float64.specs.Pick.{no}
 use Rattle.mode_2d.specs.Rules.{start_point}
 use Rattle.mode_2d.proofs.population_focei_2d.start_point.Goals as goal
 
-pub returns-then-seed-eq0 : goal.returns-then-seed-eq0
-unfolding start_point pick
-returns-then-seed-eq0 c = rw c.if-seed-eq0.true
+other : (n k : ℕ) → 5 ≤ n → k < 5 → eqb n k ≡ false
+other n k h l = ne_eqb n k (omega arith)
 
-pub returns-then-seed-eq1 : goal.returns-then-seed-eq1
-unfolding start_point pick
-returns-then-seed-eq1 c = rw c.if-seed-eq1.true
-
-pub returns-then-seed-eq2 : goal.returns-then-seed-eq2
-unfolding start_point pick
-returns-then-seed-eq2 c = rw c.if-seed-eq2.true
-
-pub returns-then-seed-eq3 : goal.returns-then-seed-eq3
-unfolding start_point pick
-returns-then-seed-eq3 c = rw c.if-seed-eq3.true
-
-pub returns-then-seed-eq4 : goal.returns-then-seed-eq4
-unfolding start_point pick
-returns-then-seed-eq4 c = rw c.if-seed-eq4.true
-
-pub returns : goal.returns
+pub returns-in_default : goal.returns-in_default
 unfolding start_point
-returns c =
-    no _ (ne_eqb _ _ c.if-seed-eq0.false)
-    (no _ (ne_eqb _ _ c.if-seed-eq1.false)
-    (no _ (ne_eqb _ _ c.if-seed-eq2.false)
-    (no _ (ne_eqb _ _ c.if-seed-eq3.false)
-    (no _ (ne_eqb _ _ c.if-seed-eq4.false) refl))))
+returns-in_default c =
+    let h : 5 ≤ c.args.seed = omega arith in
+    no _ (other _ 0 h (omega arith))
+    (no _ (other _ 1 h (omega arith))
+    (no _ (other _ 2 h (omega arith))
+    (no _ (other _ 3 h (omega arith))
+    (no _ (other _ 4 h (omega arith)) refl))))
