@@ -144,7 +144,6 @@ fn fit_2d(setup: Setup, theta: Pair) -> Fit
 fn fit_with(setup: Setup, theta: Pair, precision: [[f64; 2]; 2], det_omega: f64) -> Fit
     ensures { result ≡ fit_with setup theta precision det_omega }
 {
-    let additive_sd = setup.additive_sd;
     Fit {
         effects: setup.effects,
         eta_bound: setup.eta_bound,
@@ -153,7 +152,7 @@ fn fit_with(setup: Setup, theta: Pair, precision: [[f64; 2]; 2], det_omega: f64)
         precision: matrix::matrix_of(precision),
         det_omega,
         theta,
-        additive_sd,
+        additive_sd: setup.additive_sd,
         k: setup.k,
         max_evaluations: setup.max_evaluations,
     }
@@ -234,9 +233,10 @@ pub fn begin_subject(
 fn idle(progress: Progress) -> Progress
     ensures { result ≡ idle progress }
 {
-    let mut next = progress;
-    next.awaits = false;
-    next
+    Progress {
+        awaits: false,
+        ..progress
+    }
 }
 
 // The end of a step in a refusal that ends the objective: no reply is awaited any more.
@@ -256,7 +256,6 @@ pub fn is_over(step: Step) -> bool
 {
     match step {
         Step::Asked(_, _) => false,
-        Step::Finished(_) => true,
-        Step::Refused(_, _) => true,
+        Step::Finished(_) | Step::Refused(_, _) => true,
     }
 }

@@ -4,4 +4,4 @@ use Rattle.search.proofs.points.bracket_sources.Goals as goal
 
 pub returns : goal.returns
 unfolding bracket_sources
-returns c = rw (c.select.ensures, c.is_closer.ensures)
+returns c = rw (c.pick.ensures, c.is_closer.ensures)

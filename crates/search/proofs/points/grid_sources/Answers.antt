@@ -6,10 +6,10 @@ pub returns : goal.returns
 unfolding grid_sources
 returns c =
     rw (
-      c.select.ensures,
-      c.select-2.ensures,
-      c.select-rising.ensures,
-      c.select-closer.ensures,
+      c.pick.ensures,
+      c.pick-2.ensures,
+      c.pick-rising.ensures,
+      c.pick-closer.ensures,
       c.is_under.ensures,
       c.is_above.ensures,
       c.is_closer.ensures,
