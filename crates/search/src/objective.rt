@@ -81,6 +81,7 @@ pub fn objective_of(progress: Progress, tally: Tally, ofv: f64, eta_squares: f64
     }
 }
 
+#[tactic(auto, unfolding(crate::specs::Subjects::finished))]
 fn finished(progress: Progress, ofv: f64, eta_squares: f64) -> Progress
     ensures { result ≡ finished progress ofv eta_squares }
 {

@@ -20,6 +20,7 @@ use work::Sources;
 // ---- what the search wants
 
 // The settings of a subject's search with one effect: those of the objective, and the subject's warm start.
+#[tactic(auto, unfolding(crate::specs::Subjects::settings))]
 pub fn settings(fit: Fit, progress: Progress) -> Settings
     ensures { result ≡ settings fit progress }
 {
@@ -32,6 +33,7 @@ pub fn settings(fit: Fit, progress: Progress) -> Settings
 }
 
 // The settings of a subject's search with two effects: those of the objective, and the subject's warm start.
+#[tactic(auto, unfolding(crate::specs::Subjects::settings2))]
 pub fn settings_2d(fit: Fit, progress: Progress) -> Settings2
     ensures { result ≡ settings2 fit progress }
 {
@@ -82,6 +84,7 @@ pub fn wanted_by(fit: Fit, progress: Progress) -> Wanted
 
 // The evaluated point that a search with one effect is given, from the sums of an evaluation at eta. The
 // prior's eta / omega is added to the score here, and never kept.
+#[tactic(auto, unfolding(crate::specs::Subjects::conditional1))]
 pub fn conditional(fit: Fit, eta: Pair, sums: Sums) -> Conditional
     ensures { result ≡ conditional1 fit eta sums }
 {
@@ -94,6 +97,7 @@ pub fn conditional(fit: Fit, eta: Pair, sums: Sums) -> Conditional
 }
 
 // The evaluated point that a search with two effects is given, from the sums of an evaluation at eta.
+#[tactic(auto, unfolding(crate::specs::Subjects::conditional2))]
 pub fn conditional_2d(eta: Pair, sums: Sums) -> Conditional2
     ensures { result ≡ conditional2 eta sums }
 {
@@ -107,6 +111,7 @@ pub fn conditional_2d(eta: Pair, sums: Sums) -> Conditional2
 
 // One effect, on the grid: the ninth point is eta zero. The best is the closer end of the latest upward cell,
 // as the search will have it once the grid is whole.
+#[tactic(auto, unfolding(crate::specs::Subjects::grid_sources))]
 fn grid_sources(search: Search, c: Conditional) -> Sources
     ensures { result ≡ grid_sources search c }
 {
@@ -119,6 +124,7 @@ fn grid_sources(search: Search, c: Conditional) -> Sources
     }
 }
 
+#[tactic(auto, unfolding(crate::specs::Subjects::bracket_sources))]
 fn bracket_sources(search: Search, c: Conditional) -> Sources
     ensures { result ≡ bracket_sources search c }
 {
@@ -171,6 +177,7 @@ fn population_source(search: Search2) -> usize
 
 // With two effects: from where the blocks of the work words get their rows, as the point c makes `after` of
 // `search`.
+#[tactic(auto, unfolding(crate::specs::Subjects::sources2))]
 pub fn sources_2d(settings: Settings2, search: Search2, after: Search2, c: Conditional2) -> Sources
     ensures { result ≡ sources2 settings search after c }
 {
@@ -183,6 +190,7 @@ pub fn sources_2d(settings: Settings2, search: Search2, after: Search2, c: Condi
 }
 
 // The objective with this search; no reply is awaited any more.
+#[tactic(auto, unfolding(crate::specs::Subjects::with_search))]
 pub fn with_search(progress: Progress, search: SubjectSearch) -> Progress
     ensures { result ≡ with_search progress search }
 {

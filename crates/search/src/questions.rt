@@ -32,6 +32,7 @@ fn key_1d(fit: Fit, subject: usize, eta: Pair) -> CacheKey
     }
 }
 
+#[tactic(auto, unfolding(crate::specs::Subjects::key2))]
 fn key_2d(fit: Fit, subject: usize, eta: Pair) -> CacheKey
     ensures { result ≡ key2 fit subject eta }
 {
@@ -60,6 +61,7 @@ pub fn key_of(fit: Fit, subject: usize, eta: Pair) -> CacheKey
 
 // The sums of a kept evaluation, from its words. It and `terms_of` are functions and not `From`, since both
 // types are of other crates.
+#[tactic(auto, unfolding(crate::specs::Subjects::sums_of))]
 pub fn sums_of(terms: CachedTerms) -> Sums
     ensures { result ≡ sums_of terms }
 {
@@ -80,6 +82,7 @@ pub fn sums_of(terms: CachedTerms) -> Sums
 }
 
 // The words that are kept of an evaluation's sums.
+#[tactic(auto, unfolding(crate::specs::Subjects::terms_of))]
 pub fn terms_of(sums: Sums) -> CachedTerms
     ensures { result ≡ terms_of sums }
 {
@@ -96,6 +99,7 @@ pub fn terms_of(sums: Sums) -> CachedTerms
 
 // ---- the question
 
+#[tactic(auto, unfolding(crate::specs::Subjects::awaiting))]
 fn awaiting(progress: Progress, individual: Pair) -> Progress
     ensures { result ≡ awaiting progress individual }
 {
@@ -107,6 +111,7 @@ fn awaiting(progress: Progress, individual: Pair) -> Progress
 }
 
 // The tally with one evaluation more.
+#[tactic(auto, unfolding(crate::specs::Subjects::counted))]
 fn counted(tally: Tally) -> Tally
     requires { tally.calls.0 < 4294967295 }
     ensures { result ≡ counted tally }
