@@ -13,6 +13,7 @@ use subject::Sums;
 
 // The key of an evaluation with one effect: subject, the bits of theta and eta, and of the override. Omega is
 // not in it, since the kept score does not include the prior.
+#[tactic(auto, unfolding(crate::specs::Subjects::key1))]
 fn key_1d(fit: Fit, subject: usize, eta: Pair) -> CacheKey
     ensures { result ≡ key1 fit subject eta }
 {
@@ -50,6 +51,7 @@ fn key_2d(fit: Fit, subject: usize, eta: Pair) -> CacheKey
 // The key under which the evaluation of a subject at eta is kept, the source's SubjectKey or with two effects
 // CacheKey: subject, the bits of theta and eta, and with one effect of the override. Omega is not in it,
 // since the kept score does not include the prior.
+#[tactic(auto, unfolding(crate::specs::Subjects::key_of, float64::specs::Pick::pick))]
 pub fn key_of(fit: Fit, subject: usize, eta: Pair) -> CacheKey
     ensures { result ≡ key_of fit subject eta }
 {
@@ -124,6 +126,7 @@ fn counted(tally: Tally) -> Tally
 
 // What is done where the wanted point is not kept: 6 where no evaluation is left; else it is counted; then 7
 // where its individual values are refused; else the question for it.
+#[tactic(auto, unfolding(crate::specs::Subjects::ask, crate::specs::Subjects::ask_for, subject::specs::Subject::answer, float64::specs::Pick::pick))]
 pub fn ask(fit: Fit, progress: Progress, tally: Tally, eta: Pair) -> Halted
     ensures { result ≡ ask fit progress tally eta }
 {
