@@ -1,32 +1,24 @@
 -- The ways through the code: one law for each, over plain variables. Assumes nothing.
-use mathlib.Core.Path.{◌≡◌, refl, sym, ap, ◌∙◌}
-use mathlib.Core.Bool.{Bool, true, false}
-use Prim.Native.Nat.{ℕ, ◌≤◌, ◌<◌}
-use borrow.Author.Tests.{lt-ltb, le-ltb, eq-eqb, ne_eqb}
-use lib.Ieee.{Float, lt}
-use Rattle.float64.specs.Pick.{pick, yes, no}
+use mathlib.Core.Path.{◌≡◌, ap, ◌∙◌}
+use borrow.Author.Tests.{eq-eqb, ne_eqb}
+use Rattle.float64.specs.Pick.{yes, no}
 use Rattle.matrix.specs.declared.Pair.{Pair}
-use Rattle.mode.specs.Rules.{request, advance}
+use Rattle.mode.specs.Rules.{advance}
 use Rattle.mode.specs.declared.population_focei.Settings.{Settings}
 use Rattle.mode.specs.declared.population_focei.Conditional.{Conditional}
-use Rattle.mode.specs.declared.population_focei.Stage.{Stage}
 use Rattle.mode.specs.declared.population_focei.Search.{Search}
-use Rattle.mode.specs.declared.population_focei.Request.{Request}
 use Rattle.mode_2d.specs.Rules as R2
 use Rattle.mode_2d.specs.declared.population_focei_2d.Settings2.{Settings2}
 use Rattle.mode_2d.specs.declared.population_focei_2d.Conditional2.{Conditional2}
-use Rattle.mode_2d.specs.declared.population_focei_2d.Stage2.{Stage2}
-use Rattle.mode_2d.specs.declared.population_focei_2d.Stage2.TheVariants.{Trial}
 use Rattle.mode_2d.specs.declared.population_focei_2d.Search2.{Search2}
-use Rattle.mode_2d.specs.declared.population_focei_2d.Request2.{Request2}
 use Rattle.work.specs.declared.Sources.{Sources}
 use Rattle.subject.specs.declared.Sums.{Sums}
 use Rattle.search.specs.declared.Fit.{Fit}
 use Rattle.search.specs.declared.Progress.{Progress}
 use Rattle.search.specs.declared.SubjectSearch.TheVariants.{One, Two}
 use Rattle.search.specs.declared.Wanted.{Wanted}
-use Rattle.search.specs.Subjects.{settings, settings2, one_of, two_of, wants1, wanted1, wants2, wanted2, wanted_by, conditional1, conditional2, sources_at, sources1, current_at, current_source}
-use Rattle.search.specs.Subjects.{is_new_best, population_at, population_source, sources2, with_search, advance1, advance2, advance_by}
+use Rattle.search.specs.Subjects.{settings, settings2, one_of, two_of, wanted1, wanted2, wanted_by, conditional1, conditional2, sources1}
+use Rattle.search.specs.Subjects.{sources2, with_search, advance1, advance2, advance_by}
 
 -- z is what is wanted, x the search
 module _ (fit : Fit) (progress : Progress) {z : Wanted} where
