@@ -128,6 +128,7 @@ pub struct Mode {
 // ---- what the searches of an objective have in common
 
 // The precision and the determinant of an accepted omega; without an inverse all are 0.
+#[tactic(auto, unfolding(crate::specs::Subjects::fit2, crate::specs::Subjects::fit_by, matrix::specs::Matrix::answer))]
 fn fit_2d(setup: Setup, theta: Pair) -> Fit
     ensures { result ≡ fit2 setup theta }
 {
@@ -141,10 +142,10 @@ fn fit_2d(setup: Setup, theta: Pair) -> Fit
     }
 }
 
+#[tactic(auto, unfolding(crate::specs::Subjects::fit_with))]
 fn fit_with(setup: Setup, theta: Pair, precision: [[f64; 2]; 2], det_omega: f64) -> Fit
     ensures { result ≡ fit_with setup theta precision det_omega }
 {
-    let additive_sd = setup.additive_sd;
     Fit {
         effects: setup.effects,
         eta_bound: setup.eta_bound,
@@ -153,13 +154,14 @@ fn fit_with(setup: Setup, theta: Pair, precision: [[f64; 2]; 2], det_omega: f64)
         precision: matrix::matrix_of(precision),
         det_omega,
         theta,
-        additive_sd,
+        additive_sd: setup.additive_sd,
         k: setup.k,
         max_evaluations: setup.max_evaluations,
     }
 }
 
 // What the searches of an objective have in common, by its own setup (`setup::with_parameters`) and theta.
+#[tactic(auto, unfolding(float64::specs::Pick::pick))]
 pub fn fit_of(own: Setup, theta: Pair) -> Fit
     ensures { result ≡ fit_in own theta }
 {
@@ -192,6 +194,7 @@ pub fn two_of(search: SubjectSearch) -> Search2
     }
 }
 
+#[tactic(auto, unfolding(crate::specs::Subjects::first_search, float64::specs::Pick::pick))]
 fn first_search(effects: u32) -> SubjectSearch
     ensures { result ≡ first_search effects }
 {
@@ -203,6 +206,7 @@ fn first_search(effects: u32) -> SubjectSearch
 
 // Where an objective stands as a subject's search begins: `first` is the number of the subject's first
 // observation among all, `warm` its warm start, and the sums are those of the subjects before.
+#[tactic(auto, unfolding(crate::specs::Subjects::begin_subject))]
 pub fn begin_subject(
     effects: u32,
     subject: usize,
@@ -231,15 +235,18 @@ pub fn begin_subject(
 // ---- the answers of a step
 
 // No reply is awaited any more.
+#[tactic(auto, unfolding(crate::specs::Subjects::idle, crate::specs::Subjects::with_search))]
 fn idle(progress: Progress) -> Progress
     ensures { result ≡ idle progress }
 {
-    let mut next = progress;
-    next.awaits = false;
-    next
+    Progress {
+        awaits: false,
+        ..progress
+    }
 }
 
 // The end of a step in a refusal that ends the objective: no reply is awaited any more.
+#[tactic(auto, unfolding(crate::specs::Subjects::refused_by))]
 pub fn refused(progress: Progress, tally: Tally, number: u32, place: Place) -> Halted
     ensures { result ≡ refused_by progress tally number place }
 {
@@ -251,12 +258,9 @@ pub fn refused(progress: Progress, tally: Tally, number: u32, place: Place) -> H
 }
 
 // Whether the answer of a step ends the objective: everything but a question does.
+#[tactic(auto, unfolding(crate::specs::Subjects::is_over))]
 pub fn is_over(step: Step) -> bool
     ensures { result ≡ is_over step }
 {
-    match step {
-        Step::Asked(_, _) => false,
-        Step::Finished(_) => true,
-        Step::Refused(_, _) => true,
-    }
+    !matches!(step, Step::Asked(_, _))
 }

@@ -2,7 +2,8 @@
 // words that are kept and back, and where it is not kept the question for it, with checks 6 and 7. By value;
 // each public function is defined for all values.
 ghost use Rattle.std.specs.Prelude.{◌≡◌, ◌<◌};
-ghost use Rattle.search.specs.Subjects.{key1, key2, key_of, sums_of, terms_of, awaiting, counted, ask};
+ghost use Rattle.search.specs.Subjects.{key1, key2, key_of, sums_of, terms_of, awaiting, counted, ask_for, ask};
+ghost use Rattle.subject.specs.Subject.{answer};
 
 use super::{Calls, Fit, Halted, Place, Progress, Step, Tally};
 use cache::{CacheKey, CachedTerms};
@@ -13,19 +14,15 @@ use subject::Sums;
 
 // The key of an evaluation with one effect: subject, the bits of theta and eta, and of the override. Omega is
 // not in it, since the kept score does not include the prior.
+#[tactic(auto, unfolding(crate::specs::Subjects::key1))]
 fn key_1d(fit: Fit, subject: usize, eta: Pair) -> CacheKey
     ensures { result ≡ key1 fit subject eta }
 {
-    let additive_sd = fit.additive_sd;
-    let mut has_additive = 0;
-    let mut additive = 0;
-    match additive_sd {
-        None => {}
-        Some(sd) => {
-            has_additive = 1;
-            additive = float64::to_word(sd);
-        }
-    }
+    // two words and not an `Option`, since a key is compared and hashed by its words
+    let (has_additive, additive) = match fit.additive_sd {
+        Some(sd) => (1, float64::to_word(sd)),
+        None => (0, 0),
+    };
     CacheKey {
         subject: subject as u64,
         theta0: float64::to_word(fit.theta.first),
@@ -37,16 +34,16 @@ fn key_1d(fit: Fit, subject: usize, eta: Pair) -> CacheKey
     }
 }
 
+#[tactic(auto, unfolding(crate::specs::Subjects::key2))]
 fn key_2d(fit: Fit, subject: usize, eta: Pair) -> CacheKey
     ensures { result ≡ key2 fit subject eta }
 {
-    let eta1 = float64::to_word(eta.second);
     CacheKey {
         subject: subject as u64,
         theta0: float64::to_word(fit.theta.first),
         theta1: float64::to_word(fit.theta.second),
         eta0: float64::to_word(eta.first),
-        eta1,
+        eta1: float64::to_word(eta.second),
         has_additive: 0,
         additive: 0,
     }
@@ -55,6 +52,7 @@ fn key_2d(fit: Fit, subject: usize, eta: Pair) -> CacheKey
 // The key under which the evaluation of a subject at eta is kept, the source's SubjectKey or with two effects
 // CacheKey: subject, the bits of theta and eta, and with one effect of the override. Omega is not in it,
 // since the kept score does not include the prior.
+#[tactic(auto, unfolding(crate::specs::Subjects::key_of, float64::specs::Pick::pick))]
 pub fn key_of(fit: Fit, subject: usize, eta: Pair) -> CacheKey
     ensures { result ≡ key_of fit subject eta }
 {
@@ -64,7 +62,9 @@ pub fn key_of(fit: Fit, subject: usize, eta: Pair) -> CacheKey
     key_1d(fit, subject, eta)
 }
 
-// The sums of a kept evaluation, from its words.
+// The sums of a kept evaluation, from its words. It and `terms_of` are functions and not `From`, since both
+// types are of other crates.
+#[tactic(auto, unfolding(crate::specs::Subjects::sums_of))]
 pub fn sums_of(terms: CachedTerms) -> Sums
     ensures { result ≡ sums_of terms }
 {
@@ -85,6 +85,7 @@ pub fn sums_of(terms: CachedTerms) -> Sums
 }
 
 // The words that are kept of an evaluation's sums.
+#[tactic(auto, unfolding(crate::specs::Subjects::terms_of))]
 pub fn terms_of(sums: Sums) -> CachedTerms
     ensures { result ≡ terms_of sums }
 {
@@ -101,47 +102,53 @@ pub fn terms_of(sums: Sums) -> CachedTerms
 
 // ---- the question
 
+#[tactic(auto, unfolding(crate::specs::Subjects::awaiting))]
 fn awaiting(progress: Progress, individual: Pair) -> Progress
     ensures { result ≡ awaiting progress individual }
 {
-    let mut next = progress;
-    next.awaits = true;
-    next.individual = individual;
-    next
+    Progress {
+        awaits: true,
+        individual,
+        ..progress
+    }
 }
 
 // The tally with one evaluation more.
+#[tactic(auto, unfolding(crate::specs::Subjects::counted))]
 fn counted(tally: Tally) -> Tally
     requires { tally.calls.0 < 4294967295 }
     ensures { result ≡ counted tally }
 {
-    let cached_rows = tally.cached_rows;
     Tally {
         calls: Calls(tally.calls.0 + 1),
-        cached_rows,
+        ..tally
     }
 }
 
-// What is done where the wanted point is not kept: 6 where no evaluation is left; else it is counted; then 7
-// where its individual values are refused; else the question for it.
+// Of an evaluation that is counted: 7 where its individual values are refused, else the question for it.
+#[tactic(auto, unfolding(crate::specs::Subjects::ask_for, subject::specs::Subject::answer))]
+fn ask_for(progress: Progress, tally: Tally, eta: Pair, values: Option<Pair>) -> Halted
+    ensures { result ≡ ask_for progress tally eta (answer values) }
+{
+    match values {
+        Some(individual) => Halted {
+            progress: awaiting(progress, individual),
+            tally,
+            step: Step::Asked(eta, individual),
+        },
+        None => super::refused(progress, tally, 7, Place::Subject(progress.subject)),
+    }
+}
+
+// What is done where the wanted point is not kept: 6 where no evaluation is left; else it is counted, and
+// asked for.
+#[tactic(auto, unfolding(crate::specs::Subjects::ask, float64::specs::Pick::pick))]
 pub fn ask(fit: Fit, progress: Progress, tally: Tally, eta: Pair) -> Halted
     ensures { result ≡ ask fit progress tally eta }
 {
-    let subject = Place::Subject(progress.subject);
     if tally.calls.0 < fit.max_evaluations {
-        let raised = counted(tally);
-        match subject::individual_values(fit.theta, eta, fit.effects) {
-            Some(individual) => {
-                return Halted {
-                    progress: awaiting(progress, individual),
-                    tally: raised,
-                    step: Step::Asked(eta, individual),
-                };
-            }
-            None => {
-                return super::refused(progress, raised, 7, subject);
-            }
-        }
+        let values = subject::individual_values(fit.theta, eta, fit.effects);
+        return ask_for(progress, counted(tally), eta, values);
     }
-    super::refused(progress, tally, 6, subject)
+    super::refused(progress, tally, 6, Place::Subject(progress.subject))
 }
