@@ -10,7 +10,7 @@
 
 ghost use Rattle.std.specs.Prelude.{◌≡◌, ◌+◌, ◌≤◌, ◌<◌, length};
 ghost use Rattle.state_words.specs.SessionWords.{state_size, additive_at, order_at, parameters_at, progress_at, state_at};
-ghost use Rattle.state_words.specs.SessionWords.{with_search, loaded_state, answer, flag, objective_words, progress_words, order_words};
+ghost use Rattle.state_words.specs.SessionWords.{with_search, loaded_state, answer, objective_words, progress_words, order_words};
 ghost use Rattle.state_words.specs.SessionWords.{search_words, put_from, saved_state};
 ghost use Rattle.state_words.specs.SearchWords2.{pair_at};
 
@@ -127,13 +127,7 @@ fn with_search(words: &[u64]) -> Option<State>
 pub fn load(words: &[u64]) -> Option<State>
     ensures { answer result ≡ loaded_state words.now }
 {
-    if words.len() < STATE_WORDS {
-        return None;
-    }
-    if words[0] > 1 {
-        return None;
-    }
-    if words[4] > 1 {
+    if words.len() < STATE_WORDS || words[0] > 1 || words[4] > 1 {
         return None;
     }
     with_search(words)
@@ -221,10 +215,9 @@ fn put_search(search: SubjectSearch, words: &mut [u64])
     match search {
         SubjectSearch::One(x) => {
             let own = one_effect::save(x);
-            let none = [0, 0, 0, 0, 0];
             words::put(words, 18, 1);
             put_from(19, &own, words);
-            put_from(39, &none, words);
+            put_from(39, &[0; 5], words);
         }
         SubjectSearch::Two(x) => {
             let own = two_effects::save(x);

@@ -110,6 +110,7 @@ pub fn save(x: Search) -> [u64; 20]
     let left = words_of(x.left);
     let right = words_of(x.right);
     let best = words_of(x.best);
+    // each word by its place, since there is no joining of arrays without a buffer to copy into
     [
         stage, count, first, latest[0], latest[1], latest[2], latest[3], fall, left[0], left[1],
         left[2], left[3], right[0], right[1], right[2], right[3], best[0], best[1], best[2],

@@ -121,6 +121,7 @@ pub fn save(x: Search2) -> [u64; 25]
     let second = float64::to_word(x.trial.second);
     let decrease = float64::to_word(x.decrease);
     let best = words_of(x.best);
+    // each word by its place, since there is no joining of arrays without a buffer to copy into
     [
         stage,
         u64::from(x.seed),
