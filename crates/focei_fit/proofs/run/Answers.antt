@@ -20,5 +20,5 @@ pub returns : goal.returns
 returns c =
     let a = c.args in
     plays a.input.now a.counts.now a.observations.now (held_of a.state a.tally a.cache.now a.work.now a.warm.now a.results.now)
-    c.settings-setup.ensures c.first_parameters-parameters.ensures
+    c.settings.ensures c.first_parameters.ensures
     c.objective-first.ensures c.play.ensures

@@ -9,6 +9,3 @@ use Rattle.focei_records.proofs.counts.Given as goal
 abbrev pub invariant-loop-subject : goal.invariant-loop-subject
 invariant-loop-subject l = (write (counts_from (l.subjects - l.subject) l.input l.subject) (written l.end l.out) ≡ write (counts_from l.subjects l.input 0) (written 0 l.initial.out)) ×
     (length l.out ≡ length l.initial.out)
-
-abbrev pub decreases-loop-subject : goal.decreases-loop-subject
-decreases-loop-subject l = l.subjects - l.subject

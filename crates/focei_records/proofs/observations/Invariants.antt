@@ -9,6 +9,3 @@ use Rattle.focei_records.proofs.observations.Given as goal
 abbrev pub invariant-loop-i : goal.invariant-loop-i
 invariant-loop-i l = (write (observations_from (l.records - l.i) l.input l.i) (written l.end l.out) ≡ write (observations_from l.records l.input 0) (written 0 l.initial.out)) ×
     (length l.out ≡ length l.initial.out)
-
-abbrev pub decreases-loop-i : goal.decreases-loop-i
-decreases-loop-i l = l.records - l.i

@@ -9,6 +9,3 @@ use Rattle.focei_text.proofs.subject_lines.Given as goal
 abbrev pub invariant-loop-subject : goal.invariant-loop-subject
 invariant-loop-subject l = (write (subject_lines (l.subjects - l.subject) l.subject l.results) (written l.end l.out) ≡ write (subject_lines l.subjects 0 l.results)
     (written l.at l.initial.out)) × (length l.out ≡ length l.initial.out)
-
-abbrev pub decreases-loop-subject : goal.decreases-loop-subject
-decreases-loop-subject l = l.subjects - l.subject
