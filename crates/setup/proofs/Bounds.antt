@@ -1,5 +1,5 @@
 -- The bounds that a passed check gives, for what is computed after it. Assumes nothing.
-use Rattle.std.specs.Prelude.{None, Option}
+use Rattle.std.specs.Prelude.{None, Option, Some}
 use mathlib.Core.Path.{◌≡◌, sym, subst, ◌∙◌}
 use mathlib.Core.Bool.{Bool, true, false}
 use mathlib.Core.List.{List, [], ◌∷◌}
@@ -19,20 +19,19 @@ not_first {X} {x} {z} b y d =
     cases (λ (v : X). v ≡ z → (b ≡ false) × (y ≡ z)) b (λ p e. absurd (d e)) (λ p e. (p, e))
 
 -- ---- the counts
-never_within : {t l : ℕ} → None ≡ within t l → ⊥
+never_within : {n : Counts} → None ≡ Some n → ⊥
 never_within e = let z : ◌≡◌ {A = ℕ} 0 1 = cc in omega arith
 
-counted : (counts : List ℕ) (total largest : ℕ) {t l : ℕ} → total ≤ 100000 → largest ≤ 100000 → count_from total largest counts ≡ within t l → (t ≤ 100000) × (l ≤ 100000)
+counted : (counts : List ℕ) (total largest : ℕ) {n : Counts} → total ≤ 100000 → largest ≤ 100000 → count_from total largest counts ≡ Some n → (n.total ≤ 100000) × (n.largest ≤ 100000)
 unfolding count_from
-counted [] total largest {t} {l} h j e =
-    let p : total ≡ t = cc in
-    let q : largest ≡ l = cc in
-    (omega arith, omega arith)
+counted [] total largest {n} h j e =
+    let q : record { total = total; largest = largest } ≡ n = cc in
+    subst (λ (m : Counts). (m.total ≤ 100000) × (m.largest ≤ 100000)) q (h, j)
 counted (count ∷ rest) total largest h j e =
     let some = not_first (eqb count 0) _ never_within e in
     let few = not_first (ltb (100000 - total) count) _ never_within some.1 in
     let m : count ≤ 100000 - total = ltb-false _ _ few.0 in
-    counted rest (total + count) (larger largest count) (omega arith) (both (λ (x : ℕ). x ≤ 100000) (ltb largest count) (let n : count ≤ 100000 = omega arith in n) j) few.1
+    counted rest (total + count) (larger largest count) (omega arith) (both (λ (x : ℕ). x ≤ 100000) (ltb largest count) (let c : count ≤ 100000 = omega arith in c) j) few.1
 
 pub counts_low : {r : Option Counts} {t l : ℕ} (counts : List ℕ) → r ≡ count_observations counts → r ≡ within t l → (t ≤ 100000) × (l ≤ 100000)
 unfolding count_observations

@@ -241,7 +241,7 @@ module _ (s : Setup) (subjects total largest : ℕ) (lent : Lent) (check : Check
         unfolding roomy
         fails_5 v = shaped g (yes_of _ h v refl)
 
-        pub passes : r ≡ false → (Ok tt) ≡ admitted s subjects total largest lent check
+        pub passes : r ≡ false → Ok tt ≡ admitted s subjects total largest lent check
         unfolding roomy
         passes v = shaped g (no_of _ h v refl)
 

@@ -1,6 +1,7 @@
 -- The ways through the code: one law for each, over plain variables. Assumes nothing.
-use Rattle.std.specs.Prelude.{Err, None, Ok, Some}
+use Rattle.std.specs.Prelude.{Err, None, Ok, Result, Some, IsErrAnd}
 use Rattle.std.proofs.Common.{◌≡◌, ℕ, ◌+◌, ◌*◌, ◌/◌, ◌%◌, ◌<◌, ◌≤◌, Bool, true, false, ltb, List, length, sym, refl, ap, ◌∙◌, subst, le_trans, mul-le-mul, mul-le-mul_left, div-mul-le_self, arith, le-ltb, lt-ltb, eq-eqb, ne_eqb}
+use Rattle.std.proofs.lemmas.Result.{err_from_is_err_and}
 use lib.Ieee.{Float}
 use Rattle.float64.specs.Answer.{given}
 use Rattle.float64.specs.Arithmetic.{word}
@@ -9,7 +10,12 @@ use Rattle.matrix.specs.declared.Pair.{Pair}
 use Rattle.subject.specs.declared.Sums.{Sums}
 use Rattle.subject.specs.Reply.{output_values, row_length, rows}
 use Rattle.subject.specs.Subject.{answer, individual, is_no_individual, individual_values, no_sums, begin, has_nonfinite_sum, finish, Evaluation}
-use Rattle.subject.specs.declared.EvaluationError.TheVariants.{Refused, RefusedAt}
+use Rattle.subject.specs.declared.EvaluationError.{EvaluationError}
+use Rattle.subject.specs.declared.EvaluationError.TheVariants.{Refused}
+
+-- what the exit of a `?` returns
+pub passed_on : {T E : Type 0} {x : E} (r : Result T E) → IsErrAnd r (λ e. e ≡ x) → r ≡ Err x
+passed_on r h = let p = err_from_is_err_and r h in p.1 ∙ ap Err p.2
 
 -- ---- individual values; x and y are the first and the second, b and d what `is_no_individual` answered of them
 module _ (theta eta : Pair) (effects : ℕ) {x : Float} {b : Bool} (ex : x ≡ individual theta.first eta.first) (eb : b ≡ is_no_individual x) where
@@ -76,10 +82,6 @@ module _ {x : Evaluation} where
     unfolding finish
     sums_stand u = no_of _ e u refl ∙ ap finish (sym t)
 
-  pub ends_refused : {number : ℕ} → x ≡ Err (Refused number) → Err (Refused number) ≡ finish x
+  pub ends_refused : {error : EvaluationError} → x ≡ Err error → Err error ≡ finish x
   unfolding finish
   ends_refused t = ap finish (sym t)
-
-  pub ends_refused_at : {number n : ℕ} → x ≡ Err (RefusedAt number n) → Err (RefusedAt number n) ≡ finish x
-  unfolding finish
-  ends_refused_at t = ap finish (sym t)

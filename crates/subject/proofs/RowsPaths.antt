@@ -1,5 +1,5 @@
 -- The ways through the code: one law for each, over plain variables. Assumes nothing.
-use Rattle.std.specs.Prelude.{Err, None, Ok, Option, Some}
+use Rattle.std.specs.Prelude.{Err, None, Ok, Option, Some, unwrap_or, ok_or}
 use Rattle.std.proofs.Common.{◌≡◌, ℕ, ◌+◌, ◌*◌, ◌/◌, ◌<◌, ◌≤◌, ltb, List, length, get_or, set, sym, refl, ap, ◌∙◌, subst, le_trans, mul-le-mul_right, mul-le-mul_left, div-mul-le_self, arith, ltb-true, le-ltb, lt-ltb, eq-eqb, ne_eqb}
 use lib.Seq.{set_out}
 use lib.Ieee.{Float}
@@ -13,7 +13,8 @@ use Rattle.subject.specs.declared.Sums.{Sums}
 use Rattle.subject.specs.declared.PredictionRow.{PredictionRow}
 use Rattle.subject.specs.Reply.{row_length, rows, row_at, column, side, prediction_row, written}
 use Rattle.subject.specs.Subject.{additive_of, add_row, add_row2, f_eta, add_row_at, Evaluating, evaluating, add_at, add_to, add_after, add_observation, Evaluation}
-use Rattle.subject.specs.declared.EvaluationError.TheVariants.{Refused, RefusedAt}
+use Rattle.subject.specs.declared.EvaluationError.{EvaluationError}
+use Rattle.subject.specs.declared.EvaluationError.TheVariants.{RefusedAt}
 
 -- ---- the words of a reply
 -- within a row, no block begins further on than the second effect's
@@ -86,6 +87,12 @@ module _ (block observation : ℕ) (row : PredictionRow) (work : List ℕ) where
       let at = block + row_words * observation in
       e3 ∙ ap (λ (w : List ℕ). set w (at + 2) row.side) (e2 ∙ ap (λ (w : List ℕ). set w (at + 1) row.time) e1)
 
+-- the additive deviation of a row: the one that overrides all, or the observation's own
+pub own_or : (additive_sd : Option Float) (observation : Observation) → unwrap_or additive_sd observation.additive ≡ additive_of additive_sd observation
+unfolding additive_of
+own_or None observation = refl
+own_or (Some additive) observation = refl
+
 -- ---- the row at `at`; w is the prediction's word, f the prediction, g and g2 its derivatives by the first and the second eta
 module _ (sums : Sums) (observation : Observation) (trial : Trial) (reply : List ℕ) (at : ℕ) {w : ℕ} {f g : Float} (ew : w ≡ column reply at trial.width 0 observation.output) (ef : f ≡ word w)
     (eg : g ≡ f_eta reply at trial.width 1 observation.output trial.individual.first) where
@@ -102,6 +109,11 @@ module _ (sums : Sums) (observation : Observation) (trial : Trial) (reply : List
   unfolding add_row_at
   two_effects h e2 q = yes _ (eq-eqb _ _ h) (q ∙ (λ i. add_row2 sums observation (prediction_is i) (pair (eg i) (e2 i))))
 
+-- what `ok_or` makes an error of
+missing_of : {T E : Type 0} (o : Option T) {d e : E} → ok_or o d ≡ Err e → (o ≡ None) × (d ≡ e)
+missing_of None w = (refl, cc)
+missing_of (Some x) w = absurd (let z : ◌≡◌ {A = ℕ} 0 1 = cc in omega arith)
+
 -- ---- an observation, where the sums so far are given; r is what `row_at` answered, w the words afterwards
 module _ (sums : Sums) (observation : Observation) (trial : Trial) (reply work : List ℕ) {r : Option ℕ} (e : r ≡ row_at reply trial.width trial.effects observation.output observation.row)
   where
@@ -109,9 +121,9 @@ module _ (sums : Sums) (observation : Observation) (trial : Trial) (reply work :
     unfolding add_to
     looked_up t q = q ∙ ap (add_at sums observation trial reply work) (sym t ∙ e)
 
-    pub row_missing : r ≡ None → evaluating (Err (RefusedAt 10 sums.observation)) work ≡ add_to sums observation trial reply work
+    pub row_missing : {error : EvaluationError} → ok_or r (RefusedAt 10 sums.observation) ≡ Err error → evaluating (Err error) work ≡ add_to sums observation trial reply work
     unfolding add_at
-    row_missing t = looked_up t refl
+    row_missing w = let m = missing_of r w in ap (λ (x : EvaluationError). evaluating (Err x) work) (sym m.1) ∙ looked_up m.0 refl
 
     pub row_taken : {at : ℕ} {row : PredictionRow} {w : List ℕ} {z : Evaluation} → r ≡ Some at → row ≡ prediction_row reply at trial.width observation.output → w ≡ written trial.block
         sums.observation row work → z ≡ add_row_at sums observation trial reply at → evaluating z w ≡ add_to sums observation trial reply work
@@ -128,10 +140,6 @@ module _ (trial : Trial) (reply : List ℕ) (observation : Observation) {x : Eva
   unfolding add_after
   after_running t q = came t q
 
-  pub after_refused : {number : ℕ} → x ≡ Err (Refused number) → evaluating (Err (Refused number)) work ≡ add_observation trial reply observation (evaluating x work)
+  pub after_refused : {error : EvaluationError} → x ≡ Err error → evaluating (Err error) work ≡ add_observation trial reply observation (evaluating x work)
   unfolding add_after
   after_refused t = came t refl
-
-  pub after_refused_at : {number n : ℕ} → x ≡ Err (RefusedAt number n) → evaluating (Err (RefusedAt number n)) work ≡ add_observation trial reply observation (evaluating x work)
-  unfolding add_after
-  after_refused_at t = came t refl

@@ -1,9 +1,9 @@
 -- What the definitions make of one observation more, in the form in which the code of `rows` and `observations` needs it. Assumes nothing.
-use Rattle.std.specs.Prelude.{Err, Float, Ok, Result}
+use Rattle.std.specs.Prelude.{Err, Ok, Result}
 use Rattle.std.proofs.Common.{◌≡◌, ℕ, zero, suc, ◌<◌, List, [], ◌∷◌, length, get_or, take, sym, refl, ap, ◌∙◌, le_of_suc-le-suc, not-suc-le-zero}
 use lib.Ieee.{Float}
 use Rattle.float64.specs.Answer.{Answer, through}
-use Rattle.likelihood.specs.RowTerms.{row_terms, answer as answerRow}
+use Rattle.likelihood.specs.RowTerms.{row_terms, number, answer as answerRow}
 use Rattle.likelihood.specs.Row2.{row_variance, scaled_row, answer as answerRow2}
 use Rattle.likelihood.specs.declared.population_focei.Observation.{Observation}
 use Rattle.likelihood.specs.declared.population_focei.RowTerms.{RowTerms}
@@ -13,7 +13,6 @@ use Rattle.subject.specs.declared.Sums.{Sums}
 use Rattle.subject.specs.Subject.{at_observation, with_terms, add_row, with_row, add_row2, Evaluating, add_observation, add_observations, Evaluation}
 use Rattle.subject.specs.Observations.{no_observation, check_observations, check_observation, Check}
 use Rattle.likelihood.specs.declared.population_focei.RowError.{RowError}
-use Rattle.likelihood.specs.declared.population_focei.RowError.TheVariants.{InvalidVariance, Overflow}
 use Rattle.subject.specs.declared.EvaluationError.TheVariants.{RefusedAt}
 
 -- ---- one effect; r is what `row_terms` answered, z the sums afterwards
@@ -26,13 +25,9 @@ module _ (sums : Sums) (observation : Observation) (prediction f-eta additive : 
   unfolding answerRow through at_observation
   terms_added t q = added t (ap Ok q)
 
-  pub no_variance : r ≡ (Err InvalidVariance) → Err (RefusedAt 11 sums.observation) ≡ add_row sums observation prediction f-eta additive
+  pub row_refused : {error : RowError} {n : ℕ} → r ≡ Err error → n ≡ number error → Err (RefusedAt n sums.observation) ≡ add_row sums observation prediction f-eta additive
   unfolding answerRow through at_observation
-  no_variance t = added t refl
-
-  pub overflows : r ≡ (Err Overflow) → Err (RefusedAt 12 sums.observation) ≡ add_row sums observation prediction f-eta additive
-  unfolding answerRow through at_observation
-  overflows t = added t refl
+  row_refused t q = added t (λ i. Err (RefusedAt (q i) sums.observation))
 
 -- ---- two effects; r is what `row_variance` answered, row the scaled row, z the sums afterwards
 module _ (sums : Sums) (observation : Observation) (prediction : Float) (f-eta : List Float) {r : Result Float RowError} (e : answerRow2 r ≡ row_variance observation prediction f-eta) where
@@ -46,9 +41,9 @@ module _ (sums : Sums) (observation : Observation) (prediction : Float) (f-eta :
   unfolding answerRow2 through at_observation
   row_added t p q = added2 t (ap Ok (q ∙ ap (λ (x : Row2). with_row sums x f-eta) p))
 
-  pub no_variance2 : r ≡ (Err InvalidVariance) → Err (RefusedAt 11 sums.observation) ≡ add_row2 sums observation prediction f-eta
+  pub row_refused2 : {error : RowError} {n : ℕ} → r ≡ Err error → n ≡ number error → Err (RefusedAt n sums.observation) ≡ add_row2 sums observation prediction f-eta
   unfolding answerRow2 through at_observation
-  no_variance2 t = added2 t refl
+  row_refused2 t q = added2 t (λ i. Err (RefusedAt (q i) sums.observation))
 
 -- ---- the observations one after the other: those before number k, then number k
 pub one_added : (trial : Trial) (reply : List ℕ) (os : List Observation) (x : Evaluating) (k : ℕ) → k < length os → add_observations trial reply (take (suc k) os) x ≡ add_observation trial reply

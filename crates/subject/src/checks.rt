@@ -87,8 +87,6 @@ pub fn check_observation(
 ) -> Check
     ensures { result ≡ check_observation width counts.now observation check }
 {
-    match check {
-        Ok(place) => check_at(place, observation, width, counts),
-        Err(place) => Err(place),
-    }
+    let place = check?;
+    check_at(place, observation, width, counts)
 }

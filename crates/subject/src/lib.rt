@@ -79,10 +79,7 @@ pub type Check = Result<Position, Position>;
 pub fn additive_sd(has_additive: bool, additive: f64) -> Option<f64>
     ensures { result ≡ additive_sd has_additive additive }
 {
-    if has_additive {
-        return Some(additive);
-    }
-    None
+    has_additive.then_some(additive)
 }
 
 // ---- individual values
@@ -188,13 +185,9 @@ fn has_nonfinite_sum(sums: Sums) -> bool
 pub fn finish(evaluation: Evaluation) -> Evaluation
     ensures { result ≡ finish evaluation }
 {
-    match evaluation {
-        Ok(sums) => {
-            if has_nonfinite_sum(sums) {
-                return Err(EvaluationError::Refused(12));
-            }
-            Ok(sums)
-        }
-        Err(error) => Err(error),
+    let sums = evaluation?;
+    if has_nonfinite_sum(sums) {
+        return Err(EvaluationError::Refused(12));
     }
+    Ok(sums)
 }

@@ -2,12 +2,12 @@
 // it is written, and its terms are added (11, 12). No other module reads the simulator's words.
 ghost use Rattle.std.specs.Prelude.{◌≡◌, ◌<◌, ◌≤◌, length};
 ghost use Rattle.subject.specs.Reply.{row_at, column, prediction_row, written};
-ghost use Rattle.subject.specs.Subject.{additive_of, with_terms, add_row, with_row, add_row2, f_eta, add_row_at, evaluating, add_to};
+ghost use Rattle.subject.specs.Subject.{with_terms, add_row, with_row, add_row2, f_eta, add_row_at, evaluating, add_to};
 ghost use Rattle.subject.specs.Subject.{add_observation};
 
 use super::{Evaluation, EvaluationError, PredictionRow, Sums, Trial};
 use cache::ROW_WORDS;
-use likelihood::population_focei::{Observation, RowError, RowTerms};
+use likelihood::population_focei::{Observation, RowTerms};
 use likelihood::population_focei_2d::Row2;
 use matrix::{Matrix, Pair};
 
@@ -77,15 +77,6 @@ fn write_row(work: &mut [u64], block: usize, observation: usize, row: Prediction
 
 // ---- the sums
 
-fn additive_of(additive_sd: Option<f64>, observation: Observation) -> f64
-    ensures { result ≡ additive_of additive_sd observation }
-{
-    match additive_sd {
-        None => observation.additive,
-        Some(additive) => additive,
-    }
-}
-
 // One effect: the row's terms are added.
 fn add_row(
     sums: Sums,
@@ -96,6 +87,7 @@ fn add_row(
 ) -> Evaluation
     ensures { result ≡ add_row sums observation prediction f_eta additive }
 {
+    // by a match, here and below, since the closure of a `map_err` would need a contract of its own
     match likelihood::population_focei::row_terms(observation, prediction, f_eta, additive) {
         Ok(terms) => Ok(with_terms(sums, terms)),
         Err(error) => Err(EvaluationError::RefusedAt(error.number(), sums.observation)),
@@ -109,13 +101,11 @@ fn with_terms(sums: Sums, terms: RowTerms) -> Sums
         nll: sums.nll + terms.nll,
         score: Pair {
             first: sums.score.first + terms.score,
-            second: sums.score.second,
+            ..sums.score
         },
         information: Matrix {
             m00: sums.information.m00 + terms.information,
-            m01: sums.information.m01,
-            m10: sums.information.m10,
-            m11: sums.information.m11,
+            ..sums.information
         },
         observation: std::num::wrapping_add_usize(sums.observation, 1),
     }
@@ -190,14 +180,8 @@ fn add_row_at(
     let prediction = float64::from_word(column(reply, at, trial.width, 0, output));
     let first = f_eta(reply, at, trial.width, 1, output, trial.individual.first);
     if trial.effects != 2 {
-        let additive_sd = trial.additive_sd;
-        return add_row(
-            sums,
-            observation,
-            prediction,
-            first,
-            additive_of(additive_sd, observation),
-        );
+        let additive = trial.additive_sd.unwrap_or(observation.additive);
+        return add_row(sums, observation, prediction, first, additive);
     }
     let second = f_eta(reply, at, trial.width, 2, output, trial.individual.second);
     add_row_2d(sums, observation, prediction, [first, second])
@@ -212,20 +196,12 @@ fn add_to(
 ) -> Evaluation
     ensures { evaluating result work.new ≡ add_to sums observation trial reply.now work.old }
 {
-    match row_at(
-        reply,
-        trial.width,
-        trial.effects,
-        observation.output,
-        observation.row,
-    ) {
-        Some(at) => {
-            let row = prediction_row(reply, at, trial.width, observation.output);
-            write_row(work, trial.block, sums.observation, row);
-            add_row_at(sums, observation, trial, reply, at)
-        }
-        None => Err(EvaluationError::RefusedAt(10, sums.observation)),
-    }
+    let output = observation.output;
+    let missing = EvaluationError::RefusedAt(10, sums.observation);
+    let at = row_at(reply, trial.width, trial.effects, output, observation.row).ok_or(missing)?;
+    let row = prediction_row(reply, at, trial.width, output);
+    write_row(work, trial.block, sums.observation, row);
+    add_row_at(sums, observation, trial, reply, at)
 }
 
 // An evaluation with one observation more, a turn of the loop in the source's `subject`: its row's
@@ -241,8 +217,6 @@ pub fn add_observation(
     ensures { evaluating result work.new
         ≡ add_observation trial reply.now observation (evaluating evaluation work.old) }
 {
-    match evaluation {
-        Ok(sums) => add_to(sums, observation, trial, reply, work),
-        Err(error) => Err(error),
-    }
+    let sums = evaluation?;
+    add_to(sums, observation, trial, reply, work)
 }

@@ -1,13 +1,14 @@
 -- `additive_sd` meets its contract: a test. Assumes nothing.
-use Rattle.std.proofs.Common.{refl}
-use Rattle.float64.specs.Pick.{yes, no}
+use Rattle.std.specs.Bool.{then_some}
+use Rattle.std.proofs.Common.{◌≡◌, Bool, true, false, Float, refl, ◌∙◌}
+use Rattle.float64.specs.Pick.{pick}
 use Rattle.subject.specs.Subject.{additive_sd}
 use Rattle.subject.proofs.additive_sd.Goals as goal
 
-pub returns-then-has_additive : goal.returns-then-has_additive
-unfolding additive_sd
-returns-then-has_additive c = yes _ c.if-has_additive.true refl
+where_given : (has : Bool) (additive : Float) → then_some has additive ≡ additive_sd has additive
+unfolding additive_sd pick
+where_given true additive = refl
+where_given false additive = refl
 
 pub returns : goal.returns
-unfolding additive_sd
-returns c = no _ c.if-has_additive.false refl
+returns c = c.then_some.ensures ∙ where_given _ _

@@ -1,15 +1,13 @@
 -- `finish` meets its contract: each exit by its law. Assumes nothing.
-use Rattle.subject.proofs.Paths.{sum_overflows, sums_stand, ends_refused, ends_refused_at}
+use Rattle.std.proofs.Common.{◌∙◌}
+use Rattle.subject.proofs.Paths.{passed_on, sum_overflows, sums_stand, ends_refused}
 use Rattle.subject.proofs.finish.Goals as goal
 
+pub returns-in_err-sums : goal.returns-in_err-sums
+returns-in_err-sums c = passed_on _ c.from_residual.ensures.1 ∙ ends_refused c.in_err-sums.was
+
 pub returns-then-has_nonfinite_sum : goal.returns-then-has_nonfinite_sum
-returns-then-has_nonfinite_sum c = sum_overflows c.in-Ok.is c.has_nonfinite_sum.ensures c.if-has_nonfinite_sum.true
+returns-then-has_nonfinite_sum c = sum_overflows c.in_ok-sums.was c.has_nonfinite_sum.ensures c.if-has_nonfinite_sum.true
 
-pub returns-else-has_nonfinite_sum : goal.returns-else-has_nonfinite_sum
-returns-else-has_nonfinite_sum c = sums_stand c.in-Ok.is c.has_nonfinite_sum.ensures c.if-has_nonfinite_sum.false
-
-pub returns-in-Err-Refused : goal.returns-in-Err-Refused
-returns-in-Err-Refused c = ends_refused c.in-Err-Refused.is
-
-pub returns-in-Err-RefusedAt : goal.returns-in-Err-RefusedAt
-returns-in-Err-RefusedAt c = ends_refused_at c.in-Err-RefusedAt.is
+pub returns : goal.returns
+returns c = sums_stand c.in_ok-sums.was c.has_nonfinite_sum.ensures c.if-has_nonfinite_sum.false

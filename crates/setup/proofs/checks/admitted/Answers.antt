@@ -17,8 +17,8 @@ returns-then-is_short c =
     fails_5 _ _ _ _ _ _ c.is_no_omega.ensures c.if-is_no_omega.false c.is_no_shape.ensures c.if-is_no_shape.false c.in-Ok.is
     c.is_short.ensures c.if-is_short.true
 
-pub returns-in-Err-Unsound : goal.returns-in-Err-Unsound
-returns-in-Err-Unsound c = fails_4 _ _ _ _ _ _ c.is_no_omega.ensures c.if-is_no_omega.false c.is_no_shape.ensures c.if-is_no_shape.false c.in-Err-Unsound.is
+pub returns-in-Err : goal.returns-in-Err
+returns-in-Err c = fails_4 _ _ _ _ _ _ c.is_no_omega.ensures c.if-is_no_omega.false c.is_no_shape.ensures c.if-is_no_shape.false c.in-Err.is
 
 pub returns-else-is_short : goal.returns-else-is_short
 returns-else-is_short c =

@@ -1,10 +1,11 @@
 -- `add_row_at` meets its contract: each exit by its law. Assumes nothing.
-use Rattle.subject.proofs.RowsPaths.{one_effect, two_effects}
+use Rattle.std.proofs.Common.{◌∙◌}
+use Rattle.subject.proofs.RowsPaths.{own_or, one_effect, two_effects}
 use Rattle.subject.proofs.rows.add_row_at.Goals as goal
 
 pub returns-then-trial-ne2 : goal.returns-then-trial-ne2
 returns-then-trial-ne2 c =
-    one_effect _ _ _ _ _ c.column.ensures c.from_word-prediction.ensures c.f_eta-first.ensures c.if-trial-ne2.true c.additive_of.ensures
+    one_effect _ _ _ _ _ c.column.ensures c.from_word-prediction.ensures c.f_eta-first.ensures c.if-trial-ne2.true (c.unwrap_or-additive.ensures ∙ own_or _ _)
     c.add_row.ensures
 
 pub returns : goal.returns
