@@ -89,7 +89,7 @@ begun_own fit effects subject first start ofv squares e =
 module _ (fit : Fit) (counts : List ℕ) (progress : Progress) (tally : Tally) (work warm results : List ℕ) where
   Begins : Turned → Type 0
   Begins (Continue p) = p ≡ own fit p
-  Begins (Break h) = Break h ≡ Break h
+  Begins (Break h) = h ≡ h
 
   next_begins : (mode : Mode) (rows : ℕ) (stored : List ℕ) → Begins (next_subject fit counts progress tally mode rows stored work).value
   unfolding Begins next_subject
