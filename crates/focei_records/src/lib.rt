@@ -17,20 +17,12 @@ pub const MOST_RECORDS: usize = 256;
 
 // ---- a record's fields
 
-fn wide(byte: u8) -> u64
-    ensures { (result ≡ byte) × (result < 256) }
-{
-    byte as u64
-}
-
 // 32 bits from a byte on.
-fn half_at(input: &[u8], at: usize) -> u64
+fn half_at(input: &[u8], at: usize) -> u32
     requires { at + 4 ≤ length input.now }
-    ensures { (result ≡ half_at input.now at) × (result < 4294967296) }
+    ensures { result ≡ half_at input.now at }
 {
-    let low = wide(input[at]) + 256 * wide(input[at + 1]);
-    let high = wide(input[at + 2]) + 256 * wide(input[at + 3]);
-    low + 65536 * high
+    u32::from_le_bytes([input[at], input[at + 1], input[at + 2], input[at + 3]])
 }
 
 // 64 bits from a byte on.
@@ -38,7 +30,7 @@ fn word_at(input: &[u8], at: usize) -> u64
     requires { at + 8 ≤ length input.now }
     ensures { result ≡ word_at input.now at }
 {
-    half_at(input, at) + 4294967296 * half_at(input, at + 4)
+    u64::from(half_at(input, at)) + 4294967296 * u64::from(half_at(input, at + 4))
 }
 
 fn subject_at(input: &[u8], i: usize) -> usize
@@ -48,7 +40,7 @@ fn subject_at(input: &[u8], i: usize) -> usize
     half_at(input, RECORD_BYTES * i) as usize
 }
 
-fn reserved_at(input: &[u8], i: usize) -> u64
+fn reserved_at(input: &[u8], i: usize) -> u32
     requires { i < length input.now / 48 }
     ensures { result ≡ reserved_at input.now i }
 {
