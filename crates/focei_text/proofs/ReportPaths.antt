@@ -2,6 +2,7 @@
 use mathlib.Core.Path.{◌≡◌, refl, sym, ap, subst, ◌∙◌}
 use mathlib.Core.Bool.{Bool, true, false}
 use mathlib.Core.List.{List, [], ◌∷◌, ◌++◌}
+use mathlib.Core.Logic.{◌⊎◌, inl, inr}
 use Prim.Native.Nat.{ℕ, zero, suc, ◌+◌, ◌-◌, ◌*◌, ◌≤◌, ◌<◌}
 use native.Mathlib.Omega.{arith}
 use borrow.Author.Tests.{ltb-true, ltb-false}
@@ -134,7 +135,7 @@ module _ (counts : List ℕ) where
   unfolding subjects_of
   at_most e =
       let least : min (length counts) 4096 ≡ pick (ltb (length counts) most_subjects) (length counts) most_subjects
-          = cases (λ (k : ℕ). min (length counts) 4096 ≡ k) (ltb (length counts) most_subjects) (λ q. omega (arith, ltb-true)) (λ q. omega (arith, ltb-false)) in
+      = cases (λ (k : ℕ). min (length counts) 4096 ≡ k) (ltb (length counts) most_subjects) (λ q. omega (arith, ltb-true)) (λ q. omega (arith, ltb-false)) in
       e ∙ least
 
   pub few_subjects : {n : ℕ} → n ≡ subjects_of counts → n ≤ 4096
@@ -158,22 +159,20 @@ all_told {t₁ = t₁} {t₂ = t₂} objective evaluations shrinkage counts resu
 
 -- ---- the fields of a place
 module _ (place : Place) (t : Written) where
-  pub nowhere : {t' : Written} → place ≡ Nowhere → t' ≡ write (32 ∷ none) t → (t' ≡ write (32 ∷ subject_field place) t) × (t' ≡ write (32 ∷ observation_field place) t)
-  unfolding subject_field observation_field
-  nowhere e q = (q ∙ ap (λ (p : Place). write (32 ∷ subject_field p) t) (sym e), q ∙ ap (λ (p : Place). write (32 ∷ observation_field p) t) (sym e))
-
-  pub at_subject : {t' : Written} {s : ℕ} → place ≡ Subject s → t' ≡ write (32 ∷ decimal s) t → t' ≡ write (32 ∷ subject_field place) t
+  pub nowhere : {t' : Written} → place ≡ Nowhere → t' ≡ write (32 ∷ none) t → t' ≡ write (32 ∷ subject_field place) t
   unfolding subject_field
-  at_subject e q = q ∙ ap (λ (p : Place). write (32 ∷ subject_field p) t) (sym e)
+  nowhere e q = q ∙ ap (λ (p : Place). write (32 ∷ subject_field p) t) (sym e)
 
-  pub no_observation_lem : {t' : Written} {s : ℕ} → place ≡ Subject s → t' ≡ write (32 ∷ none) t → t' ≡ write (32 ∷ observation_field place) t
+  pub of_subject : {t' : Written} {s : ℕ} → (place ≡ Subject s) ⊎ ((n : ℕ) × (place ≡ Observation s n)) → t' ≡ write (32 ∷ decimal s) t → t' ≡ write (32 ∷ subject_field place) t
+  unfolding subject_field
+  of_subject (inl e) q = q ∙ ap (λ (p : Place). write (32 ∷ subject_field p) t) (sym e)
+  of_subject (inr (n, e)) q = q ∙ ap (λ (p : Place). write (32 ∷ subject_field p) t) (sym e)
+
+  pub no_observation_lem : {t' : Written} → (place ≡ Nowhere) ⊎ ((s : ℕ) × (place ≡ Subject s)) → t' ≡ write (32 ∷ none) t → t' ≡ write (32 ∷ observation_field place) t
   unfolding observation_field
-  no_observation_lem e q = q ∙ ap (λ (p : Place). write (32 ∷ observation_field p) t) (sym e)
+  no_observation_lem (inl e) q = q ∙ ap (λ (p : Place). write (32 ∷ observation_field p) t) (sym e)
+  no_observation_lem (inr (s, e)) q = q ∙ ap (λ (p : Place). write (32 ∷ observation_field p) t) (sym e)
 
   pub at_observation_lem : {t' : Written} {s n : ℕ} → place ≡ Observation s n → t' ≡ write (32 ∷ decimal n) t → t' ≡ write (32 ∷ observation_field place) t
   unfolding observation_field
   at_observation_lem e q = q ∙ ap (λ (p : Place). write (32 ∷ observation_field p) t) (sym e)
-
-  pub of_observation : {t' : Written} {s n : ℕ} → place ≡ Observation s n → t' ≡ write (32 ∷ decimal s) t → t' ≡ write (32 ∷ subject_field place) t
-  unfolding subject_field
-  of_observation e q = q ∙ ap (λ (p : Place). write (32 ∷ subject_field p) t) (sym e)

@@ -34,7 +34,7 @@ pub fn hexadecimal(out: &mut [u8], at: usize, value: u64) -> usize
 {
     let mut end = at;
     let mut rest = value;
-    for _turn in 0..16 {
+    for _turn in 0..16u32 {
         end = words::byte(out, end, glyph(rest / 0x1000_0000_0000_0000));
         rest = rest % 0x1000_0000_0000_0000 * 16;
     }

@@ -6,6 +6,6 @@ use Prim.Native.Nat.{◌-◌}
 use Rattle.std.proofs.Common.{◌≡◌}
 use Rattle.focei_fit.proofs.play.Given as goal
 
-abbrev pub invariant-loop-_turn : goal.invariant-loop-_turn
-invariant-loop-_turn l = (Output.play l.input l.counts l.observations (10000 - l._turn) (called l.at l.cache l.work l.warm l.results) ≡ Output.play l.input l.counts l.observations Output.most_evaluations (called l.initial.at l.initial.cache l.initial.work l.initial.warm l.initial.results)) ×
+abbrev pub invariant-loop-turn : goal.invariant-loop-turn
+invariant-loop-turn l = (Output.play l.input l.counts l.observations (10000 - l._turn) (called l.at l.cache l.work l.warm l.results) ≡ Output.play l.input l.counts l.observations Output.most_evaluations (called l.initial.at l.initial.cache l.initial.work l.initial.warm l.initial.results)) ×
     (length l.reply ≡ length l.initial.reply) × (length l.cache ≡ length l.initial.cache) × (length l.work ≡ length l.initial.work) × (length l.warm ≡ length l.initial.warm) × (length l.results ≡ length l.initial.results)
