@@ -33,9 +33,12 @@ counted (count ∷ rest) total largest h j e =
     let m : count ≤ 100000 - total = ltb-false _ _ few.0 in
     counted rest (total + count) (larger largest count) (omega arith) (both (λ (x : ℕ). x ≤ 100000) (ltb largest count) (let c : count ≤ 100000 = omega arith in c) j) few.1
 
-pub counts_low : {r : Option Counts} {t l : ℕ} (counts : List ℕ) → r ≡ count_observations counts → r ≡ within t l → (t ≤ 100000) × (l ≤ 100000)
+pub low_counts : {r : Option Counts} {n : Counts} (counts : List ℕ) → r ≡ count_observations counts → r ≡ Some n → (n.total ≤ 100000) × (n.largest ≤ 100000)
 unfolding count_observations
-counts_low counts e f = counted counts 0 0 (omega arith) (omega arith) (sym e ∙ f)
+low_counts counts e f = counted counts 0 0 (omega arith) (omega arith) (sym e ∙ f)
+
+pub counts_low : {r : Option Counts} {t l : ℕ} (counts : List ℕ) → r ≡ count_observations counts → r ≡ within t l → (t ≤ 100000) × (l ≤ 100000)
+counts_low counts e f = low_counts counts e f
 
 -- ---- b is what `is_cohort` answered
 pub cohort_low : {b : Bool} (effects subjects total observations : ℕ) → b ≡ is_cohort effects subjects total observations → b ≡ true → (effects ≤ 2) × (subjects ≤ 4096)

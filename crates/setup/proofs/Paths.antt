@@ -1,6 +1,6 @@
 -- The ways through the code: one law for each, over plain variables. Assumes nothing.
-use Rattle.std.specs.Prelude.{Err, Float, None, Ok, Option, Some}
-use mathlib.Core.Path.{◌≡◌, refl, sym, ap, ◌∙◌}
+use Rattle.std.specs.Prelude.{Err, None, Ok, Option, Some, is_some, ok_or, not, T}
+use mathlib.Core.Path.{◌≡◌, refl, sym, ap, subst, ◌∙◌}
 use mathlib.Core.Bool.{Bool, true, false}
 use mathlib.Core.List.{List, ◌∷◌}
 use Prim.Native.Nat.{ℕ, suc, ◌+◌, ◌-◌, ◌*◌, ◌≤◌, ◌<◌}
@@ -12,7 +12,7 @@ use lib.Seq.{drop-cons}
 use lib.Ieee.{Float, le, lt, ne}
 use Rattle.float64.specs.Arithmetic.{word, edge}
 use Rattle.float64.specs.Float64.{nonfinite}
-use Rattle.float64.specs.Pick.{yes, no, yes_of, no_of}
+use Rattle.float64.specs.Pick.{pick, yes, no, yes_of, no_of}
 use Rattle.matrix.specs.Matrix.{answer, inverse_positive}
 use Rattle.cache.specs.Cache.{row_words}
 use Rattle.work.specs.Work.{most_subjects, most_rows}
@@ -22,23 +22,26 @@ use Rattle.setup.specs.declared.Parameters.{Parameters}
 use Rattle.setup.specs.declared.Lent.{Lent}
 use Rattle.setup.specs.Admission.{is_beyond, larger, count_from, count_observations, is_cohort, is_no_variance, omega_of, is_none, is_no_omega, is_no_override, is_no_tolerance, is_no_shape, is_short, roomy, within, Admission}
 use Rattle.setup.specs.Admission.{admitted, checks_of, checks, with_parameters}
+use Rattle.setup.specs.declared.AdmissionError.{AdmissionError}
 use Rattle.setup.specs.declared.AdmissionError.TheVariants.{Refused, Unsound}
 use Rattle.subject.specs.Observations.{Check}
+use Rattle.subject.proofs.Paths.{missing_of}
 use Rattle.setup.specs.declared.Counts.{Counts}
 
 -- ---- a range
+inverted_test : (b : Bool) → not b ≡ pick b false true
+unfolding pick
+inverted_test true = refl
+inverted_test false = refl
+
 module _ (x low high : Float) where
-  pub too_low : le low x ≡ false → true ≡ is_beyond x low high
+  pub too_low : le low x ≡ false → not (le low x) ≡ is_beyond x low high
   unfolding is_beyond
-  too_low f = no _ f refl
+  too_low f = no _ f (ap not f)
 
-  pub too_high : le low x ≡ true → le x high ≡ false → true ≡ is_beyond x low high
+  pub high_enough : le low x ≡ true → not (le x high) ≡ is_beyond x low high
   unfolding is_beyond
-  too_high t f = yes _ t (no _ f refl)
-
-  pub in_range : le low x ≡ true → le x high ≡ true → false ≡ is_beyond x low high
-  unfolding is_beyond
-  in_range t u = yes _ t (yes _ u refl)
+  high_enough t = yes _ t (inverted_test (le x high))
 
 -- ---- the counts, at subject i
 module _ (counts : List ℕ) (total largest i : ℕ) where
@@ -91,6 +94,13 @@ module _ (effects subjects total observations : ℕ) where
         adds_up h = no _ (ne_eqb _ _ some) (no _ (le-ltb _ _ few) (no _ (ne_eqb _ _ subject) (no _ (le-ltb _ _ h) refl)))
 
 -- ---- check 2; b and d are what `is_no_variance` answered
+no_inverse_of : (m : List (List Float)) (r : Option Float) (v : Bool) → is_some r ≡ not v → v ≡ is_none (answer m r)
+unfolding answer
+no_inverse_of m None true q = refl
+no_inverse_of m None false q = absurd (subst T (sym q) tt)
+no_inverse_of m (Some det) true q = absurd (subst T q tt)
+no_inverse_of m (Some det) false q = refl
+
 module _ (s : Setup) {b : Bool} (e : b ≡ is_no_variance s.omega00) where
   pub no_variance : b ≡ true → true ≡ is_no_omega s
   unfolding is_no_omega
@@ -111,20 +121,10 @@ module _ (s : Setup) {b : Bool} (e : b ≡ is_no_variance s.omega00) where
         unfolding is_no_omega
         not_symmetric g = no_of _ e t (no _ (ne_eqb _ _ two) (no_of _ f u (yes _ g refl)))
 
-        -- r is what `inverse_positive` answered
-        module _ (g : ne s.omega01 s.omega10 ≡ false) {r : Option Float} (a : answer (omega_of s) r ≡ inverse_positive (omega_of s)) where
-          symmetric : {v : Option Float} → r ≡ v → is_none (answer (omega_of s) v) ≡ is_no_omega s
-          unfolding is_no_omega
-          symmetric q =
-              no_of _ e t (no _ (ne_eqb _ _ two) (no_of _ f u (no _ g (ap is_none (sym (ap (answer (omega_of s)) q) ∙ a)))))
-
-          pub has_inverse : {det : Float} → r ≡ Some det → false ≡ is_no_omega s
-          unfolding answer
-          has_inverse q = symmetric q
-
-          pub no_inverse_lem : r ≡ None → true ≡ is_no_omega s
-          unfolding answer
-          no_inverse_lem q = symmetric q
+        -- r is what `inverse_positive` answered, v what `is_none` did
+        pub inverted : (r : Option Float) {v : Bool} → ne s.omega01 s.omega10 ≡ false → answer (omega_of s) r ≡ inverse_positive (omega_of s) → is_some r ≡ not v → v ≡ is_no_omega s
+        unfolding is_no_omega
+        inverted r g a q = no_of _ e t (no _ (ne_eqb _ _ two) (no_of _ f u (no _ g (no_inverse_of _ r _ q ∙ ap is_none a))))
 
 -- ---- check 3: the override; b is what `is_nonfinite` answered
 module _ (effects : ℕ) (sd : Option Float) where
@@ -245,25 +245,28 @@ module _ (s : Setup) (subjects total largest : ℕ) (lent : Lent) (check : Check
         unfolding roomy
         passes v = shaped g (no_of _ h v refl)
 
+-- ---- the checks where the counts are within the domain; b is what `is_cohort` answered
+module _ (s : Setup) (subjects : ℕ) (n : Counts) (lent : Lent) (check : Check) {b : Bool} (e : b ≡ is_cohort s.effects subjects n.total lent.observations) where
+  pub no_cohort_lem : b ≡ false → Err (Refused 1) ≡ checks_of s subjects lent check (within n.total n.largest)
+  unfolding checks_of
+  no_cohort_lem t = no_of _ e t refl
+
+  pub cohort : {a : Admission} → b ≡ true → a ≡ admitted s subjects n.total n.largest lent check → a ≡ checks_of s subjects lent check (within n.total n.largest)
+  unfolding checks_of
+  cohort t q = yes_of _ e t q
+
 -- ---- all checks; r is what `count_observations` answered
 module _ (s : Setup) (counts : List ℕ) (lent : Lent) (check : Check) {r : Option Counts} (e : r ≡ count_observations counts) where
-  counted : {v : Option Counts} {z : Admission} → r ≡ v → z ≡ checks_of s (length counts) lent check v → z ≡ checks s counts lent check
+  from : {v : Option Counts} {z : Admission} → r ≡ v → z ≡ checks_of s (length counts) lent check v → z ≡ checks s counts lent check
   unfolding checks
-  counted f q = q ∙ ap (checks_of s (length counts) lent check) (sym f ∙ e)
+  from f q = q ∙ ap (checks_of s (length counts) lent check) (sym f ∙ e)
 
-  pub outside : r ≡ None → Err (Refused 1) ≡ checks s counts lent check
+  pub outside : {error : AdmissionError} → ok_or r (Refused 1) ≡ Err error → Err error ≡ checks s counts lent check
   unfolding checks_of
-  outside f = counted f refl
+  outside w = let m = missing_of r w in ap Err (sym m.1) ∙ from m.0 refl
 
-  -- b is what `is_cohort` answered
-  module _ {total largest : ℕ} {b : Bool} (f : r ≡ within total largest) (g : b ≡ is_cohort s.effects (length counts) total lent.observations) where
-    pub no_cohort_lem : b ≡ false → Err (Refused 1) ≡ checks s counts lent check
-    unfolding checks_of
-    no_cohort_lem t = counted f (no_of _ g t refl)
-
-    pub cohort : {a : Admission} → b ≡ true → a ≡ admitted s (length counts) total largest lent check → a ≡ checks s counts lent check
-    unfolding checks_of
-    cohort t q = counted f (yes_of _ g t q)
+  pub counted : {n : Counts} {a : Admission} → r ≡ Some n → a ≡ checks_of s (length counts) lent check (within n.total n.largest) → a ≡ checks s counts lent check
+  counted f q = from f q
 
 -- ---- an objective's setup
 abbrev objective : Setup → Parameters → Float → Setup

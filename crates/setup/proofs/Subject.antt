@@ -1,14 +1,13 @@
 -- The exits of `subject_checks`, over plain values. Assumes nothing.
 use Rattle.std.specs.Prelude.{Err}
 use mathlib.Core.Path.{◌≡◌, refl, ap, ◌∙◌}
-use mathlib.Core.Bool.{Bool, true, false}
 use mathlib.Core.List.{List}
 use Prim.Native.Nat.{ℕ, ◌≤◌, ◌<◌}
 use borrow.Author.Tests.{lt-ltb, le-ltb, eq-eqb, ne_eqb}
 use lib.Dec.{ltb, eqb}
 use lib.ListN.{length, get_or}
-use Rattle.float64.specs.Pick.{pick, yes, no, yes_of, no_of}
-use Rattle.setup.specs.Admission.{is_cohort, admitted, checks_of, within, Admission}
+use Rattle.float64.specs.Pick.{pick, yes, no}
+use Rattle.setup.specs.Admission.{checks_of, within, Admission}
 use Rattle.setup.specs.declared.Setup.{Setup}
 use Rattle.setup.specs.declared.Lent.{Lent}
 use Rattle.setup.specs.SubjectChecks.{subject_checks}
@@ -31,12 +30,5 @@ module _ (s : Setup) (counts : List ℕ) (subject : ℕ) (lent : Lent) (check : 
     pub many : 100000 < count → Err (Refused 1) ≡ subject_checks s counts subject lent check
     many h = read_count (no _ (ne_eqb _ _ some) (yes _ (lt-ltb _ _ h) refl))
 
-    -- b is what `is_cohort` answered
-    module _ (few : count ≤ 100000) {b : Bool} (g : b ≡ is_cohort s.effects (length counts) count lent.observations) where
-      pub no_cohort_lem : b ≡ false → Err (Refused 1) ≡ subject_checks s counts subject lent check
-      unfolding checks_of
-      no_cohort_lem t = read_count (no _ (ne_eqb _ _ some) (no _ (le-ltb _ _ few) (no_of _ g t refl)))
-
-      pub cohort : {a : Admission} → b ≡ true → a ≡ admitted s (length counts) count count lent check → a ≡ subject_checks s counts subject lent check
-      unfolding checks_of
-      cohort t q = read_count (no _ (ne_eqb _ _ some) (no _ (le-ltb _ _ few) (yes_of _ g t q)))
+    pub counted : {a : Admission} → count ≤ 100000 → a ≡ checks_of s (length counts) lent check (within count count) → a ≡ subject_checks s counts subject lent check
+    counted few q = read_count (no _ (ne_eqb _ _ some) (no _ (le-ltb _ _ few) q))

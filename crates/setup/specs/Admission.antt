@@ -1,5 +1,6 @@
 -- Document 01's checks 1 to 5.
-use Rattle.std.specs.Prelude.{Bool, true, false, List, [], ◌∷◌, ℕ, ◌+◌, ◌-◌, ◌*◌, ltb, eqb, length, Float, Err, None, Ok, Option, Result, Some, ⊤}
+use Rattle.std.specs.Prelude.{Bool, true, false, List, [], ◌∷◌, ℕ, ◌+◌, ◌-◌, ◌*◌, ltb, eqb, length, Float, ⊤}
+use Rattle.std.specs.Prelude.{Option, Some, None, Result, Ok, Err}
 use Rattle.std.specs.Float.Ieee.{le, lt, ne}
 use Rattle.float64.specs.Arithmetic.{word, edge}
 use Rattle.float64.specs.Float64.{nonfinite}
@@ -15,7 +16,6 @@ use Rattle.setup.specs.declared.Parameters.{Parameters}
 use Rattle.setup.specs.declared.Lent.{Lent}
 use Rattle.setup.specs.declared.AdmissionError.{AdmissionError}
 use Rattle.setup.specs.declared.AdmissionError.TheVariants.{Refused, Unsound}
-use Rattle.subject.specs.declared.Position.{Position}
 use Rattle.setup.specs.declared.Counts.{Counts}
 
 -- not from low to high

@@ -4,7 +4,8 @@
 #![tactic(auto)]
 
 ghost use Rattle.std.specs.Prelude.{◌≡◌};
-ghost use Rattle.setup.specs.Admission.{is_beyond, is_no_variance, is_no_omega, is_no_override, is_no_tolerance, is_no_shape, with_parameters};
+ghost use Rattle.setup.specs.Admission.{is_beyond, is_no_variance, is_no_omega, is_no_override, is_no_tolerance, is_no_shape};
+ghost use Rattle.setup.specs.Admission.{with_parameters};
 
 pub mod checks;
 
@@ -70,13 +71,7 @@ pub enum AdmissionError {
 fn is_beyond(x: f64, low: f64, high: f64) -> bool
     ensures { result ≡ is_beyond x low high }
 {
-    if low <= x {
-        if x <= high {
-            return false;
-        }
-        return true;
-    }
-    true
+    !(low <= x && x <= high)
 }
 
 // ---- 2
@@ -108,10 +103,7 @@ pub fn is_no_omega(setup: Setup) -> bool
         [setup.omega00, setup.omega01],
         [setup.omega10, setup.omega11],
     ];
-    match matrix::inverse_positive(omega) {
-        Some(_) => false,
-        None => true,
-    }
+    matrix::inverse_positive(omega).is_none()
 }
 
 // ---- 3
@@ -121,18 +113,16 @@ pub fn is_no_omega(setup: Setup) -> bool
 fn is_no_override(effects: u32, additive_sd: Option<f64>) -> bool
     ensures { result ≡ is_no_override effects additive_sd }
 {
-    match additive_sd {
-        None => false,
-        Some(additive) => {
-            if effects == 2 {
-                return true;
-            }
-            if float64::is_nonfinite(additive) {
-                return true;
-            }
-            additive < 0.0
-        }
+    let Some(additive) = additive_sd else {
+        return false;
+    };
+    if effects == 2 {
+        return true;
     }
+    if float64::is_nonfinite(additive) {
+        return true;
+    }
+    additive < 0.0
 }
 
 fn is_no_tolerance(gradient_tolerance: f64) -> bool
@@ -167,8 +157,7 @@ pub fn is_no_shape(setup: Setup) -> bool
     if work::MOST_ROWS < setup.k {
         return true;
     }
-    let additive_sd = setup.additive_sd;
-    is_no_override(setup.effects, additive_sd)
+    is_no_override(setup.effects, setup.additive_sd)
 }
 
 // ---- one objective
@@ -178,23 +167,14 @@ pub fn is_no_shape(setup: Setup) -> bool
 pub fn with_parameters(setup: Setup, parameters: Parameters) -> Setup
     ensures { result ≡ with_parameters setup parameters }
 {
-    let additive_sd = parameters.additive_sd;
-    let mut omega00 = setup.omega00;
-    if setup.effects == 1 {
-        omega00 = parameters.omega;
-    }
+    let omega00 = if setup.effects == 1 {
+        parameters.omega
+    } else {
+        setup.omega00
+    };
     Setup {
-        effects: setup.effects,
         omega00,
-        omega01: setup.omega01,
-        omega10: setup.omega10,
-        omega11: setup.omega11,
-        eta_bound: setup.eta_bound,
-        gradient_tolerance: setup.gradient_tolerance,
-        width: setup.width,
-        k: setup.k,
-        additive_sd,
-        output_budget: setup.output_budget,
-        max_evaluations: setup.max_evaluations,
+        additive_sd: parameters.additive_sd,
+        ..setup
     }
 }

@@ -1,5 +1,5 @@
 -- The ways through the code: one law for each, over plain variables. Assumes nothing.
-use Rattle.std.specs.Prelude.{Err, None, Ok, Result, Some, IsErrAnd}
+use Rattle.std.specs.Prelude.{Err, None, Ok, Option, Result, Some, IsErrAnd, ok_or}
 use Rattle.std.proofs.Common.{◌≡◌, ℕ, ◌+◌, ◌*◌, ◌/◌, ◌%◌, ◌<◌, ◌≤◌, Bool, true, false, ltb, List, length, sym, refl, ap, ◌∙◌, subst, le_trans, mul-le-mul, mul-le-mul_left, div-mul-le_self, arith, le-ltb, lt-ltb, eq-eqb, ne_eqb}
 use Rattle.std.proofs.lemmas.Result.{err_from_is_err_and}
 use lib.Ieee.{Float}
@@ -16,6 +16,11 @@ use Rattle.subject.specs.declared.EvaluationError.TheVariants.{Refused}
 -- what the exit of a `?` returns
 pub passed_on : {T E : Type 0} {x : E} (r : Result T E) → IsErrAnd r (λ e. e ≡ x) → r ≡ Err x
 passed_on r h = let p = err_from_is_err_and r h in p.1 ∙ ap Err p.2
+
+-- what `ok_or` makes an error of
+pub missing_of : {T E : Type 0} (o : Option T) {d e : E} → ok_or o d ≡ Err e → (o ≡ None) × (d ≡ e)
+missing_of None w = (refl, cc)
+missing_of (Some x) w = absurd (let z : ◌≡◌ {A = ℕ} 0 1 = cc in omega arith)
 
 -- ---- individual values; x and y are the first and the second, b and d what `is_no_individual` answered of them
 module _ (theta eta : Pair) (effects : ℕ) {x : Float} {b : Bool} (ex : x ≡ individual theta.first eta.first) (eb : b ≡ is_no_individual x) where

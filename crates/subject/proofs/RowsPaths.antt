@@ -6,6 +6,7 @@ use lib.Ieee.{Float}
 use Rattle.float64.specs.Arithmetic.{word}
 use Rattle.float64.specs.Pick.{yes, no, cases}
 use Rattle.matrix.specs.Matrix.{pair}
+use Rattle.subject.proofs.Paths.{missing_of}
 use Rattle.cache.specs.Cache.{row_words}
 use Rattle.likelihood.specs.declared.population_focei.Observation.{Observation}
 use Rattle.subject.specs.declared.Trial.{Trial}
@@ -108,11 +109,6 @@ module _ (sums : Sums) (observation : Observation) (trial : Trial) (reply : List
       (pair g g2) → z ≡ add_row_at sums observation trial reply at
   unfolding add_row_at
   two_effects h e2 q = yes _ (eq-eqb _ _ h) (q ∙ (λ i. add_row2 sums observation (prediction_is i) (pair (eg i) (e2 i))))
-
--- what `ok_or` makes an error of
-missing_of : {T E : Type 0} (o : Option T) {d e : E} → ok_or o d ≡ Err e → (o ≡ None) × (d ≡ e)
-missing_of None w = (refl, cc)
-missing_of (Some x) w = absurd (let z : ◌≡◌ {A = ℕ} 0 1 = cc in omega arith)
 
 -- ---- an observation, where the sums so far are given; r is what `row_at` answered, w the words afterwards
 module _ (sums : Sums) (observation : Observation) (trial : Trial) (reply work : List ℕ) {r : Option ℕ} (e : r ≡ row_at reply trial.width trial.effects observation.output observation.row)

@@ -18,13 +18,15 @@ unfoldable pub reply_rows : ℕ → ℕ → List ℕ → List Observation → Li
 reply_rows width effects reply [] = []
 reply_rows width effects reply (o ∷ os) =
     let at = o.row * (2 + width * (1 + effects)) in
-    slice_index reply (at + 2 + o.output) ∷ slice_index reply at ∷ pick (slice_index reply (at + 1) == 0) 0 1 ∷ reply_rows width effects reply os
+    slice_index reply (at + 2 + o.output) ∷ slice_index reply at ∷ pick (slice_index reply (at + 1) == 0) 0 1
+    ∷ reply_rows width effects reply os
 
 pub record Evaluates (trial : Trial) (budget : ℕ) (reply : List ℕ) (observations : List Observation) (work : List ℕ) : Type 0 where
   -- the sums that it ends with are finite
   pub sums : (s : Sums) → finish (evaluated trial budget reply observations work).evaluation ≡ Ok s → has_nonfinite_sum s ≡ false
   -- or it ends with 8, 9 or 12, without an observation
-  pub numbers : (n : ℕ) → finish (evaluated trial budget reply observations work).evaluation ≡ Err (Refused n) → (n ≡ 8) ⊎ ((n ≡ 9) ⊎ (n ≡ 12))
+  pub numbers : (n : ℕ) → finish (evaluated trial budget reply observations work).evaluation ≡ Err (Refused n)
+      → (n ≡ 8) ⊎ ((n ≡ 9) ⊎ (n ≡ 12))
   -- or with 10, 11 or 12 at one of the observations
   pub places : (n i : ℕ) → finish (evaluated trial budget reply observations work).evaluation ≡ Err (RefusedAt n i)
       → ((n ≡ 10) ⊎ ((n ≡ 11) ⊎ (n ≡ 12))) × (i < length observations)

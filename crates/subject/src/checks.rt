@@ -46,8 +46,8 @@ fn next_place(place: Position, count: u64) -> Position
     let next = std::num::wrapping_add_usize(place.observation, 1);
     if (next as u64) < count {
         return Position {
-            subject: place.subject,
             observation: next,
+            ..place
         };
     }
     Position {

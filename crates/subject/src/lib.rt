@@ -137,6 +137,21 @@ pub fn row_length(width: u32, effects: u32) -> usize
 
 // ---- the sums
 
+const NO_SUMS: Sums = Sums {
+    nll: 0.0,
+    score: Pair {
+        first: 0.0,
+        second: 0.0,
+    },
+    information: Matrix {
+        m00: 0.0,
+        m01: 0.0,
+        m10: 0.0,
+        m11: 0.0,
+    },
+    observation: 0,
+};
+
 // The beginning of an evaluation: 8 where the reply is not whole rows, 9 where their values and derivatives
 // are beyond the output budget, else sums of 0. A reply of no words is whole: it has no rows.
 pub fn begin(reply: &[u64], width: u32, effects: u32, output_budget: u32) -> Evaluation
@@ -149,20 +164,7 @@ pub fn begin(reply: &[u64], width: u32, effects: u32, output_budget: u32) -> Eva
     if (output_budget as usize) < reply.len() / words * output_values(width, effects) {
         return Err(EvaluationError::Refused(9));
     }
-    Ok(Sums {
-        nll: 0.0,
-        score: Pair {
-            first: 0.0,
-            second: 0.0,
-        },
-        information: Matrix {
-            m00: 0.0,
-            m01: 0.0,
-            m10: 0.0,
-            m11: 0.0,
-        },
-        observation: 0,
-    })
+    Ok(NO_SUMS)
 }
 
 fn has_nonfinite_sum(sums: Sums) -> bool

@@ -47,10 +47,11 @@ fn prediction_row(reply: &[u64], at: usize, width: u32, output: usize) -> Predic
 {
     let prediction = column(reply, at, width, 0, output);
     let time = words::read(reply, at);
-    let mut side = 1;
-    if words::read(reply, at + 1) == 0 {
-        side = 0;
-    }
+    let side = if words::read(reply, at + 1) == 0 {
+        0
+    } else {
+        1
+    };
     PredictionRow {
         prediction,
         time,

@@ -1,5 +1,5 @@
 -- `is_no_omega` meets its contract: each exit by its law. Assumes nothing.
-use Rattle.setup.proofs.Paths.{no_variance, one_effect, no_second_variance, not_symmetric, has_inverse, no_inverse_lem}
+use Rattle.setup.proofs.Paths.{no_variance, one_effect, no_second_variance, not_symmetric, inverted}
 use Rattle.setup.proofs.is_no_omega.Goals as goal
 
 pub returns-then-is_no_variance : goal.returns-then-is_no_variance
@@ -14,12 +14,7 @@ returns-then-is_no_variance-2 c = no_second_variance _ c.is_no_variance.ensures 
 pub returns-then-setup : goal.returns-then-setup
 returns-then-setup c = not_symmetric _ c.is_no_variance.ensures c.if-is_no_variance.false c.if-setup-eq1.false c.is_no_variance-2.ensures c.if-is_no_variance-2.false c.if-setup.true
 
-pub returns-in-Some : goal.returns-in-Some
-returns-in-Some c =
-    has_inverse _ c.is_no_variance.ensures c.if-is_no_variance.false c.if-setup-eq1.false c.is_no_variance-2.ensures c.if-is_no_variance-2.false c.if-setup.false
-    c.inverse_positive.ensures c.in-Some.is
-
-pub returns-in-None : goal.returns-in-None
-returns-in-None c =
-    no_inverse_lem _ c.is_no_variance.ensures c.if-is_no_variance.false c.if-setup-eq1.false c.is_no_variance-2.ensures c.if-is_no_variance-2.false c.if-setup.false
-    c.inverse_positive.ensures c.in-None.is
+pub returns : goal.returns
+returns c =
+    inverted _ c.is_no_variance.ensures c.if-is_no_variance.false c.if-setup-eq1.false c.is_no_variance-2.ensures c.if-is_no_variance-2.false _ c.if-setup.false
+    c.inverse_positive.ensures c.is_none.ensures

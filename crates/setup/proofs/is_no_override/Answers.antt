@@ -8,8 +8,8 @@ returns-then-effects-eq2 c = two_effects _ _ c.in-Some.is c.if-effects-eq2.true
 pub returns-then-is_nonfinite : goal.returns-then-is_nonfinite
 returns-then-is_nonfinite c = infinite _ _ c.in-Some.is c.if-effects-eq2.false c.is_nonfinite.ensures c.if-is_nonfinite.true
 
-pub returns-in-None : goal.returns-in-None
-returns-in-None c = own _ _ c.in-None.is
+pub returns-in_default : goal.returns-in_default
+returns-in_default c = own _ _ c.in_default.is
 
-pub returns-else-is_nonfinite : goal.returns-else-is_nonfinite
-returns-else-is_nonfinite c = finite _ _ c.in-Some.is c.if-effects-eq2.false c.is_nonfinite.ensures c.if-is_nonfinite.false
+pub returns : goal.returns
+returns c = finite _ _ c.in-Some.is c.if-effects-eq2.false c.is_nonfinite.ensures c.if-is_nonfinite.false

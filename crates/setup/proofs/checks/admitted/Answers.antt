@@ -14,13 +14,13 @@ is_short-requires c = (c.requires.0, shape_low _ c.is_no_shape.ensures c.if-is_n
 
 pub returns-then-is_short : goal.returns-then-is_short
 returns-then-is_short c =
-    fails_5 _ _ _ _ _ _ c.is_no_omega.ensures c.if-is_no_omega.false c.is_no_shape.ensures c.if-is_no_shape.false c.in-Ok.is
+    fails_5 _ _ _ _ _ _ c.is_no_omega.ensures c.if-is_no_omega.false c.is_no_shape.ensures c.if-is_no_shape.false c.in_default.is
     c.is_short.ensures c.if-is_short.true
 
 pub returns-in-Err : goal.returns-in-Err
 returns-in-Err c = fails_4 _ _ _ _ _ _ c.is_no_omega.ensures c.if-is_no_omega.false c.is_no_shape.ensures c.if-is_no_shape.false c.in-Err.is
 
-pub returns-else-is_short : goal.returns-else-is_short
-returns-else-is_short c =
-    passes _ _ _ _ _ _ c.is_no_omega.ensures c.if-is_no_omega.false c.is_no_shape.ensures c.if-is_no_shape.false c.in-Ok.is
+pub returns : goal.returns
+returns c =
+    passes _ _ _ _ _ _ c.is_no_omega.ensures c.if-is_no_omega.false c.is_no_shape.ensures c.if-is_no_shape.false c.in_default.is
     c.is_short.ensures c.if-is_short.false

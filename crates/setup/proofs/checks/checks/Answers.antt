@@ -1,19 +1,16 @@
 -- `checks` meets its contract: each exit by its law. Assumes nothing.
-use Rattle.setup.proofs.Bounds.{counts_low, cohort_low}
-use Rattle.setup.proofs.Paths.{outside, no_cohort_lem, cohort}
+use Rattle.std.proofs.Common.{sym, ◌∙◌, arith}
+use Rattle.subject.proofs.Paths.{passed_on}
+use Rattle.setup.proofs.Bounds.{low_counts}
+use Rattle.setup.proofs.Paths.{outside, counted}
 use Rattle.setup.proofs.checks.checks.Goals as goal
 
-pub admitted-requires : goal.admitted-requires
-admitted-requires c =
-    let low = cohort_low _ _ _ _ c.is_cohort.ensures c.if-is_cohort.true in
-    let counted = counts_low _ c.count_observations.ensures c.in-Some.is in
-    (low.0, low.1, counted.0, counted.1)
+pub returns-in_err-counted : goal.returns-in_err-counted
+returns-in_err-counted c =
+    passed_on _ c.from_residual.ensures.1 ∙ outside _ _ _ _ c.count_observations.ensures (sym c.ok_or.ensures.value ∙ c.in_err-counted.was)
 
-pub returns-then-is_cohort : goal.returns-then-is_cohort
-returns-then-is_cohort c = cohort _ _ _ _ c.count_observations.ensures c.in-Some.is c.is_cohort.ensures c.if-is_cohort.true c.admitted.ensures
+pub counted_checks-requires : goal.counted_checks-requires
+counted_checks-requires c = low_counts _ c.count_observations.ensures (grind arith)
 
-pub returns-else-is_cohort : goal.returns-else-is_cohort
-returns-else-is_cohort c = no_cohort_lem _ _ _ _ c.count_observations.ensures c.in-Some.is c.is_cohort.ensures c.if-is_cohort.false
-
-pub returns-in-None : goal.returns-in-None
-returns-in-None c = outside _ _ _ _ c.count_observations.ensures c.in-None.is
+pub returns : goal.returns
+returns c = counted _ _ _ _ c.count_observations.ensures (grind arith) c.counted_checks.ensures

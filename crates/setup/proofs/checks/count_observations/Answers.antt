@@ -7,21 +7,21 @@ use Rattle.setup.proofs.Paths.{all_counted, counts_none, counts_too_many, counts
 use Rattle.setup.proofs.checks.count_observations.Goals as goal
 use Rattle.setup.proofs.checks.count_observations.Goals.{then-largest-count, else-largest-count}
 
-pub loop-i-init : goal.loop-i-init
-loop-i-init c = (refl, search rules)
+pub loop-count-init : goal.loop-count-init
+loop-count-init c = (refl, search rules)
 
 pub returns-then-count-eq0 : goal.returns-then-count-eq0
 unfolding count_observations
-returns-then-count-eq0 c = counts_none _ _ _ _ c.loop-i-test.true c.if-count-eq0.true ∙ c.loop-i.invariant.0
+returns-then-count-eq0 c = counts_none _ _ _ _ c.loop-count-test.true c.if-count-eq0.true ∙ c.loop-count.invariant.0
 
 pub returns-then-total-count : goal.returns-then-total-count
 unfolding count_observations
-returns-then-total-count c = counts_too_many _ _ _ _ c.loop-i-test.true c.if-count-eq0.false c.if-total-count.true ∙ c.loop-i.invariant.0
+returns-then-total-count c = counts_too_many _ _ _ _ c.loop-count-test.true c.if-count-eq0.false c.if-total-count.true ∙ c.loop-count.invariant.0
 
-pub loop-i-preserved : goal.loop-i-preserved
-loop-i-preserved c =
-    let so_far = c.loop-i.invariant in (
-      counts_on _ _ _ _ c.loop-i-test.true c.if-count-eq0.false c.if-total-count.false
+pub loop-count-preserved : goal.loop-count-preserved
+loop-count-preserved c =
+    let so_far = c.loop-count.invariant in (
+      counts_on _ _ _ _ c.loop-count-test.true c.if-count-eq0.false c.if-total-count.false
           (elim c.if-largest-count.branch [
             | then-largest-count w ↦ yes _ (lt-ltb _ _ w.if-largest-count.true) w.largest-is
             | else-largest-count w ↦ no _ (le-ltb _ _ w.if-largest-count.false) w.largest-is
@@ -32,4 +32,4 @@ loop-i-preserved c =
 
 pub returns : goal.returns
 unfolding count_observations
-returns c = all_counted _ _ _ _ c.loop-i-test.false ∙ c.loop-i.invariant.0
+returns c = all_counted _ _ _ _ c.loop-count-test.false ∙ c.loop-count.invariant.0
