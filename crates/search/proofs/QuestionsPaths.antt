@@ -19,30 +19,33 @@ use Rattle.search.specs.declared.Step.TheVariants.{Asked}
 use Rattle.search.specs.declared.Halted.{Halted}
 use Rattle.search.specs.Subjects.{has_additive, additive_word, key1, key2, key_of, awaiting, refused_by, counted, ask_for, ask}
 
--- ---- the key of an evaluation; theta and x are the words of theta and of eta, has and additive those of the override
-abbrev one_key : ℕ → ℕ → ℕ → ℕ → ℕ → CacheKey
-one_key subject theta x has additive = record {
+-- ---- the key of an evaluation; theta and x are the words of theta and of eta, given those of the override
+abbrev one_key : ℕ → ℕ → ℕ → ℕ × ℕ → CacheKey
+one_key subject theta x given = record {
   subject = subject;
   theta0 = theta;
   theta1 = 0;
   eta0 = x;
   eta1 = 0;
-  has_additive = has;
-  additive = additive;
+  has_additive = given.0;
+  additive = given.1;
 }
 
-module _ (fit : Fit) (subject : ℕ) (eta : Pair) where
-  module _ {theta x has additive : ℕ} (et : theta ≡ to_bits binary64 fit.theta.first) (ex : x ≡ to_bits binary64 eta.first) where
-    keyed : has ≡ has_additive fit.additive_sd → additive ≡ additive_word fit.additive_sd → one_key subject theta x has additive ≡ key1 fit subject eta
-    unfolding key1
-    keyed p q = λ i. one_key subject (et i) (ex i) (p i) (q i)
+abbrev words_of : Option Float → ℕ × ℕ
+words_of o = (has_additive o, additive_word o)
 
-    pub own_key : fit.additive_sd ≡ None → has ≡ 0 → additive ≡ 0 → one_key subject theta x has additive ≡ key1 fit subject eta
-    own_key t p q = keyed (p ∙ sym (ap has_additive t)) (q ∙ sym (ap additive_word t))
+module _ (fit : Fit) (subject : ℕ) (eta : Pair) where
+  module _ {theta x : ℕ} {given : ℕ × ℕ} (et : theta ≡ to_bits binary64 fit.theta.first) (ex : x ≡ to_bits binary64 eta.first) where
+    keyed : {o : Option Float} → fit.additive_sd ≡ o → given ≡ words_of o → one_key subject theta x given ≡ key1 fit subject eta
+    unfolding key1
+    keyed t p = λ i. one_key subject (et i) (ex i) ((p ∙ sym (ap words_of t)) i)
+
+    pub own_key : fit.additive_sd ≡ None → given ≡ (0, 0) → one_key subject theta x given ≡ key1 fit subject eta
+    own_key t p = keyed t p
 
     -- w is the override's word
-    pub override_key : {sd : Float} {w : ℕ} → fit.additive_sd ≡ Some sd → w ≡ to_bits binary64 sd → has ≡ 1 → additive ≡ w → one_key subject theta x has additive ≡ key1 fit subject eta
-    override_key t e p q = keyed (p ∙ sym (ap has_additive t)) (q ∙ e ∙ sym (ap additive_word t))
+    pub override_key : {sd : Float} {w : ℕ} → fit.additive_sd ≡ Some sd → w ≡ to_bits binary64 sd → given ≡ (1, w) → one_key subject theta x given ≡ key1 fit subject eta
+    override_key t e p = keyed t (p ∙ (λ i. (1, e i)))
 
   pub key_two : {z : CacheKey} → fit.effects ≡ 2 → z ≡ key2 fit subject eta → z ≡ key_of fit subject eta
   unfolding key_of

@@ -141,10 +141,10 @@ fn fit_2d(setup: Setup, theta: Pair) -> Fit
     }
 }
 
+#[tactic(auto, unfolding(crate::specs::Subjects::fit_with))]
 fn fit_with(setup: Setup, theta: Pair, precision: [[f64; 2]; 2], det_omega: f64) -> Fit
     ensures { result ≡ fit_with setup theta precision det_omega }
 {
-    let additive_sd = setup.additive_sd;
     Fit {
         effects: setup.effects,
         eta_bound: setup.eta_bound,
@@ -153,7 +153,7 @@ fn fit_with(setup: Setup, theta: Pair, precision: [[f64; 2]; 2], det_omega: f64)
         precision: matrix::matrix_of(precision),
         det_omega,
         theta,
-        additive_sd,
+        additive_sd: setup.additive_sd,
         k: setup.k,
         max_evaluations: setup.max_evaluations,
     }
@@ -203,6 +203,7 @@ fn first_search(effects: u32) -> SubjectSearch
 
 // Where an objective stands as a subject's search begins: `first` is the number of the subject's first
 // observation among all, `warm` its warm start, and the sums are those of the subjects before.
+#[tactic(auto, unfolding(crate::specs::Subjects::begin_subject))]
 pub fn begin_subject(
     effects: u32,
     subject: usize,
@@ -231,15 +232,18 @@ pub fn begin_subject(
 // ---- the answers of a step
 
 // No reply is awaited any more.
+#[tactic(auto, unfolding(crate::specs::Subjects::idle, crate::specs::Subjects::with_search))]
 fn idle(progress: Progress) -> Progress
     ensures { result ≡ idle progress }
 {
-    let mut next = progress;
-    next.awaits = false;
-    next
+    Progress {
+        awaits: false,
+        ..progress
+    }
 }
 
 // The end of a step in a refusal that ends the objective: no reply is awaited any more.
+#[tactic(auto, unfolding(crate::specs::Subjects::refused_by))]
 pub fn refused(progress: Progress, tally: Tally, number: u32, place: Place) -> Halted
     ensures { result ≡ refused_by progress tally number place }
 {
@@ -256,7 +260,6 @@ pub fn is_over(step: Step) -> bool
 {
     match step {
         Step::Asked(_, _) => false,
-        Step::Finished(_) => true,
-        Step::Refused(_, _) => true,
+        Step::Finished(_) | Step::Refused(_, _) => true,
     }
 }

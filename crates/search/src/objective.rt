@@ -39,23 +39,18 @@ fn closed_1d(fit: Fit, best: Conditional, rows: u32) -> Option<Mode>
 fn closed_2d(fit: Fit, best: Conditional2, rows: u32) -> Option<Mode>
     ensures { result ≡ closed2 fit best rows }
 {
-    let mode = best.eta;
     let curvature = mode_2d::population_focei_2d::curvature(fit.precision, best.information);
-    match matrix::inverse_positive(curvature) {
-        Some(det_curvature) => {
-            let eta = [best.eta.first, best.eta.second];
-            let precision = matrix::array_of(fit.precision);
-            let term = 2.0 * best.nll - rows as f64 * likelihood::population_focei::LOG_2PI
-                + matrix::dot(eta, matrix::product(precision, eta))
-                + libm::log(fit.det_omega * det_curvature);
-            Some(Mode {
-                eta: mode,
-                nll: best.nll,
-                term,
-            })
-        }
-        None => None,
-    }
+    let det_curvature = matrix::inverse_positive(curvature)?;
+    let eta = [best.eta.first, best.eta.second];
+    let precision = matrix::array_of(fit.precision);
+    let term = 2.0 * best.nll - rows as f64 * likelihood::population_focei::LOG_2PI
+        + matrix::dot(eta, matrix::product(precision, eta))
+        + libm::log(fit.det_omega * det_curvature);
+    Some(Mode {
+        eta: best.eta,
+        nll: best.nll,
+        term,
+    })
 }
 
 // Check 16 of a search's mode, its best point, and what the mode adds to the objective, for a subject of so
@@ -63,13 +58,10 @@ fn closed_2d(fit: Fit, best: Conditional2, rows: u32) -> Option<Mode>
 pub fn closed_by(fit: Fit, progress: Progress, rows: u32) -> Option<Mode>
     ensures { result ≡ closed_by fit progress rows }
 {
-    let search = progress.search;
     if fit.effects == 2 {
-        let own = super::two_of(search);
-        return closed_2d(fit, own.best, rows);
+        return closed_2d(fit, super::two_of(progress.search).best, rows);
     }
-    let own = super::one_of(search);
-    closed_1d(fit, own.best, rows)
+    closed_1d(fit, super::one_of(progress.search).best, rows)
 }
 
 // ---- the objective
@@ -89,12 +81,14 @@ pub fn objective_of(progress: Progress, tally: Tally, ofv: f64, eta_squares: f64
     }
 }
 
+#[tactic(auto, unfolding(crate::specs::Subjects::finished))]
 fn finished(progress: Progress, ofv: f64, eta_squares: f64) -> Progress
     ensures { result ≡ finished progress ofv eta_squares }
 {
-    let mut next = progress;
-    next.awaits = false;
-    next.ofv = ofv;
-    next.eta_squares = eta_squares;
-    next
+    Progress {
+        awaits: false,
+        ofv,
+        eta_squares,
+        ..progress
+    }
 }

@@ -2,20 +2,25 @@
 // effect or two: the point that is wanted, the search afterwards, and from where the blocks of the work words
 // get their rows. By value; each function is defined for all values.
 ghost use Rattle.std.specs.Prelude.{◌≡◌};
-ghost use Rattle.float64.specs.Pick.{pick};
 ghost use Rattle.search.specs.Subjects.{settings, settings2, wanted1, wanted2, wanted_by, conditional1, conditional2, grid_sources};
 ghost use Rattle.search.specs.Subjects.{bracket_sources, sources1, current_source, is_new_best, population_source, sources2, with_search};
 
 use super::{Fit, Progress, SubjectSearch, Wanted};
+use float64::pick;
 use matrix::Pair;
-use mode::population_focei::{Conditional, Request, Search, Settings, Stage};
-use mode_2d::population_focei_2d::{Conditional2, Request2, Search2, Settings2, Stage2};
+use mode::population_focei::{
+    Conditional, Request, Search, Settings, Stage, is_above, is_closer, is_under,
+};
+use mode_2d::population_focei_2d::{
+    Conditional2, Request2, Search2, Settings2, Stage2, is_taken, joint,
+};
 use subject::Sums;
 use work::Sources;
 
 // ---- what the search wants
 
 // The settings of a subject's search with one effect: those of the objective, and the subject's warm start.
+#[tactic(auto, unfolding(crate::specs::Subjects::settings))]
 pub fn settings(fit: Fit, progress: Progress) -> Settings
     ensures { result ≡ settings fit progress }
 {
@@ -28,15 +33,14 @@ pub fn settings(fit: Fit, progress: Progress) -> Settings
 }
 
 // The settings of a subject's search with two effects: those of the objective, and the subject's warm start.
+#[tactic(auto, unfolding(crate::specs::Subjects::settings2))]
 pub fn settings_2d(fit: Fit, progress: Progress) -> Settings2
     ensures { result ≡ settings2 fit progress }
 {
-    let precision = fit.precision;
-    let warm = progress.warm;
     Settings2 {
         eta_bound: fit.eta_bound,
-        precision,
-        warm,
+        precision: fit.precision,
+        warm: progress.warm,
     }
 }
 
@@ -70,17 +74,17 @@ pub fn wanted_2d(settings: Settings2, search: Search2) -> Wanted
 pub fn wanted_by(fit: Fit, progress: Progress) -> Wanted
     ensures { result ≡ wanted_by fit progress }
 {
-    let search = progress.search;
     if fit.effects == 2 {
-        return wanted_2d(settings_2d(fit, progress), super::two_of(search));
+        return wanted_2d(settings_2d(fit, progress), super::two_of(progress.search));
     }
-    wanted_1d(settings(fit, progress), super::one_of(search))
+    wanted_1d(settings(fit, progress), super::one_of(progress.search))
 }
 
 // ---- an evaluated point
 
 // The evaluated point that a search with one effect is given, from the sums of an evaluation at eta. The
 // prior's eta / omega is added to the score here, and never kept.
+#[tactic(auto, unfolding(crate::specs::Subjects::conditional1))]
 pub fn conditional(fit: Fit, eta: Pair, sums: Sums) -> Conditional
     ensures { result ≡ conditional1 fit eta sums }
 {
@@ -93,58 +97,40 @@ pub fn conditional(fit: Fit, eta: Pair, sums: Sums) -> Conditional
 }
 
 // The evaluated point that a search with two effects is given, from the sums of an evaluation at eta.
+#[tactic(auto, unfolding(crate::specs::Subjects::conditional2))]
 pub fn conditional_2d(eta: Pair, sums: Sums) -> Conditional2
     ensures { result ≡ conditional2 eta sums }
 {
-    let score = sums.score;
-    let information = sums.information;
     Conditional2 {
         eta,
         nll: sums.nll,
-        score,
-        information,
+        score: sums.score,
+        information: sums.information,
     }
-}
-
-fn select(test: bool, a: usize, b: usize) -> usize
-    ensures { result ≡ pick test a b }
-{
-    if test {
-        return a;
-    }
-    b
 }
 
 // One effect, on the grid: the ninth point is eta zero. The best is the closer end of the latest upward cell,
 // as the search will have it once the grid is whole.
+#[tactic(auto, unfolding(crate::specs::Subjects::grid_sources))]
 fn grid_sources(search: Search, c: Conditional) -> Sources
     ensures { result ≡ grid_sources search c }
 {
-    let latest = search.latest;
-    let closer = select(
-        mode::population_focei::is_closer(latest, c),
-        work::LATEST,
-        work::TRIAL,
-    );
-    let rising = select(mode::population_focei::is_above(c), closer, work::BEST);
+    let closer = pick(is_closer(search.latest, c), work::LATEST, work::TRIAL);
+    let rising = pick(is_above(c), closer, work::BEST);
     Sources {
-        population: select(search.count == 8, work::TRIAL, work::POPULATION),
-        best: select(mode::population_focei::is_under(latest), rising, work::BEST),
+        population: pick(search.count == 8, work::TRIAL, work::POPULATION),
+        best: pick(is_under(search.latest), rising, work::BEST),
         latest: work::TRIAL,
     }
 }
 
+#[tactic(auto, unfolding(crate::specs::Subjects::bracket_sources))]
 fn bracket_sources(search: Search, c: Conditional) -> Sources
     ensures { result ≡ bracket_sources search c }
 {
-    let best = search.best;
     Sources {
         population: work::POPULATION,
-        best: select(
-            mode::population_focei::is_closer(c, best),
-            work::TRIAL,
-            work::BEST,
-        ),
+        best: pick(is_closer(c, search.best), work::TRIAL, work::BEST),
         latest: work::LATEST,
     }
 }
@@ -154,12 +140,9 @@ fn bracket_sources(search: Search, c: Conditional) -> Sources
 pub fn sources(search: Search, c: Conditional) -> Sources
     ensures { result ≡ sources1 search c }
 {
-    let stage = search.stage;
-    match stage {
+    match search.stage {
         Stage::Grid => grid_sources(search, c),
-        Stage::Warm => bracket_sources(search, c),
-        Stage::Secant => bracket_sources(search, c),
-        Stage::Halving => bracket_sources(search, c),
+        Stage::Warm | Stage::Secant | Stage::Halving => bracket_sources(search, c),
     }
 }
 
@@ -167,16 +150,10 @@ pub fn sources(search: Search, c: Conditional) -> Sources
 fn current_source(settings: Settings2, search: Search2, c: Conditional2) -> usize
     ensures { result ≡ current_source settings search c }
 {
-    let stage = search.stage;
-    match stage {
-        Stage2::Zero => work::LATEST,
+    match search.stage {
         Stage2::Start => work::TRIAL,
-        Stage2::Trial => {
-            let taken = mode_2d::population_focei_2d::is_taken(settings, search, c);
-            select(taken, work::TRIAL, work::LATEST)
-        }
-        Stage2::Found => work::LATEST,
-        Stage2::Halted(_) => work::LATEST,
+        Stage2::Trial => pick(is_taken(settings, search, c), work::TRIAL, work::LATEST),
+        Stage2::Zero | Stage2::Found | Stage2::Halted(_) => work::LATEST,
     }
 }
 
@@ -185,56 +162,41 @@ fn current_source(settings: Settings2, search: Search2, c: Conditional2) -> usiz
 fn is_new_best(settings: Settings2, search: Search2, after: Search2) -> bool
     ensures { result ≡ is_new_best settings search after }
 {
-    if search.seed < after.seed {
-        if search.seed == 0 {
-            return true;
-        }
-        let candidate = mode_2d::population_focei_2d::joint(settings, after.current);
-        return candidate < mode_2d::population_focei_2d::joint(settings, search.best);
-    }
-    false
+    search.seed < after.seed
+        && (search.seed == 0 || joint(settings, after.current) < joint(settings, search.best))
 }
 
 fn population_source(search: Search2) -> usize
     ensures { result ≡ population_source search }
 {
-    let stage = search.stage;
-    match stage {
+    match search.stage {
         Stage2::Zero => work::TRIAL,
-        Stage2::Start => work::POPULATION,
-        Stage2::Trial => work::POPULATION,
-        Stage2::Found => work::POPULATION,
-        Stage2::Halted(_) => work::POPULATION,
+        Stage2::Start | Stage2::Trial | Stage2::Found | Stage2::Halted(_) => work::POPULATION,
     }
 }
 
 // With two effects: from where the blocks of the work words get their rows, as the point c makes `after` of
 // `search`.
+#[tactic(auto, unfolding(crate::specs::Subjects::sources2))]
 pub fn sources_2d(settings: Settings2, search: Search2, after: Search2, c: Conditional2) -> Sources
     ensures { result ≡ sources2 settings search after c }
 {
     let latest = current_source(settings, search, c);
     Sources {
         population: population_source(search),
-        best: select(is_new_best(settings, search, after), latest, work::BEST),
+        best: pick(is_new_best(settings, search, after), latest, work::BEST),
         latest,
     }
 }
 
 // The objective with this search; no reply is awaited any more.
+#[tactic(auto, unfolding(crate::specs::Subjects::with_search))]
 pub fn with_search(progress: Progress, search: SubjectSearch) -> Progress
     ensures { result ≡ with_search progress search }
 {
-    let individual = progress.individual;
-    let warm = progress.warm;
     Progress {
         awaits: false,
-        individual,
-        subject: progress.subject,
-        first: progress.first,
-        warm,
         search,
-        ofv: progress.ofv,
-        eta_squares: progress.eta_squares,
+        ..progress
     }
 }

@@ -16,16 +16,11 @@ use subject::Sums;
 fn key_1d(fit: Fit, subject: usize, eta: Pair) -> CacheKey
     ensures { result ≡ key1 fit subject eta }
 {
-    let additive_sd = fit.additive_sd;
-    let mut has_additive = 0;
-    let mut additive = 0;
-    match additive_sd {
-        None => {}
-        Some(sd) => {
-            has_additive = 1;
-            additive = float64::to_word(sd);
-        }
-    }
+    // two words and not an `Option`, since a key is compared and hashed by its words
+    let (has_additive, additive) = match fit.additive_sd {
+        Some(sd) => (1, float64::to_word(sd)),
+        None => (0, 0),
+    };
     CacheKey {
         subject: subject as u64,
         theta0: float64::to_word(fit.theta.first),
@@ -37,16 +32,16 @@ fn key_1d(fit: Fit, subject: usize, eta: Pair) -> CacheKey
     }
 }
 
+#[tactic(auto, unfolding(crate::specs::Subjects::key2))]
 fn key_2d(fit: Fit, subject: usize, eta: Pair) -> CacheKey
     ensures { result ≡ key2 fit subject eta }
 {
-    let eta1 = float64::to_word(eta.second);
     CacheKey {
         subject: subject as u64,
         theta0: float64::to_word(fit.theta.first),
         theta1: float64::to_word(fit.theta.second),
         eta0: float64::to_word(eta.first),
-        eta1,
+        eta1: float64::to_word(eta.second),
         has_additive: 0,
         additive: 0,
     }
@@ -64,7 +59,9 @@ pub fn key_of(fit: Fit, subject: usize, eta: Pair) -> CacheKey
     key_1d(fit, subject, eta)
 }
 
-// The sums of a kept evaluation, from its words.
+// The sums of a kept evaluation, from its words. It and `terms_of` are functions and not `From`, since both
+// types are of other crates.
+#[tactic(auto, unfolding(crate::specs::Subjects::sums_of))]
 pub fn sums_of(terms: CachedTerms) -> Sums
     ensures { result ≡ sums_of terms }
 {
@@ -85,6 +82,7 @@ pub fn sums_of(terms: CachedTerms) -> Sums
 }
 
 // The words that are kept of an evaluation's sums.
+#[tactic(auto, unfolding(crate::specs::Subjects::terms_of))]
 pub fn terms_of(sums: Sums) -> CachedTerms
     ensures { result ≡ terms_of sums }
 {
@@ -101,24 +99,26 @@ pub fn terms_of(sums: Sums) -> CachedTerms
 
 // ---- the question
 
+#[tactic(auto, unfolding(crate::specs::Subjects::awaiting))]
 fn awaiting(progress: Progress, individual: Pair) -> Progress
     ensures { result ≡ awaiting progress individual }
 {
-    let mut next = progress;
-    next.awaits = true;
-    next.individual = individual;
-    next
+    Progress {
+        awaits: true,
+        individual,
+        ..progress
+    }
 }
 
 // The tally with one evaluation more.
+#[tactic(auto, unfolding(crate::specs::Subjects::counted))]
 fn counted(tally: Tally) -> Tally
     requires { tally.calls.0 < 4294967295 }
     ensures { result ≡ counted tally }
 {
-    let cached_rows = tally.cached_rows;
     Tally {
         calls: Calls(tally.calls.0 + 1),
-        cached_rows,
+        ..tally
     }
 }
 
@@ -130,18 +130,14 @@ pub fn ask(fit: Fit, progress: Progress, tally: Tally, eta: Pair) -> Halted
     let subject = Place::Subject(progress.subject);
     if tally.calls.0 < fit.max_evaluations {
         let raised = counted(tally);
-        match subject::individual_values(fit.theta, eta, fit.effects) {
-            Some(individual) => {
-                return Halted {
-                    progress: awaiting(progress, individual),
-                    tally: raised,
-                    step: Step::Asked(eta, individual),
-                };
-            }
-            None => {
-                return super::refused(progress, raised, 7, subject);
-            }
-        }
+        let Some(individual) = subject::individual_values(fit.theta, eta, fit.effects) else {
+            return super::refused(progress, raised, 7, subject);
+        };
+        return Halted {
+            progress: awaiting(progress, individual),
+            tally: raised,
+            step: Step::Asked(eta, individual),
+        };
     }
     super::refused(progress, tally, 6, subject)
 }

@@ -1,4 +1,5 @@
 -- `sources` meets its contract: each stage by its law. Assumes nothing.
+use Rattle.std.proofs.Common.{inl, inr}
 use Rattle.search.specs.Subjects.{sources_at}
 use Rattle.search.proofs.PointsPaths.{sources_at_lem}
 use Rattle.search.proofs.points.sources.Goals as goal
@@ -9,12 +10,9 @@ returns-in-Grid c = sources_at_lem _ _ c.in-Grid.is c.grid_sources.ensures
 
 pub returns-in-Warm : goal.returns-in-Warm
 unfolding sources_at
-returns-in-Warm c = sources_at_lem _ _ c.in-Warm.is c.bracket_sources.ensures
-
-pub returns-in-Secant : goal.returns-in-Secant
-unfolding sources_at
-returns-in-Secant c = sources_at_lem _ _ c.in-Secant.is c.bracket_sources-in-Secant.ensures
-
-pub returns-in-Halving : goal.returns-in-Halving
-unfolding sources_at
-returns-in-Halving c = sources_at_lem _ _ c.in-Halving.is c.bracket_sources-in-Halving.ensures
+returns-in-Warm c =
+    elim c.in-Warm.is [
+      | inl t ↦ sources_at_lem _ _ t c.bracket_sources.ensures
+      | inr (inl t) ↦ sources_at_lem _ _ t c.bracket_sources.ensures
+      | inr (inr t) ↦ sources_at_lem _ _ t c.bracket_sources.ensures
+    ]

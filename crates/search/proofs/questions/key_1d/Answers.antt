@@ -5,9 +5,9 @@ use Rattle.search.proofs.questions.key_1d.Goals.{in-None, in-Some}
 
 pub returns : goal.returns
 returns c =
-    let theta = c.to_word.ensures in
-    let eta = c.to_word-2.ensures in
-    elim c.match-additive_sd.branch [
-      | in-None w ↦ own_key _ _ _ theta eta w.in-None.is w.has_additive-is w.additive-is
-      | in-Some w ↦ override_key _ _ _ theta eta w.in-Some.is w.to_word-additive.ensures w.has_additive-is w.additive-is
+    let theta = c.to_word-2.ensures in
+    let eta = c.to_word-3.ensures in
+    elim c.match-fit.branch [
+      | in-None w ↦ own_key _ _ _ theta eta w.in-None.is w.has_additive-is
+      | in-Some w ↦ override_key _ _ _ theta eta w.in-Some.is w.to_word.ensures w.has_additive-is
     ]
