@@ -106,8 +106,8 @@ module _ (w : List ℕ) (width : ℕ) (counts : List ℕ) where
   abbrev pub checked_from : ℕ → ℕ → Check → Check
   checked_from n i check = check_observations width counts (observations_from n i w) check
 
-  pub check_first : (n : ℕ) → checked_from (n - 0) 0 first_check ≡ checked_from n 0 first_check
-  check_first n = ap (λ (m : ℕ). checked_from m 0 first_check) (all n)
+  pub check_first : {f : Check} (n : ℕ) → f ≡ first_check → checked_from (n - 0) 0 f ≡ checked_from n 0 first_check
+  check_first n e = λ d. checked_from (all n d) 0 (e d)
 
   pub check_next : {o : Observation} {check' : Check} (n i : ℕ) (check : Check) → i < n → o ≡ observation_in w i → check' ≡ check_observation width counts o check → checked_from (n - (i + 1)) (i + 1)
       check' ≡ checked_from (n - i) i check

@@ -17,17 +17,11 @@ use likelihood::population_focei::Observation;
 use search::Tally;
 use session::{Begun, Called, State};
 use setup::{Parameters, Setup};
-use subject::{Check, Evaluation, Position, Trial};
+use subject::{Check, Evaluation, Trial};
 use words::smaller;
 
 // The words of an observation.
 pub const OBSERVATION_WORDS: usize = 5;
-
-fn number(word: u64) -> usize
-    ensures { result ≡ word }
-{
-    word as usize
-}
 
 fn float_at(words: &[u64], i: usize) -> f64
     ensures { result ≡ word (get_or words.now i 0) }
@@ -57,8 +51,8 @@ pub fn observation_at(words: &[u64], i: usize) -> Observation
     }
     let at = OBSERVATION_WORDS * i;
     Observation {
-        output: number(words::read(words, at)),
-        row: number(words::read(words, at + 1)),
+        output: words::read(words, at) as usize,
+        row: words::read(words, at + 1) as usize,
         value: float_at(words, at + 2),
         additive: float_at(words, at + 3),
         proportional: float_at(words, at + 4),
@@ -71,15 +65,10 @@ pub fn check_words(words: &[u64], width: u32, counts: &[u64]) -> Check
     ensures { result ≡ check_observations width counts.now (observations_of words.now) first_check }
 {
     let n = count_of(words);
-    let mut check = Ok(Position {
-        subject: 0,
-        observation: 0,
-    });
-    let mut i = 0;
-    while i < n {
+    let mut check = subject::checks::first_check();
+    for i in 0..n {
         let observation = observation_at(words, i);
         check = subject::checks::check_observation(check, observation, width, counts);
-        i += 1;
     }
     check
 }
@@ -101,11 +90,9 @@ pub fn add_words(
 {
     let end = smaller(to, count_of(words));
     let mut sums = evaluation;
-    let mut i = from;
-    while i < end {
+    for i in from..end {
         let observation = observation_at(words, i);
         sums = subject::rows::add_observation(sums, observation, trial, reply, work);
-        i += 1;
     }
     sums
 }
@@ -178,14 +165,12 @@ pub fn reply(
     let n = count_of(observations);
     let lent = session::lent_by(n, cache, work, warm, results);
     let admitted = session::checks::admit_reply(setup, state, tally, check, lent, counts, reply);
-    let begun = admitted.evaluation;
-    let trial = admitted.trial;
     let evaluation = add_words(
         observations,
         admitted.from,
         admitted.to,
-        begun,
-        trial,
+        admitted.evaluation,
+        admitted.trial,
         reply,
         work,
     );

@@ -1,5 +1,5 @@
 -- The ways through the code: one law for each, over plain variables. Assumes nothing.
-use Rattle.std.specs.Prelude.{Err, None, Ok}
+use Rattle.std.specs.Prelude.{Err, None, Ok, Some}
 use mathlib.Core.Path.{◌≡◌, refl, sym, ap, ◌∙◌}
 use mathlib.Core.Bool.{Bool}
 use mathlib.Core.List.{List}
@@ -8,7 +8,6 @@ use lib.ListN.{length}
 use Rattle.float64.specs.Pick.{pick, pick_through}
 use Rattle.matrix.specs.declared.Pair.{Pair}
 use Rattle.subject.specs.Subject.{finish, Evaluation}
-use Rattle.subject.specs.declared.Position.{Position}
 use Rattle.subject.specs.declared.Sums.{Sums}
 use Rattle.words.specs.Words.{zeros}
 use Rattle.setup.specs.Admission.{checks, with_parameters, Admission}
@@ -43,7 +42,10 @@ use Rattle.session.specs.declared.Awaited.{Awaited}
 use Rattle.session.specs.declared.Called.{Called}
 use Rattle.session.specs.declared.State.{State}
 use Rattle.subject.specs.declared.EvaluationError.TheVariants as E
+use Rattle.setup.specs.declared.AdmissionError.{AdmissionError}
 use Rattle.setup.specs.declared.AdmissionError.TheVariants as A
+use Rattle.session.specs.declared.Refusal.{Refusal}
+use Rattle.session_calls.specs.Refusals.{refusal_of}
 use Rattle.subject.specs.Observations.{Check}
 
 -- the loop as the code's step has it
@@ -75,17 +77,26 @@ module _ (setup : Setup) (counts : List ℕ) (n : ℕ) (check : Check) (tally : 
   unfolding opening
   setup_opens t ec ew em es = opening_by t (λ i. begun_with (record { opening = Ok (es i); tally = no_tally }) (ec i) (ew i) (em i))
 
-  pub setup_refused : {number : ℕ} → a ≡ Err (A.Refused number) → Set (begun_with (record { opening = Err (record { number = number; place = At.Nowhere }); tally = tally }) cache work warm)
-  unfolding opening
-  setup_refused t = opening_by t refl
+  refused_opening : (error : AdmissionError) → begun_with (record { opening = Err (refusal_of error); tally = tally }) cache work warm
+      ≡ opening setup counts (lent_by n (length cache) (length work) (length warm) (length results)) tally cache work warm results (Err error)
+  unfolding opening refusal_of
+  refused_opening (A.Refused number) = refl
+  refused_opening (A.Unsound at) = refl
 
-  pub setup_unsound : {at : Position} → a ≡ Err (A.Unsound at) → Set (begun_with (record { opening = Err (record { number = 4; place = At.Observation at.subject at.observation }); tally = tally }) cache work warm)
-  unfolding opening
-  setup_unsound t = opening_by t refl
+  pub setup_refused : {error : AdmissionError} {r : Refusal} → a ≡ Err error → r ≡ refusal_of error → Set (begun_with (record { opening = Err r; tally = tally }) cache work warm)
+  setup_refused {error} t e =
+      opening_by t (ap (λ (r : Refusal). begun_with (record { opening = Err r; tally = tally }) cache work warm) e ∙ refused_opening error)
 
 -- ---- what goes into both cases goes into the one picked
 through_pick : {X Y : Type 0} (f : X → Y) (b : Bool) (x y : X) → pick b (f x) (f y) ≡ f (pick b x y)
 through_pick f b x y = sym (pick_through f b (λ _. refl) refl)
+
+-- a refusal of the checks, before anything is altered
+refused_onward : (f : Held words → Ran (Held words) Step) (h : Held words) (go : Moved (Held words) Step) (error : AdmissionError)
+    → ran (Refused (refusal_of error).number (refusal_of error).place) h ≡ onward (when_admitted words h go (Err error)) f
+unfolding when_admitted onward refusal_of
+refused_onward f h go (A.Refused number) = refl
+refused_onward f h go (A.Unsound at) = refl
 
 -- ---- what is let in goes on, and what is not is refused: go is what the call does, a what let it in, or not, and f the loop
 module _ (f : Held words → Ran (Held words) Step) (h : Held words) (go : Moved (Held words) Step) {a : Admission} {m : Moved (Held words) Step} (em : m ≡ when_admitted words h go a) where
@@ -96,13 +107,8 @@ module _ (f : Held words → Ran (Held words) Step) (h : Held words) (go : Moved
   unfolding when_admitted
   lets_in t q = admitted_by t q
 
-  pub keeps_out : {number : ℕ} → a ≡ Err (A.Refused number) → ran (Refused number At.Nowhere) h ≡ onward m f
-  unfolding when_admitted onward
-  keeps_out t = admitted_by t refl
-
-  pub unsound_out : {at : Position} → a ≡ Err (A.Unsound at) → ran (Refused 4 (At.Observation at.subject at.observation)) h ≡ onward m f
-  unfolding when_admitted onward
-  unsound_out t = admitted_by t refl
+  pub keeps_out : {error : AdmissionError} → a ≡ Err error → ran (Refused (refusal_of error).number (refusal_of error).place) h ≡ onward m f
+  keeps_out {error} t = admitted_by t (refused_onward f h go error)
 
 -- a refusal that alters nothing, as the code makes it
 pub refused_called : (state : State) (tally : Tally) (number : ℕ) (place : Place) (cache work warm results : List ℕ) {r : Called} {z : Ran

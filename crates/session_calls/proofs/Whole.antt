@@ -65,7 +65,7 @@ is_accepted (Err (A.Unsound at)) = false
 never : {X : Type 0} → false ≡ true → X
 never e = absurd (subst T (sym e) tt)
 
-refused_never : {X : Type 0} (n : ℕ) → Err (A.Refused n) ≡ (Ok tt) → X
+refused_never : {X : Type 0} (n : ℕ) → ◌≡◌ {A = Admission} (Err (A.Refused n)) (Ok tt) → X
 unfolding is_accepted
 refused_never n e = never (ap is_accepted e)
 

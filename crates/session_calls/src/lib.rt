@@ -10,11 +10,13 @@ ghost use Rattle.words.specs.Words.{zeros};
 ghost use Rattle.population.specs.Kept.{cache_of, words};
 ghost use Rattle.population.specs.Steps.{whole_from};
 ghost use Rattle.session.specs.Session.{held, enter_objective, enter_failure};
-ghost use Rattle.session.specs.Calls.{called, run_in, ended_as, held_of, entered, begun_with, opened_by, followed, finish_reply};
+ghost use Rattle.session_calls.specs.Refusals.{refusal_of};
+ghost use Rattle.session.specs.Calls.{called, run_in, refused_as, ended_as, held_of, entered};
+ghost use Rattle.session.specs.Calls.{begun_with, opened_by, followed, finish_reply};
 
-use population::kept_points::Evaluated;
 use matrix::Pair;
 use mode_2d::population_focei_2d::CEILING;
+use population::kept_points::Evaluated;
 use search::{CachedRows, Calls, Fit, Place, Tally};
 use session::{Admitted, Begun, Called, Refusal, State};
 use setup::{AdmissionError, Parameters, Setup};
@@ -43,23 +45,26 @@ pub fn run(
         (whole_from fit counts.now hand state.progress tally (cache_of cache.now state.order)
         work.old warm.old results.old)) }
 {
-    let parameters = state.parameters;
-    let progress = state.progress;
-    let order = state.order;
     let halted = population::steps::requests(
-        fit, counts, order, progress, hand, tally, FUEL, cache, work, warm, results,
+        fit,
+        counts,
+        state.order,
+        state.progress,
+        hand,
+        tally,
+        FUEL,
+        cache,
+        work,
+        warm,
+        results,
     );
-    let reached = halted.progress;
-    let counted = halted.tally;
-    let step = halted.step;
     Called {
         state: State {
-            parameters,
-            progress: reached,
-            order,
+            progress: halted.progress,
+            ..state
         },
-        tally: counted,
-        step,
+        tally: halted.tally,
+        step: halted.step,
     }
 }
 
@@ -67,22 +72,43 @@ pub fn run(
 pub fn ended_as(state: State, tally: Tally, number: u32, place: Place, work: &mut [u64]) -> Called
     ensures { (result ≡ ended_as state tally number place) × (work.new ≡ zeros (length work.old)) }
 {
-    let parameters = state.parameters;
-    let progress = state.progress;
-    let order = state.order;
     words::clear(work);
-    let halted = search::refused(progress, tally, number, place);
-    let idle = halted.progress;
-    let step = halted.step;
+    let halted = search::refused(state.progress, tally, number, place);
     Called {
         state: State {
-            parameters,
-            progress: idle,
-            order,
+            progress: halted.progress,
+            ..state
         },
         tally,
-        step,
+        step: halted.step,
     }
+}
+
+// ---- refusals that alter nothing
+
+// What the answer says of a refusal of the checks: document 01's number, and with 4 the observation's place.
+#[tactic(auto, unfolding(crate::specs::Refusals::refusal_of))]
+fn refusal_of(error: AdmissionError) -> Refusal
+    ensures { result ≡ refusal_of error }
+{
+    match error {
+        AdmissionError::Refused(number) => Refusal {
+            number,
+            place: Place::Nowhere,
+        },
+        AdmissionError::Unsound(at) => Refusal {
+            number: 4,
+            place: Place::Observation(at.subject, at.observation),
+        },
+    }
+}
+
+// What a call gives back that the checks refuse: state and tally as they were.
+fn kept_out(state: State, tally: Tally, error: AdmissionError) -> Called
+    ensures { result ≡ refused_as state tally (refusal_of error).number (refusal_of error).place }
+{
+    let refusal = refusal_of(error);
+    session::refused_as(state, tally, refusal.number, refusal.place)
 }
 
 // ---- setup
@@ -118,18 +144,8 @@ pub fn open(
                 },
             }
         }
-        Err(AdmissionError::Refused(number)) => Begun {
-            opening: Err(Refusal {
-                number,
-                place: Place::Nowhere,
-            }),
-            tally,
-        },
-        Err(AdmissionError::Unsound(at)) => Begun {
-            opening: Err(Refusal {
-                number: 4,
-                place: Place::Observation(at.subject, at.observation),
-            }),
+        Err(error) => Begun {
+            opening: Err(refusal_of(error)),
             tally,
         },
     }
@@ -163,16 +179,9 @@ pub fn begin_objective(
             let own = setup::with_parameters(setup, parameters);
             let fit = search::fit_of(own, parameters.theta);
             let here = session::start_of(parameters, warm, setup.effects, state.order);
-            let hand = None;
-            run(fit, here, hand, tally, counts, cache, work, warm, results)
+            run(fit, here, None, tally, counts, cache, work, warm, results)
         }
-        Err(AdmissionError::Refused(number)) => session::refused_as(state, tally, number, Place::Nowhere),
-        Err(AdmissionError::Unsound(at)) => session::refused_as(
-            state,
-            tally,
-            4,
-            Place::Observation(at.subject, at.observation),
-        ),
+        Err(error) => kept_out(state, tally, error),
     }
 }
 
@@ -198,19 +207,15 @@ pub fn fail(
 {
     let lent = session::lent_by(observations, cache, work, warm, results);
     let awaited = session::checks::admit_awaited(setup, state, tally, check, lent, counts);
-    let admission = awaited.admission;
-    match admission {
-        Ok(()) => {
-            let progress = state.progress;
-            ended_as(state, tally, 8, Place::Subject(progress.subject), work)
-        }
-        Err(AdmissionError::Refused(number)) => session::refused_as(state, tally, number, Place::Nowhere),
-        Err(AdmissionError::Unsound(at)) => session::refused_as(
+    match awaited.admission {
+        Ok(()) => ended_as(
             state,
             tally,
-            4,
-            Place::Observation(at.subject, at.observation),
+            8,
+            Place::Subject(state.progress.subject),
+            work,
         ),
+        Err(error) => kept_out(state, tally, error),
     }
 }
 
@@ -237,24 +242,28 @@ fn follow(
         ≡ followed fit counts.now eta evaluation
         (held_of state tally cache.old work.old warm.old results.old) }
 {
-    let parameters = state.parameters;
-    let progress = state.progress;
-    let order = state.order;
-    let subject = progress.subject;
+    let subject = state.progress.subject;
     match subject::finish(evaluation) {
         Ok(sums) => {
             let kept = population::answers::keep(
-                fit, counts, order, subject, tally, eta, sums, cache, work,
+                fit,
+                counts,
+                state.order,
+                subject,
+                tally,
+                eta,
+                sums,
+                cache,
+                work,
             );
-            let order = kept.order;
-            let tally = kept.tally;
             let next = State {
-                parameters,
-                progress,
-                order,
+                order: kept.order,
+                ..state
             };
             let hand = Some(Evaluated { eta, sums });
-            run(fit, next, hand, tally, counts, cache, work, warm, results)
+            run(
+                fit, next, hand, kept.tally, counts, cache, work, warm, results,
+            )
         }
         Err(EvaluationError::Refused(number)) => {
             ended_as(state, tally, number, Place::Subject(subject), work)
@@ -285,19 +294,19 @@ pub fn finish_reply(
         (held_of state tally cache.old work.old warm.old results.old) }
 {
     let awaited = admitted.awaited;
-    let admission = awaited.admission;
-    let eta = awaited.eta;
-    let fit = awaited.fit;
-    match admission {
+    match awaited.admission {
         Ok(()) => follow(
-            fit, state, tally, eta, evaluation, counts, cache, work, warm, results,
-        ),
-        Err(AdmissionError::Refused(number)) => session::refused_as(state, tally, number, Place::Nowhere),
-        Err(AdmissionError::Unsound(at)) => session::refused_as(
+            awaited.fit,
             state,
             tally,
-            4,
-            Place::Observation(at.subject, at.observation),
+            awaited.eta,
+            evaluation,
+            counts,
+            cache,
+            work,
+            warm,
+            results,
         ),
+        Err(error) => kept_out(state, tally, error),
     }
 }

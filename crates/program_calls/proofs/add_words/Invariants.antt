@@ -8,6 +8,3 @@ use Rattle.program_calls.proofs.add_words.Given as goal
 
 abbrev pub invariant-loop-i : goal.invariant-loop-i
 invariant-loop-i l = (added_from l.words l.trial l.reply (l.end - l.i) l.i (evaluating l.sums l.work) ≡ added_from l.words l.trial l.reply (l.end - l.initial.i) l.initial.i (evaluating l.initial.sums l.initial.work)) × (length l.work ≡ length l.initial.work)
-
-abbrev pub decreases-loop-i : goal.decreases-loop-i
-decreases-loop-i l = l.end - l.i

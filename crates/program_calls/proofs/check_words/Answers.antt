@@ -4,7 +4,7 @@ use Rattle.program_calls.proofs.Paths.{check_first, check_next, check_end, check
 use Rattle.program_calls.proofs.check_words.Goals as goal
 
 pub loop-i-init : goal.loop-i-init
-loop-i-init c = check_first _ _ _ _
+loop-i-init c = check_first _ _ _ _ c.first_check-check.ensures
 
 pub loop-i-preserved : goal.loop-i-preserved
 loop-i-preserved c = check_next _ _ _ _ _ _ c.loop-i-test.true c.observation_at-observation.ensures c.check_observation-check.ensures ∙ c.loop-i.invariant

@@ -7,6 +7,3 @@ use Rattle.program_calls.proofs.check_words.Given as goal
 
 abbrev pub invariant-loop-i : goal.invariant-loop-i
 invariant-loop-i l = checked_from l.words l.width l.counts (l.n - l.i) l.i l.check ≡ checked_from l.words l.width l.counts l.n 0 first_check
-
-abbrev pub decreases-loop-i : goal.decreases-loop-i
-decreases-loop-i l = l.n - l.i

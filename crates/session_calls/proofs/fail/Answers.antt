@@ -3,7 +3,7 @@ use Rattle.search.specs.declared.Place.TheVariants.{Subject}
 use Rattle.population.specs.Kept.{words}
 use Rattle.session.specs.Calls.{held_of, run}
 use Rattle.session.specs.Session.{over}
-use Rattle.session_calls.proofs.Paths.{refused_called, ended_called, lets_in, keeps_out, unsound_out, failure_enters}
+use Rattle.session_calls.proofs.Paths.{refused_called, ended_called, lets_in, keeps_out, failure_enters}
 use Rattle.session_calls.proofs.fail.Goals as goal
 
 pub returns-in-Ok : goal.returns-in-Ok
@@ -17,20 +17,11 @@ returns-in-Ok c =
     (ended_called _ c.args.state c.args.tally 8 (Subject c.args.state.progress.subject) c.args.cache.now c.args.work.now c.args.warm.now
     c.args.results.now e.0 e.1)
 
-pub returns-in-Err-Refused : goal.returns-in-Err-Refused
-returns-in-Err-Refused c =
+pub returns-in-Err : goal.returns-in-Err
+returns-in-Err c =
     let h = held_of c.args.state c.args.tally c.args.cache.now c.args.work.now c.args.warm.now c.args.results.now in
-    refused_called c.args.state c.args.tally _ _ c.args.cache.now c.args.work.now c.args.warm.now c.args.results.now c.refused_as.ensures
+    refused_called c.args.state c.args.tally _ _ c.args.cache.now c.args.work.now c.args.warm.now c.args.results.now c.kept_out.ensures
     (keeps_out (λ x. run c.args.setup c.args.counts.now x) h (over words 8 (Subject c.args.state.progress.subject) h)
     (failure_enters c.args.setup c.args.counts.now c.args.observations c.args.check c.args.state c.args.tally c.args.cache.now c.args.work.now
     c.args.warm.now c.args.results.now
-    c.lent_by-lent.ensures c.admit_awaited-awaited.ensures) c.in-Err-Refused.is)
-
-pub returns-in-Err-Unsound : goal.returns-in-Err-Unsound
-returns-in-Err-Unsound c =
-    let h = held_of c.args.state c.args.tally c.args.cache.now c.args.work.now c.args.warm.now c.args.results.now in
-    refused_called c.args.state c.args.tally _ _ c.args.cache.now c.args.work.now c.args.warm.now c.args.results.now c.refused_as-in-Err-Unsound.ensures
-    (unsound_out (λ x. run c.args.setup c.args.counts.now x) h (over words 8 (Subject c.args.state.progress.subject) h)
-    (failure_enters c.args.setup c.args.counts.now c.args.observations c.args.check c.args.state c.args.tally c.args.cache.now c.args.work.now
-    c.args.warm.now c.args.results.now
-    c.lent_by-lent.ensures c.admit_awaited-awaited.ensures) c.in-Err-Unsound.is)
+    c.lent_by-lent.ensures c.admit_awaited-awaited.ensures) c.in-Err.is)

@@ -1,7 +1,7 @@
 -- `finish_reply` meets its contract: each case by its law. Assumes nothing.
 use Rattle.std.proofs.Common.{refl, ◌∙◌}
 use Rattle.session.specs.Calls.{held_of}
-use Rattle.session_calls.proofs.Paths.{refused_called, keeps_out, unsound_out, finish_enters, finish_follows}
+use Rattle.session_calls.proofs.Paths.{refused_called, keeps_out, finish_enters, finish_follows}
 use Rattle.session_calls.proofs.finish_reply.Goals as goal
 
 pub returns-in-Ok : goal.returns-in-Ok
@@ -9,14 +9,8 @@ returns-in-Ok c =
     finish_follows c.args.counts.now c.args.admitted.awaited c.args.evaluation (held_of c.args.state c.args.tally c.args.cache.now c.args.work.now
     c.args.warm.now c.args.results.now) c.in-Ok.is c.follow.ensures
 
-pub returns-in-Err-Refused : goal.returns-in-Err-Refused
-returns-in-Err-Refused c =
+pub returns-in-Err : goal.returns-in-Err
+returns-in-Err c =
     let h = held_of c.args.state c.args.tally c.args.cache.now c.args.work.now c.args.warm.now c.args.results.now in
-    refused_called c.args.state c.args.tally _ _ c.args.cache.now c.args.work.now c.args.warm.now c.args.results.now c.refused_as.ensures
-    (keeps_out _ h _ refl c.in-Err-Refused.is ∙ finish_enters c.args.counts.now c.args.admitted.awaited c.args.evaluation h)
-
-pub returns-in-Err-Unsound : goal.returns-in-Err-Unsound
-returns-in-Err-Unsound c =
-    let h = held_of c.args.state c.args.tally c.args.cache.now c.args.work.now c.args.warm.now c.args.results.now in
-    refused_called c.args.state c.args.tally _ _ c.args.cache.now c.args.work.now c.args.warm.now c.args.results.now c.refused_as-in-Err-Unsound.ensures
-    (unsound_out _ h _ refl c.in-Err-Unsound.is ∙ finish_enters c.args.counts.now c.args.admitted.awaited c.args.evaluation h)
+    refused_called c.args.state c.args.tally _ _ c.args.cache.now c.args.work.now c.args.warm.now c.args.results.now c.kept_out.ensures
+    (keeps_out _ h _ refl c.in-Err.is ∙ finish_enters c.args.counts.now c.args.admitted.awaited c.args.evaluation h)
