@@ -114,7 +114,7 @@ module _ (input counts observations cache work warm results : List ℕ) (t : Wri
       ap (when_opened input counts observations results (begun_with b cache₁ work₁ warm₁)) (sym f)
       ∙ ap (λ (s : Setting). when_opened input counts observations results s s.begun.opening) setting
 
-  pub not_opened : {number : ℕ} {place : Place} {t' : Written} → b.opening ≡ Err (record { number = number; place = place }) → t' ≡ write (refusal_line number place) t → t' ≡ write
+  pub not_opened : {e : Refusal} {t' : Written} → b.opening ≡ Err e → t' ≡ write (refusal_line e.number e.place) t → t' ≡ write
       (fitted input counts observations cache work warm results) t
   unfolding when_opened
   not_opened f g = g ∙ ap (λ (l : List ℕ). write l t) (opened_as _ f)

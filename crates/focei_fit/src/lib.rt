@@ -10,7 +10,7 @@ ghost use Rattle.focei_fit.specs.Output.{output, input_bytes, printed};
 
 use matrix::Pair;
 use search::{CachedRows, Calls, Place, Step, Tally};
-use session::{Called, Refusal, State};
+use session::{Called, State};
 use setup::{Parameters, Setup};
 
 // The evaluations of a session, and the most questions that are answered: each question raises them.
@@ -245,7 +245,7 @@ fn fit(
             );
             told(last, counts, results, out)
         }
-        Err(Refusal { number, place }) => focei_text::refused(out, 0, number, place),
+        Err(refusal) => focei_text::refused(out, 0, refusal.number, refusal.place),
     }
 }
 

@@ -1,12 +1,11 @@
 -- The ways through the code: one law for each, over plain variables. Assumes nothing.
 use mathlib.Core.Path.{◌≡◌, refl, sym, ap, ◌∙◌}
-use mathlib.Core.List.{List, [], ◌∷◌, ◌++◌}
+use mathlib.Core.List.{List, [], ◌∷◌}
 use Prim.Native.Nat.{ℕ, zero, suc, ◌+◌, ◌-◌, ◌*◌, ◌/◌, ◌%◌, ◌≤◌, ◌<◌}
 use native.Mathlib.Omega.{arith}
 use borrow.Author.Tests.{lt-ltb, le-ltb}
-use lib.ListN.{set, length}
 use Rattle.float64.specs.Pick.{yes, no}
-use Rattle.words.specs.Written.{Written, written, put, write}
+use Rattle.words.specs.Written.{Written, put, write}
 use Rattle.focei_text.specs.Writing.{glyph, hex_from, hexadecimal, digits, decimal}
 use Rattle.words.proofs.Front.{write_append}
 

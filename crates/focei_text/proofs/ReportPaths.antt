@@ -1,9 +1,8 @@
 -- The ways through the code: one law for each, over plain variables. Assumes nothing.
-use mathlib.Core.Path.{◌≡◌, refl, sym, ap, subst, ◌∙◌}
-use mathlib.Core.Bool.{Bool, true, false}
+use mathlib.Core.Path.{◌≡◌, sym, ap, ◌∙◌}
 use mathlib.Core.List.{List, [], ◌∷◌, ◌++◌}
 use mathlib.Core.Logic.{◌⊎◌, inl, inr}
-use Prim.Native.Nat.{ℕ, zero, suc, ◌+◌, ◌-◌, ◌*◌, ◌≤◌, ◌<◌}
+use Prim.Native.Nat.{ℕ, suc, ◌+◌, ◌-◌, ◌*◌, ◌≤◌, ◌<◌}
 use native.Mathlib.Omega.{arith}
 use borrow.Author.Tests.{ltb-true, ltb-false}
 use lib.Dec.{ltb}
@@ -11,7 +10,7 @@ use lib.Ieee.{Float, binary64, to_bits}
 use lib.ListN.{get_or, length}
 use Rattle.float64.specs.Pick.{pick, cases}
 use Rattle.std.proofs.Common.{min}
-use Rattle.words.specs.Written.{Written, written, write}
+use Rattle.words.specs.Written.{Written, write}
 use Rattle.focei_text.specs.Writing.{decimal, hexadecimal}
 use Rattle.words.proofs.Front.{write_append}
 use Rattle.work.specs.Work.{most_rows, most_subjects}

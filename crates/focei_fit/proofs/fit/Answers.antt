@@ -13,15 +13,6 @@ run-last-requires c = (
 pub told-requires : goal.told-requires
 told-requires c = c.requires.2
 
-pub shape_of-cache-in-Ok : goal.shape_of-cache-in-Ok
-shape_of-cache-in-Ok c = c.run-last.auto.cache ∙ c.open-opened.auto.cache
-
-pub shape_of-work-in-Ok : goal.shape_of-work-in-Ok
-shape_of-work-in-Ok c = c.run-last.auto.work ∙ c.open-opened.auto.work
-
-pub shape_of-warm-in-Ok : goal.shape_of-warm-in-Ok
-shape_of-warm-in-Ok c = c.run-last.auto.warm ∙ c.open-opened.auto.warm
-
 pub returns-in-Ok : goal.returns-in-Ok
 returns-in-Ok c =
     let a = c.args in is_opened_lem a.input.now a.counts.now a.observations.now a.cache.now a.work.now a.warm.now a.results.now (written 0 a.out.now)

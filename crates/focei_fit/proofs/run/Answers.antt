@@ -7,15 +7,6 @@ use Rattle.focei_fit.proofs.run.Goals as goal
 pub play-requires : goal.play-requires
 play-requires c = c.requires
 
-pub shape_of-work : goal.shape_of-work
-shape_of-work c = c.play.auto.work ∙ c.objective-first.auto.work
-
-pub shape_of-warm : goal.shape_of-warm
-shape_of-warm c = c.play.auto.warm ∙ c.objective-first.auto.warm
-
-pub shape_of-results : goal.shape_of-results
-shape_of-results c = c.play.auto.results ∙ c.objective-first.auto.results
-
 pub returns : goal.returns
 returns c =
     let a = c.args in

@@ -4,16 +4,10 @@ use Rattle.std.proofs.Common.{◌≡◌, ◌-◌, arith, refl, ◌∙◌}
 use Rattle.focei_records.proofs.reply.Goals as goal
 
 pub loop-i-init : goal.loop-i-init
-loop-i-init c = let all : c.args.rows - (c.args.first - c.args.first) ≡ c.args.rows = omega arith in (rw all refl, refl)
+loop-i-init c = let all : c.args.rows - (c.args.first - c.args.first) ≡ c.args.rows = omega arith in rw all
 
 pub loop-i-preserved : goal.loop-i-preserved
-loop-i-preserved c = (
-  reply_step _ _ _ _ _ _ (omega arith) (omega arith) c.row-end.ensures ∙ c.loop-i.invariant.0,
-  c.row-end.auto.out ∙ c.loop-i.invariant.1,
-)
-
-pub shape_of-out : goal.shape_of-out
-shape_of-out c = c.loop-i.invariant.1
+loop-i-preserved c = reply_step _ _ _ _ _ _ (omega arith) (omega arith) c.row-end.ensures ∙ c.loop-i.invariant
 
 pub returns : goal.returns
-returns c = reply_all _ _ _ _ _ (reply_end _ _ _ _ _ (λ more. omega arith) ∙ c.loop-i.invariant.0)
+returns c = reply_all _ _ _ _ _ (reply_end _ _ _ _ _ (λ more. omega arith) ∙ c.loop-i.invariant)

@@ -4,20 +4,10 @@ use Rattle.focei_text.proofs.Paths.{hex_end, hex_step, hex_all}
 use Rattle.focei_text.proofs.hexadecimal.Goals as goal
 
 pub loop-turn-init : goal.loop-turn-init
-loop-turn-init c = (refl, refl, omega arith)
-
-pub byte-end-requires : goal.byte-end-requires
-byte-end-requires c = tt
+loop-turn-init c = refl
 
 pub loop-turn-preserved : goal.loop-turn-preserved
-loop-turn-preserved c = (
-  hex_step _ _ _ _ (omega arith) c.glyph.ensures c.byte-end.ensures ∙ c.loop-turn.invariant.0,
-  c.byte-end.auto.out ∙ c.loop-turn.invariant.1,
-  omega arith,
-)
-
-pub shape_of-out : goal.shape_of-out
-shape_of-out c = c.loop-turn.invariant.1
+loop-turn-preserved c = hex_step _ _ _ _ (omega arith) c.glyph.ensures c.byte-end.ensures ∙ c.loop-turn.invariant
 
 pub returns : goal.returns
-returns c = hex_all _ _ (hex_end _ _ _ (omega arith) ∙ c.loop-turn.invariant.0)
+returns c = hex_all _ _ (hex_end _ _ _ (omega arith) ∙ c.loop-turn.invariant)
