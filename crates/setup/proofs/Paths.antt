@@ -1,18 +1,20 @@
 -- The ways through the code: one law for each, over plain variables. Assumes nothing.
-use Rattle.std.specs.Prelude.{Err, None, Ok, Option, Some, is_some, ok_or, not, T}
+use Rattle.std.specs.Prelude.{Err, None, Ok, Option, Some, is_some, cond, ok_or, not, T}
 use mathlib.Core.Path.{◌≡◌, refl, sym, ap, subst, ◌∙◌}
 use mathlib.Core.Bool.{Bool, true, false}
 use mathlib.Core.List.{List, ◌∷◌}
 use Prim.Native.Nat.{ℕ, suc, ◌+◌, ◌-◌, ◌*◌, ◌≤◌, ◌<◌}
 use native.Mathlib.Numerals.{add-one}
-use borrow.Author.Tests.{lt-ltb, le-ltb, eq-eqb, ne_eqb}
+use borrow.Author.Tests.{lt-ltb, le-ltb, eq-eqb, ne_eqb, ltb-true, ltb-false}
 use lib.Dec.{ltb, eqb}
 use lib.ListN.{get_or, drop, length, drop_of_length-le}
 use lib.Seq.{drop-cons}
 use lib.Ieee.{Float, le, lt, ne}
+use Rattle.std.proofs.Common.{arith, Less, Equal, Greater}
+use Rattle.std.specs.Ordering.{is_lt, nat_cmp, ord_max}
 use Rattle.float64.specs.Arithmetic.{word, edge}
 use Rattle.float64.specs.Float64.{nonfinite}
-use Rattle.float64.specs.Pick.{pick, yes, no, yes_of, no_of}
+use Rattle.float64.specs.Pick.{pick, cases, yes, no, yes_of, no_of}
 use Rattle.matrix.specs.Matrix.{answer, inverse_positive}
 use Rattle.cache.specs.Cache.{row_words}
 use Rattle.work.specs.Work.{most_subjects, most_rows}
@@ -42,6 +44,23 @@ module _ (x low high : Float) where
   pub high_enough : le low x ≡ true → not (le x high) ≡ is_beyond x low high
   unfolding is_beyond
   high_enough t = yes _ t (inverted_test (le x high))
+
+-- ---- the larger of two, as `max` has it
+by_tests : (p q : Bool) (a b : ℕ) → cond (is_lt (cond p Less (cond q Equal Greater))) a b ≡ cond p a b
+by_tests true q a b = refl
+by_tests false true a b = refl
+by_tests false false a b = refl
+
+module _ (a b : ℕ) where
+  not_smaller : (p : Bool) → ltb b a ≡ p → b ≤ a → cond p a b ≡ a
+  not_smaller true e l = refl
+  not_smaller false e l = let m : a ≤ b = ltb-false _ _ e in omega arith
+
+  pub larger_of : {m : ℕ} → m ≡ ord_max nat_cmp a b → m ≡ larger a b
+  larger_of e =
+      e ∙ by_tests (ltb b a) (eqb b a) a b
+      ∙ cases (λ (x : ℕ). cond (ltb b a) a b ≡ x) (ltb a b)
+      (λ t. let l : a < b = ltb-true _ _ t in let m : a ≤ b = omega arith in rw (le-ltb b a m)) (λ f. not_smaller _ refl (ltb-false _ _ f))
 
 -- ---- the counts, at subject i
 module _ (counts : List ℕ) (total largest i : ℕ) where

@@ -4,6 +4,7 @@ use mathlib.Core.Path.{◌≡◌, refl, ap, ◌∙◌}
 use mathlib.Core.List.{List}
 use Prim.Native.Nat.{ℕ, ◌≤◌, ◌<◌}
 use borrow.Author.Tests.{lt-ltb, le-ltb, eq-eqb, ne_eqb}
+use mathlib.Core.Logic.{◌⊎◌, inl, inr}
 use lib.Dec.{ltb, eqb}
 use lib.ListN.{length, get_or}
 use Rattle.float64.specs.Pick.{pick, yes, no}
@@ -23,12 +24,16 @@ module _ (s : Setup) (counts : List ℕ) (subject : ℕ) (lent : Lent) (check : 
   unfolding subject_checks
   read_count q = q ∙ ap from e
 
-  pub none : count ≡ 0 → Err (Refused 1) ≡ subject_checks s counts subject lent check
+  none : count ≡ 0 → Err (Refused 1) ≡ subject_checks s counts subject lent check
   none z = read_count (yes _ (eq-eqb _ _ z) refl)
 
   module _ (some : (count ≡ 0) → ⊥) where
-    pub many : 100000 < count → Err (Refused 1) ≡ subject_checks s counts subject lent check
+    many : 100000 < count → Err (Refused 1) ≡ subject_checks s counts subject lent check
     many h = read_count (no _ (ne_eqb _ _ some) (yes _ (lt-ltb _ _ h) refl))
 
     pub counted : {a : Admission} → count ≤ 100000 → a ≡ checks_of s (length counts) lent check (within count count) → a ≡ subject_checks s counts subject lent check
     counted few q = read_count (no _ (ne_eqb _ _ some) (no _ (le-ltb _ _ few) q))
+
+  pub refused : (count ≡ 0) ⊎ ((count ≡ 0 → ⊥) × (100000 < count)) → Err (Refused 1) ≡ subject_checks s counts subject lent check
+  refused (inl z) = none z
+  refused (inr h) = many h.0 h.1

@@ -25,9 +25,7 @@ pub fn count_observations(counts: &[u64]) -> Option<Counts>
             return None;
         }
         total += count;
-        if largest < count {
-            largest = count;
-        }
+        largest = largest.max(count);
     }
     Some(Counts { total, largest })
 }
@@ -135,10 +133,7 @@ pub fn subject_checks(
     ensures { result ≡ subject_checks setup counts.now subject lent check }
 {
     let count = words::read(counts, subject) as usize;
-    if count == 0 {
-        return Err(AdmissionError::Refused(1));
-    }
-    if work::MOST_ROWS < count {
+    if count == 0 || work::MOST_ROWS < count {
         return Err(AdmissionError::Refused(1));
     }
     let counted = Counts {

@@ -28,34 +28,66 @@ fn row_at(reply: &[u64], width: u32, effects: u32, output: usize, row: usize) ->
     Some(row * words)
 }
 
-// A word of the row at `at`, for this output: its value (block 0), or its derivative by an effect (block 1 or
-// 2).
-fn column(reply: &[u64], at: usize, width: u32, block: u32, output: usize) -> u64
-    requires at_in_bounds { at ≤ length reply.now }
-    requires block_bound { block < 3 }
-    requires output_lt_width { output < width }
-    ensures { result ≡ column reply.now at width block output }
-{
-    words::read(reply, at + 2 + width as usize * block as usize + output)
+// The row of a reply that answers an observation, from the word `at`.
+#[derive(Clone, Copy)]
+struct ReplyRow<'a> {
+    observation: Observation,
+    trial: Trial,
+    reply: &'a [u64],
+    at: usize,
+    ghost begins: { at ≤ length reply.now },
+    ghost has_output: { observation.output < trial.width },
 }
 
-// What is kept of the row at `at`. A side of any word but 0 is post.
-fn prediction_row(reply: &[u64], at: usize, width: u32, output: usize) -> PredictionRow
-    requires at_in_bounds { at ≤ length reply.now }
-    requires output_lt_width { output < width }
-    ensures { result ≡ prediction_row reply.now at width output }
-{
-    let prediction = column(reply, at, width, 0, output);
-    let time = words::read(reply, at);
-    let side = if words::read(reply, at + 1) == 0 {
-        0
-    } else {
-        1
-    };
-    PredictionRow {
-        prediction,
-        time,
-        side,
+impl ReplyRow<'_> {
+    // A word of the observation's output: its value (block 0), or its derivative by an effect (block 1 or 2).
+    fn column(&self, block: u32) -> u64
+        requires { block < 3 }
+        ensures { result ≡ column self.now.reply.now self.now.at self.now.trial.width block self.now.observation.output }
+    {
+        let before = self.trial.width as usize * block as usize;
+        words::read(self.reply, self.at + 2 + before + self.observation.output)
+    }
+
+    // What is kept of the row. A side of any word but 0 is post.
+    fn prediction_row(&self) -> PredictionRow
+        ensures { result ≡ prediction_row self.now.reply.now self.now.at self.now.trial.width self.now.observation.output }
+    {
+        let prediction = self.column(0);
+        let time = words::read(self.reply, self.at);
+        let side = if words::read(self.reply, self.at + 1) == 0 {
+            0
+        } else {
+            1
+        };
+        PredictionRow {
+            prediction,
+            time,
+            side,
+        }
+    }
+
+    // The derivative of the prediction by an effect's eta: the simulator's, by the individual value, times
+    // that value, since the value is theta times exp of eta.
+    fn f_eta(&self, block: u32, individual: f64) -> f64
+        requires { block < 3 }
+        ensures { result ≡ f_eta self.now.reply.now self.now.at self.now.trial.width block self.now.observation.output individual }
+    {
+        float64::from_word(self.column(block)) * individual
+    }
+
+    // The sums with the row's terms.
+    fn added_to(&self, sums: Sums) -> Evaluation
+        ensures { result ≡ add_row_at sums self.now.observation self.now.trial self.now.reply.now self.now.at }
+    {
+        let prediction = float64::from_word(self.column(0));
+        let first = self.f_eta(1, self.trial.individual.first);
+        if self.trial.effects != 2 {
+            let additive = self.trial.additive_sd.unwrap_or(self.observation.additive);
+            return add_row(sums, self.observation, prediction, first, additive);
+        }
+        let second = self.f_eta(2, self.trial.individual.second);
+        add_row_2d(sums, self.observation, prediction, [first, second])
     }
 }
 
@@ -154,40 +186,6 @@ fn with_row(sums: Sums, row: Row2, f_eta: [f64; 2]) -> Sums
     }
 }
 
-// The derivative of the prediction by an effect's eta: the simulator's, by the individual value, times
-// that value, since the value is theta times exp of eta.
-fn f_eta(reply: &[u64], at: usize, width: u32, block: u32, output: usize, individual: f64) -> f64
-    requires at_in_bounds { at ≤ length reply.now }
-    requires block_bound { block < 3 }
-    requires output_lt_width { output < width }
-    ensures { result ≡ f_eta reply.now at width block output individual }
-{
-    float64::from_word(column(reply, at, width, block, output)) * individual
-}
-
-// The row at `at` is added.
-fn add_row_at(
-    sums: Sums,
-    observation: Observation,
-    trial: Trial,
-    reply: &[u64],
-    at: usize,
-) -> Evaluation
-    requires at_in_bounds { at ≤ length reply.now }
-    requires output_lt_width { observation.output < trial.width }
-    ensures { result ≡ add_row_at sums observation trial reply.now at }
-{
-    let output = observation.output;
-    let prediction = float64::from_word(column(reply, at, trial.width, 0, output));
-    let first = f_eta(reply, at, trial.width, 1, output, trial.individual.first);
-    if trial.effects != 2 {
-        let additive = trial.additive_sd.unwrap_or(observation.additive);
-        return add_row(sums, observation, prediction, first, additive);
-    }
-    let second = f_eta(reply, at, trial.width, 2, output, trial.individual.second);
-    add_row_2d(sums, observation, prediction, [first, second])
-}
-
 fn add_to(
     sums: Sums,
     observation: Observation,
@@ -200,9 +198,14 @@ fn add_to(
     let output = observation.output;
     let missing = EvaluationError::RefusedAt(10, sums.observation);
     let at = row_at(reply, trial.width, trial.effects, output, observation.row).ok_or(missing)?;
-    let row = prediction_row(reply, at, trial.width, output);
-    write_row(work, trial.block, sums.observation, row);
-    add_row_at(sums, observation, trial, reply, at)
+    let row = ReplyRow {
+        observation,
+        trial,
+        reply,
+        at,
+    };
+    write_row(work, trial.block, sums.observation, row.prediction_row());
+    row.added_to(sums)
 }
 
 // An evaluation with one observation more, a turn of the loop in the source's `subject`: its row's

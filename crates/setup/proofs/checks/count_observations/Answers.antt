@@ -1,14 +1,8 @@
 -- `count_observations` meets its contract: each turn and each exit by its law. Assumes nothing.
-use Rattle.std.proofs.Common.{rules, refl, ◌∙◌, arith}
-use borrow.Author.Tests.{lt-ltb, le-ltb}
-use Rattle.float64.specs.Pick.{yes, no}
+use Rattle.std.proofs.Common.{◌∙◌, arith}
 use Rattle.setup.specs.Admission.{count_observations}
-use Rattle.setup.proofs.Paths.{all_counted, counts_none, counts_too_many, counts_on}
+use Rattle.setup.proofs.Paths.{all_counted, counts_none, counts_too_many, counts_on, larger_of}
 use Rattle.setup.proofs.checks.count_observations.Goals as goal
-use Rattle.setup.proofs.checks.count_observations.Goals.{then-largest-count, else-largest-count}
-
-pub loop-count-init : goal.loop-count-init
-loop-count-init c = (refl, search rules)
 
 pub returns-then-count-eq0 : goal.returns-then-count-eq0
 unfolding count_observations
@@ -22,10 +16,7 @@ pub loop-count-preserved : goal.loop-count-preserved
 loop-count-preserved c =
     let so_far = c.loop-count.invariant in (
       counts_on _ _ _ _ c.loop-count-test.true c.if-count-eq0.false c.if-total-count.false
-          (elim c.if-largest-count.branch [
-            | then-largest-count w ↦ yes _ (lt-ltb _ _ w.if-largest-count.true) w.largest-is
-            | else-largest-count w ↦ no _ (le-ltb _ _ w.if-largest-count.false) w.largest-is
-          ])
+          (larger_of _ _ c.max-largest.ensures)
           ∙ so_far.0,
       omega arith,
     )

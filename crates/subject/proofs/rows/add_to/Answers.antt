@@ -5,18 +5,13 @@ use Rattle.subject.proofs.Paths.{passed_on}
 use Rattle.subject.proofs.RowsPaths.{row_says, row_missing, row_taken}
 use Rattle.subject.proofs.rows.add_to.Goals as goal
 
-pub prediction_row-row-requires : goal.prediction_row-row-requires
-prediction_row-row-requires c =
+pub invariant_of-row : goal.invariant_of-row
+invariant_of-row c =
     let asked = row_says _ _ _ _ _ c.row_at.ensures (grind arith) in
-    record { at_in_bounds = asked.0; output_lt_width = asked.1 }
-
-pub add_row_at-requires : goal.add_row_at-requires
-add_row_at-requires c =
-    let asked = row_says _ _ _ _ _ c.row_at.ensures (grind arith) in
-    record { at_in_bounds = asked.0; output_lt_width = asked.1 }
+    record { begins = asked.0; has_output = asked.1 }
 
 pub returns : goal.returns
-returns c = row_taken _ _ _ _ _ c.row_at.ensures (grind arith) c.prediction_row-row.ensures c.write_row.ensures c.add_row_at.ensures
+returns c = row_taken _ _ _ _ _ c.row_at.ensures (grind arith) c.prediction_row.ensures c.write_row.ensures c.added_to.ensures
 
 pub returns-in_err-at : goal.returns-in_err-at
 returns-in_err-at c =

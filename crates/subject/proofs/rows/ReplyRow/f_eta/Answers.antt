@@ -1,6 +1,6 @@
--- `f_eta` meets its contract. Assumes nothing.
+-- `ReplyRow::f_eta` meets its contract. Assumes nothing.
 use Rattle.subject.specs.Subject.{f_eta}
-use Rattle.subject.proofs.rows.f_eta.Goals as goal
+use Rattle.subject.proofs.rows.ReplyRow.f_eta.Goals as goal
 
 pub returns : goal.returns
 unfolding f_eta
