@@ -128,6 +128,7 @@ pub struct Mode {
 // ---- what the searches of an objective have in common
 
 // The precision and the determinant of an accepted omega; without an inverse all are 0.
+#[tactic(auto, unfolding(crate::specs::Subjects::fit2, crate::specs::Subjects::fit_by, matrix::specs::Matrix::answer))]
 fn fit_2d(setup: Setup, theta: Pair) -> Fit
     ensures { result ≡ fit2 setup theta }
 {
@@ -160,6 +161,7 @@ fn fit_with(setup: Setup, theta: Pair, precision: [[f64; 2]; 2], det_omega: f64)
 }
 
 // What the searches of an objective have in common, by its own setup (`setup::with_parameters`) and theta.
+#[tactic(auto, unfolding(float64::specs::Pick::pick))]
 pub fn fit_of(own: Setup, theta: Pair) -> Fit
     ensures { result ≡ fit_in own theta }
 {
@@ -192,6 +194,7 @@ pub fn two_of(search: SubjectSearch) -> Search2
     }
 }
 
+#[tactic(auto, unfolding(crate::specs::Subjects::first_search, float64::specs::Pick::pick))]
 fn first_search(effects: u32) -> SubjectSearch
     ensures { result ≡ first_search effects }
 {
@@ -255,6 +258,7 @@ pub fn refused(progress: Progress, tally: Tally, number: u32, place: Place) -> H
 }
 
 // Whether the answer of a step ends the objective: everything but a question does.
+#[tactic(auto, unfolding(crate::specs::Subjects::is_over))]
 pub fn is_over(step: Step) -> bool
     ensures { result ≡ is_over step }
 {

@@ -11,6 +11,7 @@ use mode_2d::population_focei_2d::Conditional2;
 // ---- a mode
 
 // With one effect: the curvature at the mode (check 16), and what the mode adds to the objective.
+#[tactic(auto, unfolding(crate::specs::Subjects::closed1, float64::specs::Pick::pick))]
 fn closed_1d(fit: Fit, best: Conditional, rows: u32) -> Option<Mode>
     ensures { result ≡ closed1 fit best rows }
 {
@@ -36,6 +37,7 @@ fn closed_1d(fit: Fit, best: Conditional, rows: u32) -> Option<Mode>
 }
 
 // With two effects: the curvature at the mode (check 16), and what the mode adds to the objective.
+#[tactic(auto, unfolding(crate::specs::Subjects::closed2, crate::specs::Subjects::closed_with, matrix::specs::Matrix::answer))]
 fn closed_2d(fit: Fit, best: Conditional2, rows: u32) -> Option<Mode>
     ensures { result ≡ closed2 fit best rows }
 {
@@ -55,6 +57,7 @@ fn closed_2d(fit: Fit, best: Conditional2, rows: u32) -> Option<Mode>
 
 // Check 16 of a search's mode, its best point, and what the mode adds to the objective, for a subject of so
 // many rows: the curvature and the term of `ofv` in the source's `population`.
+#[tactic(auto, unfolding(crate::specs::Subjects::closed_by, float64::specs::Pick::pick))]
 pub fn closed_by(fit: Fit, progress: Progress, rows: u32) -> Option<Mode>
     ensures { result ≡ closed_by fit progress rows }
 {
@@ -68,6 +71,7 @@ pub fn closed_by(fit: Fit, progress: Progress, rows: u32) -> Option<Mode>
 
 // The end of an objective after its last subject, the end of the source's `population`: refused with 18 where
 // the sum is not finite, else finished.
+#[tactic(auto, unfolding(crate::specs::Subjects::objective_of, float64::specs::Pick::pick))]
 pub fn objective_of(progress: Progress, tally: Tally, ofv: f64, eta_squares: f64) -> Halted
     ensures { result ≡ objective_of progress tally ofv eta_squares }
 {

@@ -46,6 +46,7 @@ pub fn settings_2d(fit: Fit, progress: Progress) -> Settings2
 
 // What a search with one effect wants now, as for either number of effects: a point has 0 for its second
 // value.
+#[tactic(auto, unfolding(crate::specs::Subjects::wanted1))]
 pub fn wanted_1d(settings: Settings, search: Search) -> Wanted
     ensures { result ≡ wanted1 settings search }
 {
@@ -60,6 +61,7 @@ pub fn wanted_1d(settings: Settings, search: Search) -> Wanted
 }
 
 // What a search with two effects wants now, as for either number of effects.
+#[tactic(auto, unfolding(crate::specs::Subjects::wanted2))]
 pub fn wanted_2d(settings: Settings2, search: Search2) -> Wanted
     ensures { result ≡ wanted2 settings search }
 {
@@ -71,6 +73,7 @@ pub fn wanted_2d(settings: Settings2, search: Search2) -> Wanted
 }
 
 // What the subject's search wants now, with one effect or two.
+#[tactic(auto, unfolding(crate::specs::Subjects::wanted_by, float64::specs::Pick::pick))]
 pub fn wanted_by(fit: Fit, progress: Progress) -> Wanted
     ensures { result ≡ wanted_by fit progress }
 {
@@ -137,6 +140,7 @@ fn bracket_sources(search: Search, c: Conditional) -> Sources
 
 // With one effect: from where the blocks of the work words get their rows, as the search is given the point
 // c.
+#[tactic(auto, unfolding(crate::specs::Subjects::sources1, crate::specs::Subjects::sources_at))]
 pub fn sources(search: Search, c: Conditional) -> Sources
     ensures { result ≡ sources1 search c }
 {
@@ -147,6 +151,7 @@ pub fn sources(search: Search, c: Conditional) -> Sources
 }
 
 // Two effects: the rounds' current point is the trial where it is a start, or is taken.
+#[tactic(auto, unfolding(crate::specs::Subjects::current_source, crate::specs::Subjects::current_at))]
 fn current_source(settings: Settings2, search: Search2, c: Conditional2) -> usize
     ensures { result ≡ current_source settings search c }
 {
@@ -159,6 +164,7 @@ fn current_source(settings: Settings2, search: Search2, c: Conditional2) -> usiz
 
 // Whether the rounds of a start are over and its candidate is the best so far, which it is at the first
 // start, and later where its joint is lower.
+#[tactic(auto, unfolding(crate::specs::Subjects::is_new_best, float64::specs::Pick::pick))]
 fn is_new_best(settings: Settings2, search: Search2, after: Search2) -> bool
     ensures { result ≡ is_new_best settings search after }
 {
@@ -166,6 +172,7 @@ fn is_new_best(settings: Settings2, search: Search2, after: Search2) -> bool
         && (search.seed == 0 || joint(settings, after.current) < joint(settings, search.best))
 }
 
+#[tactic(auto, unfolding(crate::specs::Subjects::population_source, crate::specs::Subjects::population_at))]
 fn population_source(search: Search2) -> usize
     ensures { result ≡ population_source search }
 {

@@ -2,7 +2,8 @@
 // words that are kept and back, and where it is not kept the question for it, with checks 6 and 7. By value;
 // each public function is defined for all values.
 ghost use Rattle.std.specs.Prelude.{◌≡◌, ◌<◌};
-ghost use Rattle.search.specs.Subjects.{key1, key2, key_of, sums_of, terms_of, awaiting, counted, ask};
+ghost use Rattle.search.specs.Subjects.{key1, key2, key_of, sums_of, terms_of, awaiting, counted, ask_for, ask};
+ghost use Rattle.subject.specs.Subject.{answer};
 
 use super::{Calls, Fit, Halted, Place, Progress, Step, Tally};
 use cache::{CacheKey, CachedTerms};
@@ -13,6 +14,7 @@ use subject::Sums;
 
 // The key of an evaluation with one effect: subject, the bits of theta and eta, and of the override. Omega is
 // not in it, since the kept score does not include the prior.
+#[tactic(auto, unfolding(crate::specs::Subjects::key1))]
 fn key_1d(fit: Fit, subject: usize, eta: Pair) -> CacheKey
     ensures { result ≡ key1 fit subject eta }
 {
@@ -50,6 +52,7 @@ fn key_2d(fit: Fit, subject: usize, eta: Pair) -> CacheKey
 // The key under which the evaluation of a subject at eta is kept, the source's SubjectKey or with two effects
 // CacheKey: subject, the bits of theta and eta, and with one effect of the override. Omega is not in it,
 // since the kept score does not include the prior.
+#[tactic(auto, unfolding(crate::specs::Subjects::key_of, float64::specs::Pick::pick))]
 pub fn key_of(fit: Fit, subject: usize, eta: Pair) -> CacheKey
     ensures { result ≡ key_of fit subject eta }
 {
@@ -122,22 +125,30 @@ fn counted(tally: Tally) -> Tally
     }
 }
 
-// What is done where the wanted point is not kept: 6 where no evaluation is left; else it is counted; then 7
-// where its individual values are refused; else the question for it.
+// Of an evaluation that is counted: 7 where its individual values are refused, else the question for it.
+#[tactic(auto, unfolding(crate::specs::Subjects::ask_for, subject::specs::Subject::answer))]
+fn ask_for(progress: Progress, tally: Tally, eta: Pair, values: Option<Pair>) -> Halted
+    ensures { result ≡ ask_for progress tally eta (answer values) }
+{
+    match values {
+        Some(individual) => Halted {
+            progress: awaiting(progress, individual),
+            tally,
+            step: Step::Asked(eta, individual),
+        },
+        None => super::refused(progress, tally, 7, Place::Subject(progress.subject)),
+    }
+}
+
+// What is done where the wanted point is not kept: 6 where no evaluation is left; else it is counted, and
+// asked for.
+#[tactic(auto, unfolding(crate::specs::Subjects::ask, float64::specs::Pick::pick))]
 pub fn ask(fit: Fit, progress: Progress, tally: Tally, eta: Pair) -> Halted
     ensures { result ≡ ask fit progress tally eta }
 {
-    let subject = Place::Subject(progress.subject);
     if tally.calls.0 < fit.max_evaluations {
-        let raised = counted(tally);
-        let Some(individual) = subject::individual_values(fit.theta, eta, fit.effects) else {
-            return super::refused(progress, raised, 7, subject);
-        };
-        return Halted {
-            progress: awaiting(progress, individual),
-            tally: raised,
-            step: Step::Asked(eta, individual),
-        };
+        let values = subject::individual_values(fit.theta, eta, fit.effects);
+        return ask_for(progress, counted(tally), eta, values);
     }
-    super::refused(progress, tally, 6, subject)
+    super::refused(progress, tally, 6, Place::Subject(progress.subject))
 }
