@@ -26,10 +26,8 @@ use Rattle.search.specs.declared.Wanted.{Wanted}
 use Rattle.search.specs.declared.Wanted.TheVariants as Wants
 use Rattle.search.proofs.PointsPaths.{wanted_one, wanted_two, advance_one, advance_two}
 use Rattle.population.specs.Population.{Worked, worked, take}
-use Rattle.population.specs.Through.{is_over, eta_of, kept_in, kept_at, found_unless, kept_point, recalled, as_with, taken, taken1, taken2, reached, passed, through, through_from, reached1, reached2}
+use Rattle.population.specs.Through.{is_over, eta_of, kept_in, kept_at, found_unless, kept_point, recalled, as_with, taken, taken1, taken2, reached, passed, through, through_from}
 use Rattle.population.specs.declared.kept_points.Reached.{Reached}
-use Rattle.population.specs.declared.kept_points.Reached1.{Reached1}
-use Rattle.population.specs.declared.kept_points.Reached2.{Reached2}
 use Rattle.population.specs.declared.kept_points.Evaluated.{Evaluated}
 
 -- ---- what is wanted: x, which is the variant v
@@ -174,8 +172,9 @@ module _ (fit : Fit) (rows : ℕ) (kept : Cache) (n : ℕ) (hand : Option Evalua
         rw sub-one
         (ap (λ (v : Option ℕ). passed fit rows kept (suc m) p w (λ p w. through fit rows kept m p w) (kept_at (eta_of wanted) v)) (sym t) ∙ one_more m)
 
-    pub stops : f ≡ None → Goes (worked (record { progress = p; left = n; wanted = wanted }) w)
-    stops t = from_taken (told ∙ stops_from n (sym found_is ∙ t))
+    -- q is the objective as it was handed on
+    pub stops : {q : Progress} → q ≡ p → f ≡ None → Goes (worked (record { progress = q; left = n; wanted = wanted }) w)
+    stops eq t = ap (λ (q : Progress). worked (record { progress = q; left = n; wanted = wanted }) w) eq ∙ from_taken (told ∙ stops_from n (sym found_is ∙ t))
 
     -- the kept sums are in hand then
     pub goes_on : {slot : ℕ} {sums : Sums} {v : List ℕ} → f ≡ Some slot → v ≡ copied kept.words fit.k slot rows w (block rows 3) → sums ≡ B.sums_of (terms_of kept.words fit.k slot) →
@@ -212,16 +211,3 @@ module _ (fit : Fit) (rows : ℕ) (kept : Cache) (n : ℕ) (hand : Option Evalua
   pub from_two : {x : Search2} → fit.effects ≡ 2 → x ≡ B.two_of progress.search
       → through_from fit rows kept n hand (B.with_search progress (Two x)) work ≡ through_from fit rows kept n hand progress work
   from_two e ex = ap (λ (x : Search2). through_from fit rows kept n hand (B.with_search progress (Two x)) work) ex ∙ from_search (Two (B.two_of progress.search)) (taken_two e)
-
--- ---- either; p is what `with_search` made
-pub reaches_one : (fit : Fit) (rows : ℕ) (kept : Cache) (n : ℕ) (hand : Option Evaluated) (progress : Progress) (work : List ℕ) {m : ℕ} (r : Reached1) {p : Progress} {w : List ℕ} → rows ≡ m → worked
-    (reached1 progress r) w ≡ through_from fit rows kept n hand progress work → p ≡ B.with_search progress (One r.search) → worked
-    (record { progress = p; left = r.left; wanted = r.wanted }) w ≡ through_from fit m kept n hand progress work
-reaches_one fit rows kept n hand progress work r {w = w} er q ep =
-    ap (λ (p : Progress). worked (record { progress = p; left = r.left; wanted = r.wanted }) w) ep ∙ q ∙ ap (λ (m : ℕ). through_from fit m kept n hand progress work) er
-
-pub reaches_two : (fit : Fit) (rows : ℕ) (kept : Cache) (n : ℕ) (hand : Option Evaluated) (progress : Progress) (work : List ℕ) {m : ℕ} (r : Reached2) {p : Progress} {w : List ℕ} → rows ≡ m → worked
-    (reached2 progress r) w ≡ through_from fit rows kept n hand progress work → p ≡ B.with_search progress (Two r.search) → worked
-    (record { progress = p; left = r.left; wanted = r.wanted }) w ≡ through_from fit m kept n hand progress work
-reaches_two fit rows kept n hand progress work r {w = w} er q ep =
-    ap (λ (p : Progress). worked (record { progress = p; left = r.left; wanted = r.wanted }) w) ep ∙ q ∙ ap (λ (m : ℕ). through_from fit m kept n hand progress work) er
