@@ -1,21 +1,15 @@
 -- The ways through the code: one law for each, over plain variables. Assumes nothing.
 use Rattle.std.specs.Prelude.{None, Option, Some}
-use Rattle.std.proofs.Common.{◌≡◌, ℕ, zero, suc, ◌-◌, ◌≤◌, Bool, true, false, List, sym, refl, ap, ◌∙◌, subst, sub-one, arith, eq-eqb, ne_eqb}
-use Rattle.float64.specs.Pick.{yes, no, pick_yes, pick_no}
+use Rattle.std.proofs.Common.{◌≡◌, ℕ, zero, suc, ◌-◌, ◌≤◌, Bool, List, sym, refl, ap, ◌∙◌, subst, sub-one, arith, eq-eqb, ne_eqb}
+use Rattle.float64.specs.Pick.{no, pick_yes, pick_no}
 use Rattle.matrix.specs.declared.Pair.{Pair}
 use Rattle.subject.specs.declared.Sums.{Sums}
-use Rattle.mode.specs.Rules.{advance}
 use Rattle.mode.specs.declared.population_focei.Settings.{Settings}
-use Rattle.mode.specs.declared.population_focei.Conditional.{Conditional}
 use Rattle.mode.specs.declared.population_focei.Search.{Search}
-use Rattle.mode_2d.specs.Rules as R2
 use Rattle.mode_2d.specs.declared.population_focei_2d.Settings2.{Settings2}
-use Rattle.mode_2d.specs.declared.population_focei_2d.Conditional2.{Conditional2}
 use Rattle.mode_2d.specs.declared.population_focei_2d.Search2.{Search2}
 use Rattle.work.specs.Work.{block, move_rows}
-use Rattle.work.specs.declared.Sources.{Sources}
-use Rattle.cache.specs.Cache.{Cache, find, terms_of, copied}
-use Rattle.cache.specs.declared.CacheKey.{CacheKey}
+use Rattle.cache.specs.Cache.{Cache, terms_of, copied}
 use Rattle.search.specs.Subjects as B
 use Rattle.search.specs.declared.Advanced.{Advanced}
 use Rattle.search.specs.declared.Fit.{Fit}
@@ -30,13 +24,7 @@ use Rattle.population.specs.Through.{is_over, eta_of, kept_in, kept_at, found_un
 use Rattle.population.specs.declared.kept_points.Reached.{Reached}
 use Rattle.population.specs.declared.kept_points.Evaluated.{Evaluated}
 
--- ---- what is wanted: x, which is the variant v
-pub over_at : (n : ℕ) {x v : Wanted} {b : Bool} → x ≡ v → b ≡ is_over n v → b ≡ is_over n x
-over_at n e q = q ∙ ap (is_over n) (sym e)
-
-pub eta_at : {x v : Wanted} {p : Pair} → x ≡ v → p ≡ eta_of v → p ≡ eta_of x
-eta_at e q = q ∙ ap eta_of (sym e)
-
+-- ---- what is found
 IsNone : Option ℕ → Type 0
 IsNone None = Unit {0}
 IsNone (Some slot) = ⊥
@@ -47,15 +35,6 @@ none_is_none e = subst IsNone e tt
 
 -- what is found of a point: over is whether it is over
 module _ (fit : Fit) (subject : ℕ) (kept : Cache) where
-  pub none_over : {over : Bool} (eta : Pair) → over ≡ true → None ≡ found_unless over fit subject kept eta
-  unfolding found_unless
-  none_over eta t = yes _ t refl
-
-  pub found_by : {over : Bool} {key : CacheKey} {f : Option ℕ} (eta : Pair) → over ≡ false → key ≡ B.key_of fit subject eta → f ≡ find kept.words fit.k kept.order key → f ≡ found_unless over fit
-      subject kept eta
-  unfolding found_unless
-  found_by eta t ek ef = no _ t (ef ∙ ap (find kept.words fit.k kept.order) ek)
-
   -- with no request left it is over; with one, what is found says whether the point that is wanted is kept
   none_left : (x : Wanted) → found_unless (is_over 0 x) fit subject kept (eta_of x) ≡ None
   unfolding found_unless is_over
@@ -73,30 +52,6 @@ module _ (fit : Fit) (subject : ℕ) (kept : Cache) where
   pub one_left : (n : ℕ) (x : Wanted) {over : Bool} {eta : Pair} {f : Option ℕ} {slot : ℕ} → over ≡ is_over n x → eta ≡ eta_of x → f ≡ found_unless over fit subject kept eta → f ≡ Some slot → 1 ≤ n
   one_left zero x eo ee ef t = absurd (none_is_none (sym (none_left x) ∙ (λ i. found_unless (sym eo i) fit subject kept (sym ee i)) ∙ sym ef ∙ t))
   one_left (suc n) x eo ee ef t = omega arith
-
--- ---- what is in hand: y is the search afterwards, w the work words
-pub nothing_taken_one : (fit : Fit) (s : Settings) (rows : ℕ) (x : Search) (work : List ℕ) {hand : Option Evaluated} → hand ≡ None → worked x work ≡ taken1 fit s rows hand x work
-unfolding taken1
-nothing_taken_one fit s rows x work t = ap (λ (h : Option Evaluated). taken1 fit s rows h x work) (sym t)
-
-pub takes_one : (fit : Fit) (s : Settings) (rows : ℕ) (x : Search) (work : List ℕ) {hand : Option Evaluated} {eta : Pair} {sums : Sums} {c : Conditional} {sources : Sources} {y : Search} {w : List ℕ} → hand ≡
-    Some (record { eta = eta; sums = sums }) → c ≡ B.conditional1 fit eta sums → sources ≡ B.sources1 x c → w ≡ move_rows rows sources work → y ≡ advance s x c → worked y w ≡ taken1 fit s rows hand x work
-unfolding taken1
-takes_one fit s rows x work t ec es ew ey =
-    (λ i. worked ((ey ∙ ap (advance s x) ec) i) ((ew ∙ ap (λ (z : Sources). move_rows rows z work) (es ∙ ap (B.sources1 x) ec)) i))
-    ∙ ap (λ (h : Option Evaluated). taken1 fit s rows h x work) (sym t)
-
-pub nothing_taken_two : (s : Settings2) (rows : ℕ) (x : Search2) (work : List ℕ) {hand : Option Evaluated} → hand ≡ None → worked x work ≡ taken2 s rows hand x work
-unfolding taken2
-nothing_taken_two s rows x work t = ap (λ (h : Option Evaluated). taken2 s rows h x work) (sym t)
-
-pub takes_two : (s : Settings2) (rows : ℕ) (x : Search2) (work : List ℕ) {hand : Option Evaluated} {eta : Pair} {sums : Sums} {c : Conditional2} {y : Search2} {sources : Sources} {w : List ℕ} → hand ≡
-    Some (record { eta = eta; sums = sums }) → c ≡ B.conditional2 eta sums → y ≡ R2.advance s x c → sources ≡ B.sources2 s x y c → w ≡ move_rows rows sources work → worked y w ≡ taken2 s rows hand x work
-unfolding taken2
-takes_two s rows x work {eta = eta} {sums = sums} {c = c} t ec ey es ew =
-    (λ i. worked (ey i) ((ew ∙ ap (λ (z : Sources). move_rows rows z work) (es ∙ ap (λ (y : Search2). B.sources2 s x y c) ey)) i))
-    ∙ ap (λ (c : Conditional2). worked (R2.advance s x c) (move_rows rows (B.sources2 s x (R2.advance s x c) c) work)) ec
-    ∙ ap (λ (h : Option Evaluated). taken2 s rows h x work) (sym t)
 
 -- ---- either search, as that of the objective
 same_take : (fit : Fit) (rows : ℕ) (progress : Progress) (eta : Pair) (sums : Sums) (work : List ℕ) {a : Advanced} → a ≡ B.advance_by fit progress eta sums → worked a.progress

@@ -92,14 +92,8 @@ fn next_subject(
         let first = std::num::wrapping_add_usize(progress.first, rows);
         let start = warm_of(warm, fit.effects, subject);
         words::clear(work);
-        return ControlFlow::Continue(search::begin_subject(
-            fit.effects,
-            subject,
-            first,
-            start,
-            ofv,
-            squares,
-        ));
+        let next = search::begin_subject(fit.effects, subject, first, start, ofv, squares);
+        return ControlFlow::Continue(next);
     }
     ControlFlow::Break(search::objective::objective_of(progress, tally, ofv, squares))
 }
