@@ -1,17 +1,17 @@
 -- The ways through the code: one law for each, over plain variables. Assumes nothing.
 use Rattle.std.specs.Prelude.{None, Option, Some}
-use mathlib.Core.Path.{◌≡◌, refl, sym, ap, subst, ◌∙◌}
-use mathlib.Core.Bool.{Bool, false}
+use mathlib.Core.Path.{◌≡◌, refl, sym, ap, ◌∙◌}
+use mathlib.Core.Bool.{Bool, true, false}
+use mir.Val.{bool_byte as from_bool}
 use mathlib.Core.List.{List, [], ◌∷◌, ◌++◌}
 use Prim.Native.Nat.{ℕ, zero, suc, ◌+◌, ◌-◌, ◌≤◌, ◌<◌}
 use native.Mathlib.Nat.{not-suc-le-zero, le_of_suc-le-suc, add-zero}
 use native.Mathlib.Omega.{arith}
-use borrow.Author.Tests.{eq-eqb, ne_eqb, ltb-true, eqb-true}
-use lib.Dec.{T, ltb, eqb}
+use borrow.Author.Tests.{eq-eqb, ne_eqb}
 use lib.ListN.{get_or, set, length, length-drop, take, drop, drop_of_length-le}
-use lib.Seq.{take_all}
+use lib.Seq.{take_all, sets, sets-eq}
 use Rattle.float64.specs.Answer.{Answer, given, refused, through}
-use Rattle.float64.specs.Pick.{yes, no, cases}
+use Rattle.float64.specs.Pick.{pick, yes, no}
 use Rattle.mode.specs.declared.population_focei.Search.{Search}
 use Rattle.mode_2d.specs.declared.population_focei_2d.Search2.{Search2}
 use Rattle.state_words.specs.SearchWords as one
@@ -23,17 +23,6 @@ use Rattle.search.specs.declared.SubjectSearch.TheVariants.{One, Two}
 use Rattle.session.specs.declared.State.{State}
 use Rattle.state_words.specs.SessionWords.{at, bits, flag, state_at, loaded_search, with_search, answer, objective_words, progress_words, order_words, search_words, state_words, put_from}
 use Rattle.state_words.specs.SessionWords.{saved_state}
-
--- ---- a stage's word; b is what `is_no_stage` answered
-pub stage_low : {b : Bool} (n : ℕ) → b ≡ two.is_no_stage n → b ≡ false → n < 21
-unfolding two.is_no_stage
-stage_low n q f =
-    let Low : Bool → Type 0 = λ b. b ≡ false → n < 21 in
-    cases Low (ltb n 4) (λ t _. let l : n < 4 = ltb-true _ _ t in omega (arith, l))
-    (λ _. cases Low (eqb n 17) (λ t _. let e = eqb-true n 17 t in omega (arith, e))
-    (λ _. cases Low (eqb n 18) (λ t _. let e = eqb-true n 18 t in omega (arith, e))
-    (λ _. cases Low (eqb n 20) (λ t _. let e = eqb-true n 20 t in omega (arith, e)) (λ _ e. absurd (subst T e tt)))))
-    (sym q ∙ f)
 
 -- ---- load: r is what the words of the search came to
 module _ (words : List ℕ) where
@@ -62,9 +51,9 @@ module _ (words : List ℕ) where
     unfolding answer through one.answer
     one_given t p = searched (as_one t) (ap {B = Answer State} (λ (s : State). given s) p)
 
-    pub one_none : r ≡ None → answer None ≡ with_search words
+    pub one_none : {v : Option State} → r ≡ None → v ≡ None → answer v ≡ with_search words
     unfolding answer through one.answer
-    one_none t = searched (as_one t) refl
+    one_none t e = ap answer e ∙ searched (as_one t) refl
 
   module _ {r : Option Search2} (n : at words 18 ≡ 1 → ⊥) (h : at words 18 ≡ 2) (a : two.answer r ≡ two.loaded lent) where
     as_two : {v : Option Search2} → r ≡ v → through Two (two.answer v) ≡ loaded_search (at words 18) lent
@@ -75,9 +64,15 @@ module _ (words : List ℕ) where
     unfolding answer through two.answer
     two_given t p = searched (as_two t) (ap {B = Answer State} (λ (s : State). given s) p)
 
-    pub two_none : r ≡ None → answer None ≡ with_search words
+    pub two_none : {v : Option State} → r ≡ None → v ≡ None → answer v ≡ with_search words
     unfolding answer through two.answer
-    two_none t = searched (as_two t) refl
+    two_none t e = ap answer e ∙ searched (as_two t) refl
+
+-- ---- a bool's word
+pub bit_is : (b : Bool) {n : ℕ} → n ≡ from_bool b → n ≡ pick b 1 0
+unfolding pick
+bit_is true e = e
+bit_is false e = e
 
 -- ---- the words before the progress's own, with no override and with one
 module _ (awaits : Bool) (p : Parameters) {f t u o : ℕ} (ef : f ≡ flag awaits) (et : t ≡ bits p.theta.first) (eu : u ≡ bits p.theta.second) (eo : o ≡ bits p.omega) where
@@ -109,6 +104,18 @@ module _ (from : ℕ) (values words : List ℕ) (i : ℕ) where
       let p : from + (i + 1) ≡ from + i + 1 = omega arith in
       let q : i + 1 ≡ suc i = omega arith in
       (λ d. put_from (p d) (drop (q d) values) (r d)) ∙ ap (λ (l : List ℕ). put_from (from + i) l words) (sym (drop_step values i h))
+
+-- a copy of all of them, where they have a place
+put_sets : (i : ℕ) (values words : List ℕ) → put_from i values words ≡ sets words i values
+unfolding put_from
+put_sets i [] words = refl
+put_sets i (x ∷ values) words =
+    let e : i + 1 ≡ suc i = omega arith in
+    ap (λ (n : ℕ). put_from n values (set words i x)) e ∙ put_sets (suc i) values (set words i x)
+
+pub put_copied : (from : ℕ) (values words : List ℕ) → from + length values ≤ length words
+    → take from words ++ values ++ drop (from + length values) words ≡ put_from from values words
+put_copied from values words h = sym (put_sets from values words ∙ sets-eq values words from h)
 
 -- ---- save: the parts one after another are the whole
 put_append : (i : ℕ) (a b w : List ℕ) → put_from i (a ++ b) w ≡ put_from (i + length a) b (put_from i a w)

@@ -10,7 +10,7 @@
 
 ghost use Rattle.std.specs.Prelude.{◌≡◌, ◌+◌, ◌≤◌, ◌<◌, length};
 ghost use Rattle.state_words.specs.SessionWords.{state_size, additive_at, order_at, parameters_at, progress_at, state_at};
-ghost use Rattle.state_words.specs.SessionWords.{with_search, loaded_state, answer, flag, objective_words, progress_words, order_words};
+ghost use Rattle.state_words.specs.SessionWords.{with_search, loaded_state, answer, objective_words, progress_words, order_words};
 ghost use Rattle.state_words.specs.SessionWords.{search_words, put_from, saved_state};
 ghost use Rattle.state_words.specs.SearchWords2.{pair_at};
 
@@ -29,6 +29,7 @@ pub const STATE_WORDS: usize = 44;
 // ---- the state of words
 
 // The pair of the two words from i on.
+#[tactic(auto, unfolding(crate::specs::SearchWords2::pair_at))]
 fn pair_at(words: &[u64], i: usize) -> Pair
     requires { i + 1 < length words.now }
     ensures { result ≡ pair_at words.now i }
@@ -39,6 +40,7 @@ fn pair_at(words: &[u64], i: usize) -> Pair
     }
 }
 
+#[tactic(auto, unfolding(crate::specs::SessionWords::additive_at, float64::specs::Pick::pick))]
 fn additive_at(words: &[u64]) -> Option<f64>
     requires { state_size ≤ length words.now }
     ensures { result ≡ additive_at words.now }
@@ -49,40 +51,36 @@ fn additive_at(words: &[u64]) -> Option<f64>
     None
 }
 
+#[tactic(auto, unfolding(crate::specs::SessionWords::parameters_at))]
 fn parameters_at(words: &[u64]) -> Parameters
     requires { state_size ≤ length words.now }
     ensures { result ≡ parameters_at words.now }
 {
-    let theta = pair_at(words, 1);
-    let omega = float64::from_word(words[3]);
-    let additive_sd = additive_at(words);
     Parameters {
-        theta,
-        omega,
-        additive_sd,
+        theta: pair_at(words, 1),
+        omega: float64::from_word(words[3]),
+        additive_sd: additive_at(words),
     }
 }
 
+#[tactic(auto, unfolding(crate::specs::SessionWords::progress_at))]
 fn progress_at(words: &[u64], search: SubjectSearch) -> Progress
     requires { state_size ≤ length words.now }
     ensures { result ≡ progress_at words.now search }
 {
-    let individual = pair_at(words, 6);
-    let warm = pair_at(words, 10);
-    let ofv = float64::from_word(words[12]);
-    let eta_squares = float64::from_word(words[13]);
     Progress {
         awaits: words[0] == 1,
-        individual,
+        individual: pair_at(words, 6),
         subject: words[8] as usize,
         first: words[9] as usize,
-        warm,
+        warm: pair_at(words, 10),
         search,
-        ofv,
-        eta_squares,
+        ofv: float64::from_word(words[12]),
+        eta_squares: float64::from_word(words[13]),
     }
 }
 
+#[tactic(auto, unfolding(crate::specs::SessionWords::order_at))]
 fn order_at(words: &[u64]) -> CacheOrder
     requires { state_size ≤ length words.now }
     ensures { result ≡ order_at words.now }
@@ -95,17 +93,15 @@ fn order_at(words: &[u64]) -> CacheOrder
     }
 }
 
+#[tactic(auto, unfolding(crate::specs::SessionWords::state_at))]
 fn state_at(words: &[u64], search: SubjectSearch) -> State
     requires { state_size ≤ length words.now }
     ensures { result ≡ state_at words.now search }
 {
-    let parameters = parameters_at(words);
-    let progress = progress_at(words, search);
-    let order = order_at(words);
     State {
-        parameters,
-        progress,
-        order,
+        parameters: parameters_at(words),
+        progress: progress_at(words, search),
+        order: order_at(words),
     }
 }
 
@@ -115,40 +111,23 @@ fn with_search(words: &[u64]) -> Option<State>
     ensures { answer result ≡ with_search words.now }
 {
     if words[18] == 1 {
-        match one_effect::load(&words[19..]) {
-            Some(x) => {
-                return Some(state_at(words, SubjectSearch::One(x)));
-            }
-            None => {
-                return None;
-            }
-        }
+        let x = one_effect::load(&words[19..])?;
+        return Some(state_at(words, SubjectSearch::One(x)));
     }
     if words[18] == 2 {
-        match two_effects::load(&words[19..]) {
-            Some(x) => {
-                return Some(state_at(words, SubjectSearch::Two(x)));
-            }
-            None => {
-                return None;
-            }
-        }
+        let x = two_effects::load(&words[19..])?;
+        return Some(state_at(words, SubjectSearch::Two(x)));
     }
     None
 }
 
 // The state that lent words stand for. They are no state where there are too few, where a bool is above 1,
 // where the search has neither one effect nor two, or where its words are no search.
+#[tactic(auto, unfolding(crate::specs::SessionWords::loaded_state, crate::specs::SessionWords::answer, float64::specs::Pick::pick))]
 pub fn load(words: &[u64]) -> Option<State>
     ensures { answer result ≡ loaded_state words.now }
 {
-    if words.len() < STATE_WORDS {
-        return None;
-    }
-    if words[0] > 1 {
-        return None;
-    }
-    if words[4] > 1 {
+    if words.len() < STATE_WORDS || words[0] > 1 || words[4] > 1 {
         return None;
     }
     with_search(words)
@@ -156,51 +135,37 @@ pub fn load(words: &[u64]) -> Option<State>
 
 // ---- the words of a state
 
-fn flag(holds: bool) -> u64
-    ensures { result ≡ flag holds }
-{
-    if holds {
-        return 1;
-    }
-    0
-}
-
 // The words before the progress's own: whether it awaits, and the parameters.
 fn objective_words(awaits: bool, parameters: Parameters) -> [u64; 6]
     ensures { result ≡ objective_words awaits parameters }
 {
-    let awaits_word = flag(awaits);
+    let awaits_word = u64::from(awaits);
     let theta0 = float64::to_word(parameters.theta.first);
     let theta1 = float64::to_word(parameters.theta.second);
     let omega = float64::to_word(parameters.omega);
-    let additive_sd = parameters.additive_sd;
-    match additive_sd {
+    match parameters.additive_sd {
         None => [awaits_word, theta0, theta1, omega, 0, 0],
         Some(sd) => [awaits_word, theta0, theta1, omega, 1, float64::to_word(sd)],
     }
 }
 
+#[tactic(auto, unfolding(crate::specs::SessionWords::progress_words))]
 fn progress_words(progress: Progress) -> [u64; 8]
     ensures { result ≡ progress_words progress }
 {
-    let individual0 = float64::to_word(progress.individual.first);
-    let individual1 = float64::to_word(progress.individual.second);
-    let warm0 = float64::to_word(progress.warm.first);
-    let warm1 = float64::to_word(progress.warm.second);
-    let ofv = float64::to_word(progress.ofv);
-    let eta_squares = float64::to_word(progress.eta_squares);
     [
-        individual0,
-        individual1,
+        float64::to_word(progress.individual.first),
+        float64::to_word(progress.individual.second),
         progress.subject as u64,
         progress.first as u64,
-        warm0,
-        warm1,
-        ofv,
-        eta_squares,
+        float64::to_word(progress.warm.first),
+        float64::to_word(progress.warm.second),
+        float64::to_word(progress.ofv),
+        float64::to_word(progress.eta_squares),
     ]
 }
 
+#[tactic(auto, unfolding(crate::specs::SessionWords::order_words))]
 fn order_words(order: CacheOrder) -> [u64; 4]
     ensures { result ≡ order_words order }
 {
@@ -217,11 +182,7 @@ fn put_lent(from: usize, values: &[u64], words: &mut [u64])
     requires { from + length values.now ≤ length words.old }
     ensures { words.new ≡ put_from from values.now words.old }
 {
-    let mut i = 0;
-    while i < values.len() {
-        words[from + i] = values[i];
-        i += 1;
-    }
+    words[from..from + values.len()].copy_from_slice(values);
 }
 
 // Writes the values from word `from` on one by one, and nothing beyond the end.
@@ -229,10 +190,8 @@ fn put_each(from: usize, values: &[u64], words: &mut [u64])
     requires { from < state_size }
     ensures { words.new ≡ put_from from values.now words.old }
 {
-    let mut i = 0;
-    while i < values.len() {
-        words::put(words, from + i, values[i]);
-        i += 1;
+    for (i, value) in values.iter().enumerate() {
+        words::put(words, from + i, *value);
     }
 }
 
@@ -256,10 +215,9 @@ fn put_search(search: SubjectSearch, words: &mut [u64])
     match search {
         SubjectSearch::One(x) => {
             let own = one_effect::save(x);
-            let none = [0, 0, 0, 0, 0];
             words::put(words, 18, 1);
             put_from(19, &own, words);
-            put_from(39, &none, words);
+            put_from(39, &[0; 5], words);
         }
         SubjectSearch::Two(x) => {
             let own = two_effects::save(x);
@@ -277,9 +235,8 @@ pub fn save(state: State, words: &mut [u64])
     let objective = objective_words(progress.awaits, state.parameters);
     let position = progress_words(progress);
     let order = order_words(state.order);
-    let search = progress.search;
     put_from(0, &objective, words);
     put_from(6, &position, words);
     put_from(14, &order, words);
-    put_search(search, words);
+    put_search(progress.search, words);
 }

@@ -7,6 +7,3 @@ use Rattle.state_words.proofs.put_each.Given as goal
 
 abbrev pub invariant-loop-i : goal.invariant-loop-i
 invariant-loop-i l = (put_from (l.from + l.i) (drop l.i l.values) l.words ≡ put_from l.from l.values l.initial.words) × (length l.words ≡ length l.initial.words)
-
-abbrev pub decreases-loop-i : goal.decreases-loop-i
-decreases-loop-i l = length l.values - l.i

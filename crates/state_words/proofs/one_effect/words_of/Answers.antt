@@ -1,7 +1,0 @@
--- `words_of` meets its contract. Assumes nothing.
-use Rattle.state_words.specs.SearchWords.{words_of}
-use Rattle.state_words.proofs.one_effect.words_of.Goals as goal
-
-pub returns : goal.returns
-unfolding words_of
-returns c = rw (c.to_word.ensures, c.to_word-2.ensures, c.to_word-3.ensures, c.to_word-4.ensures)
