@@ -1,5 +1,5 @@
 -- The ways through the code: one law for each, over plain variables. Assumes nothing.
-use Rattle.std.specs.Prelude.{Ok, Result}
+use Rattle.std.specs.Prelude.{Err, None, Ok, Option, Result, Some}
 use mathlib.Core.Path.{◌≡◌, refl, sym, ap, subst, ◌∙◌}
 use mathlib.Core.List.{List, [], ◌∷◌}
 use Prim.Native.Nat.{ℕ, zero, suc, ◌+◌, ◌-◌, ◌*◌, ◌/◌, ◌≤◌, ◌<◌}
@@ -25,8 +25,6 @@ use Rattle.session.specs.declared.Called.{Called}
 use Rattle.session.specs.declared.Begun.{Begun}
 use Rattle.program_calls.specs.Recorded.{call_of, open_of}
 use Rattle.focei_records.specs.Records.{answer, cohort, counts as countsIn, observations as observationsIn, reply}
-use Rattle.focei_records.specs.declared.Cohort.{Cohort}
-use Rattle.focei_records.specs.declared.Cohort.TheVariants as Cohorts
 use Rattle.focei_records.proofs.Bounds.{counts_length, observations_length, reply_length}
 use Rattle.focei_text.specs.Report.{finished, refusal_line}
 use Rattle.words.specs.Written.{Written, written, write}
@@ -55,33 +53,30 @@ pub whole_reply : {r : ℕ} {w' : List ℕ} (input w : List ℕ) (first n : ℕ)
 whole_reply input w first n individual h j e = let most = reply_length input first n individual in front (reply input first n individual) w (omega arith) e
 
 -- ---- question and answer
-module _ (input counts observations : List ℕ) (left : ℕ) (r : Ran (Held words) Step) where
-  pub play_none : left ≤ 0 → r ≡ play input counts observations left r
+module _ (input counts observations : List ℕ) (r : Ran (Held words) Step) where
+  pub play_none : (left : ℕ) → left ≤ 0 → r ≡ play input counts observations left r
   unfolding play
-  play_none h = let none : 0 ≡ left = omega arith in ap (λ (m : ℕ). play input counts observations m r) none
+  play_none left h = let none : 0 ≡ left = omega arith in ap (λ (m : ℕ). play input counts observations m r) none
 
-  pub play_asked : {r' : Ran (Held words) Step} {eta individual : Pair} → 0 < left → r.answer ≡ Asked eta individual → r' ≡ replied input counts observations r.state individual
-      → play input counts observations (left - 1) r' ≡ play input counts observations left r
+  pub play_asked : {r' : Ran (Held words) Step} {eta individual : Pair} (rest left : ℕ) → suc rest ≡ left → r.answer ≡ Asked eta individual → r' ≡ replied input counts observations r.state individual
+      → play input counts observations rest r' ≡ play input counts observations left r
   unfolding play when_asked
-  play_asked {r'} h e q =
-      let more : suc (left - 1) ≡ left = omega arith in
-      ap (play input counts observations (left - 1)) q
-      ∙ ap (when_asked (λ individual. play input counts observations (left - 1) (replied input counts observations r.state individual)) r) (sym e)
+  play_asked rest left more e q =
+      ap (play input counts observations rest) q
+      ∙ ap (when_asked (λ individual. play input counts observations rest (replied input counts observations r.state individual)) r) (sym e)
       ∙ ap (λ (m : ℕ). play input counts observations m r) more
 
-  over : 0 < left → ((go : Pair → Ran (Held words) Step) → r ≡ when_asked go r r.answer) → r ≡ play input counts observations left r
+  stays : (go : Pair → Ran (Held words) Step) (x : Step) → ((eta individual : Pair) → x ≡ Asked eta individual → ⊥) → r ≡ when_asked go r x
+  unfolding when_asked
+  stays go (Asked eta individual) f = absurd (f eta individual refl)
+  stays go (Finished x) f = refl
+  stays go (Refused number place) f = refl
+
+  -- without a question it is over
+  pub play_over : (left : ℕ) → ((eta individual : Pair) → r.answer ≡ Asked eta individual → ⊥) → r ≡ play input counts observations left r
   unfolding play
-  over h e =
-      let more : suc (left - 1) ≡ left = omega arith in
-      e (λ individual. play input counts observations (left - 1) (replied input counts observations r.state individual)) ∙ ap (λ (m : ℕ). play input counts observations m r) more
-
-  pub play_finished : {x : Float} → 0 < left → r.answer ≡ Finished x → r ≡ play input counts observations left r
-  unfolding when_asked
-  play_finished h e = over h (λ go. ap (when_asked go r) (sym e))
-
-  pub play_refused : {number : ℕ} {place : Place} → 0 < left → r.answer ≡ Refused number place → r ≡ play input counts observations left r
-  unfolding when_asked
-  play_refused h e = over h (λ go. ap (when_asked go r) (sym e))
+  play_over zero f = refl
+  play_over (suc left) f = stays _ r.answer f
 
 -- the objective to its end, from where it begins
 pub plays : {setup : Setup} {p : Parameters} {first r : Ran (Held words) Step} (input counts observations : List ℕ) (h : Held words) → setup ≡ settings → p ≡ first_parameters → first ≡ call_of setup
@@ -119,7 +114,7 @@ module _ (input counts observations cache work warm results : List ℕ) (t : Wri
       ap (when_opened input counts observations results (begun_with b cache₁ work₁ warm₁)) (sym f)
       ∙ ap (λ (s : Setting). when_opened input counts observations results s s.begun.opening) setting
 
-  pub not_opened : {number : ℕ} {place : Place} {t' : Written} → b.opening ≡ Err (record { number = number; place = place }) → t' ≡ write (refusal_line number place) t → t' ≡ write
+  pub not_opened : {e : Refusal} {t' : Written} → b.opening ≡ Err e → t' ≡ write (refusal_line e.number e.place) t → t' ≡ write
       (fitted input counts observations cache work warm results) t
   unfolding when_opened
   not_opened f g = g ∙ ap (λ (l : List ℕ). write l t) (opened_as _ f)
@@ -147,16 +142,16 @@ unfolding lent
 lends input n t e f q = q ∙ (λ i. write (fitted input (e i) (f i) (replicate 1536 0) (replicate 3072 0) (replicate 256 0) (replicate 1280 0)) t)
 
 -- ---- the program; c is what the check of the records found
-module _ (input : List ℕ) (c : Cohort) (e : answer c ≡ cohort input) where
-  pub counted : {n : ℕ} → c ≡ Cohorts.Subjects n → cohort input ≡ given n
+module _ (input : List ℕ) (c : Option ℕ) (e : answer c ≡ cohort input) where
+  pub counted : {n : ℕ} → c ≡ Some n → cohort input ≡ given n
   unfolding answer
   counted f = sym e ∙ ap answer f
 
   module _ (t : Written) where
-    pub is_cohort_lem : {n : ℕ} {t' : Written} → c ≡ Cohorts.Subjects n → t' ≡ write (lent input n) t → t' ≡ write (output input) t
+    pub is_cohort_lem : {n : ℕ} {t' : Written} → c ≡ Some n → t' ≡ write (lent input n) t → t' ≡ write (output input) t
     unfolding output when_records
     is_cohort_lem f q = q ∙ ap (λ (o : Answer ℕ). write (when_records input o) t) (sym (counted f))
 
-    pub no_cohort_lem : {t' : Written} → c ≡ Cohorts.Refused → t' ≡ write (refusal_line 20 Nowhere) t → t' ≡ write (output input) t
+    pub no_cohort_lem : {t' : Written} → c ≡ None → t' ≡ write (refusal_line 20 Nowhere) t → t' ≡ write (output input) t
     unfolding answer output when_records
     no_cohort_lem f q = q ∙ ap (λ (o : Answer ℕ). write (when_records input o) t) (ap answer (sym f) ∙ e)

@@ -1,5 +1,5 @@
 -- The program's text is short enough for the program's buffer: so that it is printed whole. Assumes nothing.
-use Rattle.std.specs.Prelude.{Ok, Result}
+use Rattle.std.specs.Prelude.{Err, Ok, Result}
 use mathlib.Core.Path.{◌≡◌, refl, sym, ap, subst, ◌∙◌}
 use mathlib.Core.Bool.{Bool, true, false}
 use mathlib.Core.List.{List, [], ◌∷◌}
@@ -24,7 +24,7 @@ use Rattle.focei_records.specs.Records.{cohort, counts as countsIn}
 use Rattle.focei_records.proofs.Bounds.{sum, counts_length, few_counted, few_records}
 use Rattle.focei_text.specs.Report.{subjects_of}
 use Rattle.focei_text.proofs.Lengths.{rows_from, rows_at_most, few_subjects, finished_length, refusal_length}
-use Rattle.words.specs.Words.{smaller}
+use Rattle.std.proofs.Common.{min}
 use Rattle.words.specs.Written.{Written, written, write}
 use Rattle.words.proofs.Front.{fits}
 use Rattle.focei_fit.specs.Output.{ended, end_of, when_opened, fitted, lent, when_records, output, printed}
@@ -92,17 +92,17 @@ unfolding printed
 whole input out h q = let l = short input in q ∙ fits (output input) out (omega arith)
 
 -- and so of the bytes that are taken; m is how many
-taken : (l : List ℕ) (got : ℕ) (b : Bool) → ltb got (length l) ≡ b → take (smaller got (length l)) l ≡ take got l
+taken : (l : List ℕ) (got : ℕ) (b : Bool) → ltb got (length l) ≡ b → take (min got (length l)) l ≡ take got l
 taken l got true e =
     let inside : got < length l = ltb-true _ _ e in
-    let same : smaller got (length l) ≡ got = omega arith in
+    let same : min got (length l) ≡ got = omega arith in
     ap (λ (n : ℕ). take n l) same
 taken l got false e =
     let beyond : length l ≤ got = ltb-false _ _ e in
-    let same : smaller got (length l) ≡ length l = omega arith in
+    let same : min got (length l) ≡ length l = omega arith in
     ap (λ (n : ℕ). take n l) same ∙ take_all (length l) l (omega arith) ∙ sym (take_all got l beyond)
 
-pub prints : {r m : ℕ} {out' : List ℕ} (input out : List ℕ) (got : ℕ) → longest_text ≤ length out → m ≡ smaller got (length input)
+pub prints : {r m : ℕ} {out' : List ℕ} (input out : List ℕ) (got : ℕ) → longest_text ≤ length out → m ≡ min got (length input)
     → written r out' ≡ write (output (take m input)) (written 0 out) → written r out' ≡ printed (take got input) out
 prints input out got h e q =
     let all = taken input got (ltb got (length input)) refl in

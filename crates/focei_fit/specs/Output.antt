@@ -1,5 +1,5 @@
 -- Document 01's program: from the bytes of its records to the bytes that it prints.
-use Rattle.std.specs.Prelude.{List, [], ◌∷◌, ◌++◌, ℕ, zero, suc, ◌+◌, ◌*◌, length, drop, replicate, None, Ok, Result}
+use Rattle.std.specs.Prelude.{List, [], ◌∷◌, ◌++◌, ℕ, zero, suc, ◌+◌, ◌*◌, length, drop, replicate, Err, None, Ok, Result}
 use Rattle.float64.specs.Answer.{Answer, given, refused}
 use Rattle.float64.specs.Arithmetic.{word, one}
 use Rattle.words.specs.Written.{Written, written}

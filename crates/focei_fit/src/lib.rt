@@ -8,10 +8,9 @@ ghost use Rattle.words.specs.Written.{written, write};
 ghost use Rattle.focei_fit.specs.Output.{most_evaluations, settings, first_parameters, replied, play, begun, ended, fitted, lent};
 ghost use Rattle.focei_fit.specs.Output.{output, input_bytes, printed};
 
-use focei_records::Cohort;
 use matrix::Pair;
 use search::{CachedRows, Calls, Place, Step, Tally};
-use session::{Called, Refusal, State};
+use session::{Called, State};
 use setup::{Parameters, Setup};
 
 // The evaluations of a session, and the most questions that are answered: each question raises them.
@@ -75,16 +74,13 @@ fn answer(
         ≡ replied input.now counts.now observations.now
         (held_of at.state at.tally cache.old work.old warm.old results.old) individual }
 {
-    let state = at.state;
-    let tally = at.tally;
-    let progress = state.progress;
+    let progress = at.state.progress;
     let rows = population::rows_of(counts, progress.subject);
     let n = focei_records::reply(input, progress.first, rows, individual.first, reply);
-    let setup = settings();
     program_calls::reply(
-        setup,
-        state,
-        tally,
+        settings(),
+        at.state,
+        at.tally,
         observations,
         counts,
         &reply[..n],
@@ -113,32 +109,22 @@ fn play(
         (called first cache.old work.old warm.old results.old) }
 {
     let mut at = first;
-    let mut left = MOST_EVALUATIONS;
-    while 0 < left {
-        let step = at.step;
-        match step {
-            Step::Asked(_, individual) => {
-                at = answer(
-                    input,
-                    at,
-                    individual,
-                    observations,
-                    counts,
-                    reply,
-                    cache,
-                    work,
-                    warm,
-                    results,
-                );
-            }
-            Step::Finished(_) => {
-                return at;
-            }
-            Step::Refused(_, _) => {
-                return at;
-            }
-        }
-        left -= 1;
+    for _turn in 0..MOST_EVALUATIONS {
+        let Step::Asked(_, individual) = at.step else {
+            return at;
+        };
+        at = answer(
+            input,
+            at,
+            individual,
+            observations,
+            counts,
+            reply,
+            cache,
+            work,
+            warm,
+            results,
+        );
     }
     at
 }
@@ -150,14 +136,19 @@ fn told(at: Called, counts: &[u64], results: &[u64], out: &mut [u8]) -> usize
     ensures { written result out.new
         ≡ write (ended counts.now at.state at.tally results.now at.step) (written 0 out.old) }
 {
-    let state = at.state;
-    let tally = at.tally;
-    let step = at.step;
-    match step {
+    match at.step {
         Step::Asked(_, _) => focei_text::refused(out, 0, 19, Place::Nowhere),
         Step::Finished(objective) => {
-            let shrinkage = session::shrinkage(state, counts.len() as u32);
-            focei_text::finished(out, 0, objective, tally.calls.0, shrinkage, counts, results)
+            let shrinkage = session::shrinkage(at.state, counts.len() as u32);
+            focei_text::finished(
+                out,
+                0,
+                objective,
+                at.tally.calls.0,
+                shrinkage,
+                counts,
+                results,
+            )
         }
         Step::Refused(number, place) => focei_text::refused(out, 0, number, place),
     }
@@ -182,11 +173,9 @@ fn run(
         (begun counts.now observations.now
         (held_of state tally cache.old work.old warm.old results.old)) }
 {
-    let setup = settings();
-    let parameters = first_parameters();
     let first = program_calls::objective(
-        setup,
-        parameters,
+        settings(),
+        first_parameters(),
         state,
         tally,
         observations,
@@ -226,13 +215,12 @@ fn fit(
         ≡ write (fitted input.now counts.now observations.now cache.old work.old
         warm.old results.old) (written 0 out.old) }
 {
-    let setup = settings();
     let none = Tally {
         calls: Calls(0),
         cached_rows: CachedRows(0),
     };
     let opened = program_calls::open(
-        setup,
+        settings(),
         none,
         observations,
         counts,
@@ -241,14 +229,12 @@ fn fit(
         warm,
         results,
     );
-    let tally = opened.tally;
-    let opening = opened.opening;
-    match opening {
+    match opened.opening {
         Ok(state) => {
             let last = run(
                 input,
                 state,
-                tally,
+                opened.tally,
                 observations,
                 counts,
                 reply,
@@ -259,7 +245,7 @@ fn fit(
             );
             told(last, counts, results, out)
         }
-        Err(Refusal { number, place }) => focei_text::refused(out, 0, number, place),
+        Err(refusal) => focei_text::refused(out, 0, refusal.number, refusal.place),
     }
 }
 
@@ -296,8 +282,8 @@ pub fn write_text(input: &[u8], out: &mut [u8]) -> usize
     ensures { written result out.new ≡ write (output input.now) (written 0 out.old) }
 {
     match focei_records::cohort_of(input) {
-        Cohort::Subjects(subjects) => lend(input, subjects, out),
-        Cohort::Refused => focei_text::refused(out, 0, 20, Place::Nowhere),
+        Some(subjects) => lend(input, subjects, out),
+        None => focei_text::refused(out, 0, 20, Place::Nowhere),
     }
 }
 
@@ -309,6 +295,5 @@ pub fn focei(input: &[u8; INPUT_BYTES], got: usize, out: &mut [u8; LONGEST_TEXT]
     ensures out_after { written result out.new ≡ printed (take got input.now) out.old }
 {
     let bytes: &[u8] = input;
-    let read = words::smaller(got, bytes.len());
-    write_text(&bytes[..read], out)
+    write_text(&bytes[..got.min(bytes.len())], out)
 }

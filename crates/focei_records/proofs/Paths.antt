@@ -1,7 +1,8 @@
 -- The ways through the code: one law for each, over plain variables. Assumes nothing.
+use Rattle.std.specs.Prelude.{Some, None}
 use mathlib.Core.Path.{◌≡◌, refl, sym, ap, ◌∙◌}
 use mathlib.Core.List.{List, [], ◌∷◌}
-use Prim.Native.Nat.{ℕ, suc, ◌+◌, ◌-◌, ◌/◌, ◌%◌, ◌≤◌, ◌<◌}
+use Prim.Native.Nat.{ℕ, zero, suc, ◌+◌, ◌-◌, ◌/◌, ◌%◌, ◌≤◌, ◌<◌}
 use native.Mathlib.Nat.{add-zero, add_assoc}
 use native.Mathlib.Omega.{arith}
 use borrow.Author.Tests.{lt-ltb, le-ltb, eq-eqb, ne_eqb}
@@ -13,7 +14,6 @@ use Rattle.float64.specs.Arithmetic.{◌+ᶠ◌, ◌*ᶠ◌, word}
 use Rattle.float64.specs.Pick.{pick, yes, no}
 use Rattle.words.specs.Written.{Written, write}
 use Rattle.words.proofs.Front.{write_append}
-use Rattle.focei_records.specs.declared.Cohort.TheVariants.{Subjects, Refused}
 use Rattle.focei_records.specs.Records.{records, subject_at, reserved_at, float_at, answer, cohort_from, cohort, count_from, counts_from, counts, observation_at, observations_from, observations}
 use Rattle.focei_records.specs.Records.{row_at, replied_from, reply}
 
@@ -26,7 +26,7 @@ one_more n i h = omega arith
 
 -- ---- 20, at record i of n, with s subjects before it; r is its reserved word, x its subject
 module _ (n i s : ℕ) (input : List ℕ) where
-  pub cohort_end : n ≤ i → answer (Subjects s) ≡ cohort_from (n - i) input i s
+  pub cohort_end : n ≤ i → answer (Some s) ≡ cohort_from (n - i) input i s
   unfolding answer cohort_from
   cohort_end h = ap (λ (m : ℕ). cohort_from m input i s) (none_left n i h)
 
@@ -34,7 +34,7 @@ module _ (n i s : ℕ) (input : List ℕ) where
     here : cohort_from (suc (n - (i + 1))) input i s ≡ cohort_from (n - i) input i s
     here = ap (λ (m : ℕ). cohort_from m input i s) (one_more n i h)
 
-    pub not_reserved : (r ≡ 0 → ⊥) → answer Refused ≡ cohort_from (n - i) input i s
+    pub not_reserved : (r ≡ 0 → ⊥) → answer None ≡ cohort_from (n - i) input i s
     unfolding answer cohort_from
     not_reserved d = no _ (ne_eqb _ _ (λ e. d (er ∙ e))) refl ∙ here
 
@@ -50,7 +50,7 @@ module _ (n i s : ℕ) (input : List ℕ) where
           (no _ (ne_eqb _ _ (λ q. d (ex ∙ q)))
           (yes _ (eq-eqb _ _ (ap (λ (y : ℕ). y + 1) (sym ex) ∙ e)) (ap (cohort_from (n - (i + 1)) input (i + 1)) t))) ∙ here
 
-      pub stray_subject : (x ≡ s → ⊥) → (x + 1 ≡ s → ⊥) → answer Refused ≡ cohort_from (n - i) input i s
+      pub stray_subject : (x ≡ s → ⊥) → (x + 1 ≡ s → ⊥) → answer None ≡ cohort_from (n - i) input i s
       unfolding answer cohort_from
       stray_subject d f =
           yes _ (eq-eqb _ _ (sym er ∙ z))
@@ -58,11 +58,11 @@ module _ (n i s : ℕ) (input : List ℕ) where
           (no _ (ne_eqb _ _ (λ q. f (ap (λ (y : ℕ). y + 1) ex ∙ q))) refl)) ∙ here
 
 module _ (input : List ℕ) where
-  pub not_whole : (length input % 48 ≡ 0 → ⊥) → answer Refused ≡ cohort input
+  pub not_whole : (length input % 48 ≡ 0 → ⊥) → answer None ≡ cohort input
   unfolding answer cohort
   not_whole d = no _ (ne_eqb _ _ d) refl
 
-  pub too_many : length input % 48 ≡ 0 → 256 < length input / 48 → answer Refused ≡ cohort input
+  pub too_many : length input % 48 ≡ 0 → 256 < length input / 48 → answer None ≡ cohort input
   unfolding answer cohort
   too_many e h = yes _ (eq-eqb _ _ e) (yes _ (lt-ltb _ _ h) refl)
 
@@ -150,27 +150,19 @@ simulated input individual i t eb ex es ey e₁ e₂ ev e₃ ed e₄ =
     ∙ (λ j. write ((ev ∙ (λ k. to_bits binary64 (x-is k +ᶠ y-is k *ᶠ individual))) j ∷ slope ∷ []) (e₂ j))
     ∙ (λ j. write (0 ∷ value ∷ slope ∷ []) (e₁ j))
 
-module _ (left i : ℕ) (input : List ℕ) (individual : Float) (t : Written) where
-  pub reply_end : left ≤ 0 → t ≡ write (replied_from left input individual i) t
-  unfolding replied_from write
-  reply_end h = let none : 0 ≡ left = omega arith in ap (λ (m : ℕ). write (replied_from m input individual i) t) none
+pub reply_end : (left i : ℕ) (input : List ℕ) (individual : Float) (t : Written) → (0 < left → length input / 48 ≤ i) → t ≡ write (replied_from left input individual i) t
+unfolding replied_from write
+reply_end zero i input individual t f = refl
+reply_end (suc left) i input individual t f = ap (λ (l : List ℕ). write l t) (no _ (le-ltb _ _ (f (omega arith))) refl)
 
-  module _ (h : 0 < left) where
-    more : suc (left - 1) ≡ left
-    more = omega arith
-
-    pub reply_short : length input / 48 ≤ i → t ≡ write (replied_from left input individual i) t
-    unfolding replied_from write
-    reply_short j = ap (λ (l : List ℕ). write l t) (no _ (le-ltb _ _ j) refl) ∙ ap (λ (m : ℕ). write (replied_from m input individual i) t) more
-
-    pub reply_step : {t' : Written} → i < length input / 48 → t' ≡ write (row_at input individual i) t → write (replied_from (left - 1) input individual (i + 1)) t' ≡ write
-        (replied_from left input individual i) t
-    unfolding replied_from
-    reply_step j q =
-        ap (write (replied_from (left - 1) input individual (i + 1))) q
-        ∙ sym (write_append (row_at input individual i) (replied_from (left - 1) input individual (i + 1)) t)
-        ∙ ap (λ (l : List ℕ). write l t) (yes _ (lt-ltb _ _ j) refl)
-        ∙ ap (λ (m : ℕ). write (replied_from m input individual i) t) more
+pub reply_step : {t' : Written} (rest left i : ℕ) (input : List ℕ) (individual : Float) (t : Written) → suc rest ≡ left → i < length input / 48 → t' ≡ write (row_at input individual i) t
+    → write (replied_from rest input individual (i + 1)) t' ≡ write (replied_from left input individual i) t
+unfolding replied_from
+reply_step rest left i input individual t more j q =
+    ap (write (replied_from rest input individual (i + 1))) q
+    ∙ sym (write_append (row_at input individual i) (replied_from rest input individual (i + 1)) t)
+    ∙ ap (λ (l : List ℕ). write l t) (yes _ (lt-ltb _ _ j) refl)
+    ∙ ap (λ (m : ℕ). write (replied_from m input individual i) t) more
 
 pub reply_all : {t' : Written} (input : List ℕ) (first rows : ℕ) (individual : Float) (t : Written) → t' ≡ write (replied_from rows input individual first) t → t' ≡ write
     (reply input first rows individual) t

@@ -1,13 +1,11 @@
 -- Document 01's records: 48 bytes, no header, little-endian: subject and reserved word of 32 bits, then value, additive, proportional,
 -- base, slope.
-use Rattle.std.specs.Prelude.{List, [], ◌∷◌, ◌++◌, ℕ, zero, suc, ◌+◌, ◌*◌, ◌/◌, ◌%◌, eqb, ltb, Float, get_or, length}
+use Rattle.std.specs.Prelude.{List, [], ◌∷◌, ◌++◌, ℕ, zero, suc, ◌+◌, ◌*◌, ◌/◌, ◌%◌, eqb, ltb, Float, get_or, length, Option, Some, None}
 use Rattle.std.specs.Float.{binary64}
 use Rattle.std.specs.Float.Ieee.{to_bits}
 use Rattle.float64.specs.Answer.{Answer, given, refused}
 use Rattle.float64.specs.Arithmetic.{◌+ᶠ◌, ◌*ᶠ◌, word}
 use Rattle.float64.specs.Pick.{pick}
-use Rattle.focei_records.specs.declared.Cohort.{Cohort}
-use Rattle.focei_records.specs.declared.Cohort.TheVariants.{Subjects, Refused}
 
 -- the bytes of a record, and the most records that the program takes
 abbrev pub record_bytes : ℕ
@@ -44,9 +42,9 @@ abbrev pub no_cohort : Answer ℕ
 no_cohort = refused 20
 
 -- what each case of the code's answer says
-unfoldable pub answer : Cohort → Answer ℕ
-answer (Subjects n) = given n
-answer Refused = no_cohort
+unfoldable pub answer : Option ℕ → Answer ℕ
+answer (Some n) = given n
+answer None = no_cohort
 
 -- the records from i on, with so many subjects before them
 unfoldable pub cohort_from : ℕ → List ℕ → ℕ → ℕ → Answer ℕ

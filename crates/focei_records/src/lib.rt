@@ -15,29 +15,14 @@ pub const RECORD_BYTES: usize = 48;
 // The most records that the program takes.
 pub const MOST_RECORDS: usize = 256;
 
-// What check 20 of the records finds: how many subjects they have, or that it refuses them.
-#[derive(Clone, Copy)]
-pub enum Cohort {
-    Subjects(usize),
-    Refused,
-}
-
 // ---- a record's fields
 
-fn wide(byte: u8) -> u64
-    ensures { (result ≡ byte) × (result < 256) }
-{
-    byte as u64
-}
-
 // 32 bits from a byte on.
-fn half_at(input: &[u8], at: usize) -> u64
+fn half_at(input: &[u8], at: usize) -> u32
     requires { at + 4 ≤ length input.now }
-    ensures { (result ≡ half_at input.now at) × (result < 4294967296) }
+    ensures { result ≡ half_at input.now at }
 {
-    let low = wide(input[at]) + 256 * wide(input[at + 1]);
-    let high = wide(input[at + 2]) + 256 * wide(input[at + 3]);
-    low + 65536 * high
+    u32::from_le_bytes([input[at], input[at + 1], input[at + 2], input[at + 3]])
 }
 
 // 64 bits from a byte on.
@@ -45,7 +30,7 @@ fn word_at(input: &[u8], at: usize) -> u64
     requires { at + 8 ≤ length input.now }
     ensures { result ≡ word_at input.now at }
 {
-    half_at(input, at) + 4294967296 * half_at(input, at + 4)
+    u64::from(half_at(input, at)) + 4294967296 * u64::from(half_at(input, at + 4))
 }
 
 fn subject_at(input: &[u8], i: usize) -> usize
@@ -55,7 +40,7 @@ fn subject_at(input: &[u8], i: usize) -> usize
     half_at(input, RECORD_BYTES * i) as usize
 }
 
-fn reserved_at(input: &[u8], i: usize) -> u64
+fn reserved_at(input: &[u8], i: usize) -> u32
     requires { i < length input.now / 48 }
     ensures { result ≡ reserved_at input.now i }
 {
@@ -73,37 +58,35 @@ fn float_at(input: &[u8], i: usize, field: usize) -> u64
 // ---- check 20
 
 // Reserved words are 0, and the subjects count from 0, each the one before it or the next.
-fn subjects(input: &[u8]) -> Cohort
+fn subjects(input: &[u8]) -> Option<usize>
     ensures { answer result ≡ cohort_from (length input.now / 48) input.now 0 0 }
 {
     let records = input.len() / RECORD_BYTES;
     let mut subjects = 0;
-    let mut i = 0;
-    while i < records {
+    for i in 0..records {
         if reserved_at(input, i) != 0 {
-            return Cohort::Refused;
+            return None;
         }
         let subject = subject_at(input, i);
         if subject == subjects {
             subjects += 1;
         } else if subject + 1 != subjects {
-            return Cohort::Refused;
+            return None;
         }
-        i += 1;
     }
-    Cohort::Subjects(subjects)
+    Some(subjects)
 }
 
 // Document 01's check 20 of the records: whole records, at most 256, reserved words 0, and subjects that
-// count from 0. Gives the number of subjects.
-pub fn cohort_of(input: &[u8]) -> Cohort
+// count from 0. Gives the number of subjects, or none where it refuses them.
+pub fn cohort_of(input: &[u8]) -> Option<usize>
     ensures { answer result ≡ cohort input.now }
 {
     if input.len() % RECORD_BYTES != 0 {
-        return Cohort::Refused;
+        return None;
     }
     if MOST_RECORDS < input.len() / RECORD_BYTES {
-        return Cohort::Refused;
+        return None;
     }
     subjects(input)
 }
@@ -116,12 +99,10 @@ fn count(input: &[u8], records: usize, subject: usize) -> u64
     ensures { result ≡ count_from records input.now 0 subject }
 {
     let mut total = 0;
-    let mut i = 0;
-    while i < records {
+    for i in 0..records {
         if subject_at(input, i) == subject {
             total += 1;
         }
-        i += 1;
     }
     total
 }
@@ -132,10 +113,8 @@ pub fn counts(input: &[u8], subjects: usize, out: &mut [u64]) -> usize
 {
     let records = input.len() / RECORD_BYTES;
     let mut end = 0;
-    let mut subject = 0;
-    while subject < subjects {
+    for subject in 0..subjects {
         end = words::word(out, end, count(input, records, subject));
-        subject += 1;
     }
     end
 }
@@ -160,10 +139,8 @@ pub fn observations(input: &[u8], out: &mut [u64]) -> usize
 {
     let records = input.len() / RECORD_BYTES;
     let mut end = 0;
-    let mut i = 0;
-    while i < records {
+    for i in 0..records {
         end = observation(input, i, out, end);
-        i += 1;
     }
     end
 }
@@ -192,15 +169,8 @@ pub fn reply(input: &[u8], first: usize, rows: usize, individual: f64, out: &mut
 {
     let records = input.len() / RECORD_BYTES;
     let mut end = 0;
-    let mut i = first;
-    let mut left = rows;
-    while 0 < left {
-        if records <= i {
-            return end;
-        }
+    for i in first..first.saturating_add(rows).min(records) {
         end = row(input, i, individual, out, end);
-        i += 1;
-        left -= 1;
     }
     end
 }

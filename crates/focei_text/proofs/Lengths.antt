@@ -1,20 +1,19 @@
 -- How long the lines are, for every caller. Assumes nothing.
-use mathlib.Core.Path.{◌≡◌, refl, sym, ap, subst, ◌∙◌}
-use mathlib.Core.Bool.{true, false}
+use mathlib.Core.Path.{◌≡◌, refl, ap}
 use mathlib.Core.List.{List, [], ◌∷◌, ◌++◌}
-use Prim.Native.Nat.{ℕ, zero, suc, ◌+◌, ◌-◌, ◌*◌, ◌/◌, ◌%◌, ◌≤◌, ◌<◌}
+use Prim.Native.Nat.{ℕ, zero, suc, ◌+◌, ◌*◌, ◌/◌, ◌%◌, ◌≤◌}
 use native.Mathlib.Omega.{arith}
-use borrow.Author.Tests.{ltb-true, ltb-false}
+use borrow.Author.Tests.{ltb-false}
 use lib.Dec.{ltb}
 use lib.Ieee.{Float, binary64, to_bits}
-use lib.ListN.{get_or, length, drop, length-append}
-use Rattle.float64.specs.Pick.{pick, cases}
+use lib.ListN.{get_or, length, length-append}
+use Rattle.float64.specs.Pick.{cases}
 use Rattle.work.specs.Work.{most_rows, most_subjects}
 use Rattle.population.specs.Population.{rows_of}
 use Rattle.search.specs.declared.Place.{Place}
 use Rattle.search.specs.declared.Place.TheVariants.{Nowhere, Subject, Observation}
 use Rattle.focei_text.specs.Writing.{hex_from, hexadecimal, digits, decimal}
-use Rattle.focei_text.specs.Report.{fields, line, none, subject_field, observation_field, refusal_line, objective_line, subject_line, fitted_line, shrinkage_line, subject_lines, fitted_lines, all_fitted}
+use Rattle.focei_text.specs.Report.{fields, line, subject_field, observation_field, refusal_line, objective_line, subject_line, fitted_line, shrinkage_line, subject_lines, fitted_lines, all_fitted}
 use Rattle.focei_text.specs.Report.{subjects_of, finished}
 
 -- ---- numbers

@@ -1,12 +1,11 @@
 -- The ways through the code: one law for each, over plain variables. Assumes nothing.
 use mathlib.Core.Path.{◌≡◌, refl, sym, ap, ◌∙◌}
-use mathlib.Core.List.{List, [], ◌∷◌, ◌++◌}
+use mathlib.Core.List.{List, [], ◌∷◌}
 use Prim.Native.Nat.{ℕ, zero, suc, ◌+◌, ◌-◌, ◌*◌, ◌/◌, ◌%◌, ◌≤◌, ◌<◌}
 use native.Mathlib.Omega.{arith}
 use borrow.Author.Tests.{lt-ltb, le-ltb}
-use lib.ListN.{set, length}
 use Rattle.float64.specs.Pick.{yes, no}
-use Rattle.words.specs.Written.{Written, written, put, write}
+use Rattle.words.specs.Written.{Written, put, write}
 use Rattle.focei_text.specs.Writing.{glyph, hex_from, hexadecimal, digits, decimal}
 use Rattle.words.proofs.Front.{write_append}
 
@@ -25,12 +24,11 @@ hex_end zero w t h = refl
 hex_end (suc left) w t h = absurd (omega arith)
 
 -- g is the topmost digit, t' what was written with it
-pub hex_step : {g : ℕ} {t' : Written} (left w : ℕ) (t : Written) → 0 < left → g ≡ glyph (w / 0x1000_0000_0000_0000) → t' ≡ write (g ∷ []) t → write
-    (hex_from (left - 1) (w % 0x1000_0000_0000_0000 * 16)) t' ≡ write (hex_from left w) t
+pub hex_step : {g : ℕ} {t' : Written} (rest left w : ℕ) (t : Written) → suc rest ≡ left → g ≡ glyph (w / 0x1000_0000_0000_0000) → t' ≡ write (g ∷ []) t → write
+    (hex_from rest (w % 0x1000_0000_0000_0000 * 16)) t' ≡ write (hex_from left w) t
 unfolding write hex_from
-hex_step left w t h eg e =
-    let more : suc (left - 1) ≡ left = omega arith in
-    ap (write (hex_from (left - 1) (w % 0x1000_0000_0000_0000 * 16))) (e ∙ ap (λ (g : ℕ). put g t) eg) ∙ ap (λ (m : ℕ). write (hex_from m w) t) more
+hex_step rest left w t more eg e =
+    ap (write (hex_from rest (w % 0x1000_0000_0000_0000 * 16))) (e ∙ ap (λ (g : ℕ). put g t) eg) ∙ ap (λ (m : ℕ). write (hex_from m w) t) more
 
 pub hex_all : {t' : Written} (w : ℕ) (t : Written) → t' ≡ write (hex_from 16 w) t → t' ≡ write (hexadecimal w) t
 unfolding hexadecimal

@@ -1,15 +1,16 @@
 -- The ways through the code: one law for each, over plain variables. Assumes nothing.
-use mathlib.Core.Path.{◌≡◌, refl, sym, ap, subst, ◌∙◌}
-use mathlib.Core.Bool.{Bool, true, false}
+use mathlib.Core.Path.{◌≡◌, sym, ap, ◌∙◌}
 use mathlib.Core.List.{List, [], ◌∷◌, ◌++◌}
-use Prim.Native.Nat.{ℕ, zero, suc, ◌+◌, ◌-◌, ◌*◌, ◌≤◌, ◌<◌}
+use mathlib.Core.Logic.{◌⊎◌, inl, inr}
+use Prim.Native.Nat.{ℕ, suc, ◌+◌, ◌-◌, ◌*◌, ◌≤◌, ◌<◌}
 use native.Mathlib.Omega.{arith}
-use borrow.Author.Tests.{lt-ltb, le-ltb, ltb-true}
+use borrow.Author.Tests.{ltb-true, ltb-false}
 use lib.Dec.{ltb}
 use lib.Ieee.{Float, binary64, to_bits}
 use lib.ListN.{get_or, length}
-use Rattle.float64.specs.Pick.{pick, yes, no, cases}
-use Rattle.words.specs.Written.{Written, written, write}
+use Rattle.float64.specs.Pick.{pick, cases}
+use Rattle.std.proofs.Common.{min}
+use Rattle.words.specs.Written.{Written, write}
 use Rattle.focei_text.specs.Writing.{decimal, hexadecimal}
 use Rattle.words.proofs.Front.{write_append}
 use Rattle.work.specs.Work.{most_rows, most_subjects}
@@ -98,11 +99,11 @@ module _ (n s i a : ℕ) (results : List ℕ) (t : Written) where
   unfolding fitted_lines write
   fitted_end h = ap (λ (m : ℕ). write (fitted_lines m s i a results) t) (none_left n i h)
 
-  pub fitted_step : {x y : ℕ} {t' : Written} → i < n → x ≡ get_or results a 0 → y ≡ get_or results (a + 1) 0 → t' ≡ write (fitted_line s i x y) t → write
-      (fitted_lines (n - (i + 1)) s (i + 1) (a + 2) results) t' ≡ write (fitted_lines (n - i) s i a results) t
+  pub fitted_step : {x y a' : ℕ} {t' : Written} → i < n → a' ≡ a + 2 → x ≡ get_or results a 0 → y ≡ get_or results (a + 1) 0 → t' ≡ write (fitted_line s i x y) t → write
+      (fitted_lines (n - (i + 1)) s (i + 1) a' results) t' ≡ write (fitted_lines (n - i) s i a results) t
   unfolding fitted_lines
-  fitted_step h ex ey q =
-      ap (write (fitted_lines (n - (i + 1)) s (i + 1) (a + 2) results)) (q ∙ (λ d. write (fitted_line s i (ex d) (ey d)) t))
+  fitted_step h ea ex ey q =
+      (λ d. write (fitted_lines (n - (i + 1)) s (i + 1) (ea d) results) ((q ∙ (λ k. write (fitted_line s i (ex k) (ey k)) t)) d))
       ∙ sym (write_append (fitted_line s i (get_or results a 0) (get_or results (a + 1) 0)) (fitted_lines (n - (i + 1)) s (i + 1) (a + 2) results) t)
       ∙ ap (λ (m : ℕ). write (fitted_lines m s i a results) t) (one_more n i h)
 
@@ -129,13 +130,12 @@ few_rows counts s e =
 
 -- ---- the number of subjects
 module _ (counts : List ℕ) where
-  pub few : length counts < 4096 → length counts ≡ subjects_of counts
+  pub at_most : {n : ℕ} → n ≡ min (length counts) 4096 → n ≡ subjects_of counts
   unfolding subjects_of
-  few h = yes _ (lt-ltb _ _ h) refl
-
-  pub many : 4096 ≤ length counts → 4096 ≡ subjects_of counts
-  unfolding subjects_of
-  many h = no _ (le-ltb _ _ h) refl
+  at_most e =
+      let least : min (length counts) 4096 ≡ pick (ltb (length counts) most_subjects) (length counts) most_subjects
+      = cases (λ (k : ℕ). min (length counts) 4096 ≡ k) (ltb (length counts) most_subjects) (λ q. omega (arith, ltb-true)) (λ q. omega (arith, ltb-false)) in
+      e ∙ least
 
   pub few_subjects : {n : ℕ} → n ≡ subjects_of counts → n ≤ 4096
   unfolding subjects_of
@@ -158,22 +158,20 @@ all_told {t₁ = t₁} {t₂ = t₂} objective evaluations shrinkage counts resu
 
 -- ---- the fields of a place
 module _ (place : Place) (t : Written) where
-  pub nowhere : {t' : Written} → place ≡ Nowhere → t' ≡ write (32 ∷ none) t → (t' ≡ write (32 ∷ subject_field place) t) × (t' ≡ write (32 ∷ observation_field place) t)
-  unfolding subject_field observation_field
-  nowhere e q = (q ∙ ap (λ (p : Place). write (32 ∷ subject_field p) t) (sym e), q ∙ ap (λ (p : Place). write (32 ∷ observation_field p) t) (sym e))
-
-  pub at_subject : {t' : Written} {s : ℕ} → place ≡ Subject s → t' ≡ write (32 ∷ decimal s) t → t' ≡ write (32 ∷ subject_field place) t
+  pub nowhere : {t' : Written} → place ≡ Nowhere → t' ≡ write (32 ∷ none) t → t' ≡ write (32 ∷ subject_field place) t
   unfolding subject_field
-  at_subject e q = q ∙ ap (λ (p : Place). write (32 ∷ subject_field p) t) (sym e)
+  nowhere e q = q ∙ ap (λ (p : Place). write (32 ∷ subject_field p) t) (sym e)
 
-  pub no_observation_lem : {t' : Written} {s : ℕ} → place ≡ Subject s → t' ≡ write (32 ∷ none) t → t' ≡ write (32 ∷ observation_field place) t
+  pub of_subject : {t' : Written} {s : ℕ} → (place ≡ Subject s) ⊎ ((n : ℕ) × (place ≡ Observation s n)) → t' ≡ write (32 ∷ decimal s) t → t' ≡ write (32 ∷ subject_field place) t
+  unfolding subject_field
+  of_subject (inl e) q = q ∙ ap (λ (p : Place). write (32 ∷ subject_field p) t) (sym e)
+  of_subject (inr (n, e)) q = q ∙ ap (λ (p : Place). write (32 ∷ subject_field p) t) (sym e)
+
+  pub no_observation_lem : {t' : Written} → (place ≡ Nowhere) ⊎ ((s : ℕ) × (place ≡ Subject s)) → t' ≡ write (32 ∷ none) t → t' ≡ write (32 ∷ observation_field place) t
   unfolding observation_field
-  no_observation_lem e q = q ∙ ap (λ (p : Place). write (32 ∷ observation_field p) t) (sym e)
+  no_observation_lem (inl e) q = q ∙ ap (λ (p : Place). write (32 ∷ observation_field p) t) (sym e)
+  no_observation_lem (inr (s, e)) q = q ∙ ap (λ (p : Place). write (32 ∷ observation_field p) t) (sym e)
 
   pub at_observation_lem : {t' : Written} {s n : ℕ} → place ≡ Observation s n → t' ≡ write (32 ∷ decimal n) t → t' ≡ write (32 ∷ observation_field place) t
   unfolding observation_field
   at_observation_lem e q = q ∙ ap (λ (p : Place). write (32 ∷ observation_field p) t) (sym e)
-
-  pub of_observation : {t' : Written} {s n : ℕ} → place ≡ Observation s n → t' ≡ write (32 ∷ decimal s) t → t' ≡ write (32 ∷ subject_field place) t
-  unfolding subject_field
-  of_observation e q = q ∙ ap (λ (p : Place). write (32 ∷ subject_field p) t) (sym e)

@@ -34,11 +34,9 @@ pub fn hexadecimal(out: &mut [u8], at: usize, value: u64) -> usize
 {
     let mut end = at;
     let mut rest = value;
-    let mut left: u32 = 16;
-    while 0 < left {
+    for _turn in 0..16u32 {
         end = words::byte(out, end, glyph(rest / 0x1000_0000_0000_0000));
         rest = rest % 0x1000_0000_0000_0000 * 16;
-        left -= 1;
     }
     end
 }
@@ -94,8 +92,9 @@ fn subject_field(out: &mut [u8], at: usize, place: Place) -> usize
 {
     match place {
         Place::Nowhere => no_field(out, at),
-        Place::Subject(subject) => decimal_field(out, at, subject),
-        Place::Observation(subject, _) => decimal_field(out, at, subject),
+        Place::Subject(subject) | Place::Observation(subject, _) => {
+            decimal_field(out, at, subject)
+        }
     }
 }
 
@@ -103,8 +102,7 @@ fn observation_field(out: &mut [u8], at: usize, place: Place) -> usize
     ensures { written result out.new ≡ write (32 ∷ observation_field place) (written at out.old) }
 {
     match place {
-        Place::Nowhere => no_field(out, at),
-        Place::Subject(_) => no_field(out, at),
+        Place::Nowhere | Place::Subject(_) => no_field(out, at),
         Place::Observation(_, observation) => decimal_field(out, at, observation),
     }
 }
@@ -175,15 +173,13 @@ fn subject_lines(out: &mut [u8], at: usize, subjects: usize, results: &[u64]) ->
         ≡ write (subject_lines subjects 0 results.now) (written at out.old) }
 {
     let mut end = at;
-    let mut subject = 0;
-    while subject < subjects {
+    for subject in 0..subjects {
         end = subject_line(
             out,
             end,
             subject,
             words::read(results, RESULT_WORDS * subject),
         );
-        subject += 1;
     }
     end
 }
@@ -202,14 +198,11 @@ fn fitted_lines(
         ≡ write (fitted_lines rows subject 0 first results.now) (written at out.old) }
 {
     let mut end = at;
-    let mut i = 0;
-    let mut word = first;
-    while i < rows {
+    for i in 0..rows {
+        let word = first + FITTED_WORDS * i;
         let population = words::read(results, word);
         let individual = words::read(results, word + 1);
         end = fitted_line(out, end, subject, i, population, individual);
-        i += 1;
-        word += 2;
     }
     end
 }
@@ -222,12 +215,10 @@ fn all_fitted(out: &mut [u8], at: usize, subjects: usize, counts: &[u64], result
         (written at out.old) }
 {
     let mut end = at;
-    let mut subject = 0;
     let mut word = RESULT_WORDS * subjects;
-    while subject < subjects {
+    for subject in 0..subjects {
         let rows = population::rows_of(counts, subject);
         end = fitted_lines(out, end, rows, subject, word, results);
-        subject += 1;
         word += FITTED_WORDS * rows;
     }
     end
@@ -237,10 +228,7 @@ fn all_fitted(out: &mut [u8], at: usize, subjects: usize, counts: &[u64], result
 fn subjects_of(counts: &[u64]) -> usize
     ensures { result ≡ subjects_of counts.now }
 {
-    if counts.len() < work::MOST_SUBJECTS {
-        return counts.len();
-    }
-    work::MOST_SUBJECTS
+    counts.len().min(work::MOST_SUBJECTS)
 }
 
 // Writes the lines of a finished objective: `O` with the objective and the evaluations, an `S` line with the

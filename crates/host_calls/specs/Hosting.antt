@@ -1,5 +1,5 @@
 -- A session's calls as a host makes them: the state and the answer as words, the tally and all that is lent beside them.
-use Rattle.std.specs.Prelude.{Bool, true, false, List, ℕ, ◌%◌, ◌^◌, ltb, eqb, length, set, Ok, Result}
+use Rattle.std.specs.Prelude.{Bool, true, false, List, ℕ, ◌%◌, ◌^◌, ltb, eqb, length, set, Err, Ok, Result}
 use Rattle.std.specs.Float.{binary64}
 use Rattle.std.specs.Float.Ieee.{to_bits}
 use Rattle.float64.specs.Answer.{Answer, given, refused}

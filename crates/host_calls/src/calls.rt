@@ -33,9 +33,8 @@ pub fn open(
     if state.len() < state_words::STATE_WORDS {
         return super::no_state(tally, answer);
     }
-    let own = super::setup_of(setup);
     let set_up = session_calls::open(
-        own,
+        super::setup_of(setup),
         tally,
         check,
         observations,
@@ -69,25 +68,23 @@ pub fn begin_objective(
         ≡ objective_with (setup_of setup) counts.now observations check tally state.old answer.old
         cache.now work.old warm.old results.old (parameters_of parameters) }
 {
-    match state_words::load(state) {
-        Some(at) => {
-            let begun = session_calls::begin_objective(
-                super::setup_of(setup),
-                super::parameters_of(parameters),
-                at,
-                tally,
-                check,
-                observations,
-                counts,
-                cache,
-                work,
-                warm,
-                results,
-            );
-            super::told(begun, state, answer)
-        }
-        None => super::no_state(tally, answer),
-    }
+    let Some(at) = state_words::load(state) else {
+        return super::no_state(tally, answer);
+    };
+    let begun = session_calls::begin_objective(
+        super::setup_of(setup),
+        super::parameters_of(parameters),
+        at,
+        tally,
+        check,
+        observations,
+        counts,
+        cache,
+        work,
+        warm,
+        results,
+    );
+    super::told(begun, state, answer)
 }
 
 // The simulator failed: where the failure is accepted, the objective ends with 8. The state and the answer
@@ -110,22 +107,20 @@ pub fn fail(
         ≡ failure_with (setup_of setup) counts.now observations check tally state.old answer.old
         cache.now work.old warm.now results.now }
 {
-    match state_words::load(state) {
-        Some(at) => {
-            let failed = session_calls::fail(
-                super::setup_of(setup),
-                at,
-                tally,
-                check,
-                observations,
-                counts,
-                cache,
-                work,
-                warm,
-                results,
-            );
-            super::told(failed, state, answer)
-        }
-        None => super::no_state(tally, answer),
-    }
+    let Some(at) = state_words::load(state) else {
+        return super::no_state(tally, answer);
+    };
+    let failed = session_calls::fail(
+        super::setup_of(setup),
+        at,
+        tally,
+        check,
+        observations,
+        counts,
+        cache,
+        work,
+        warm,
+        results,
+    );
+    super::told(failed, state, answer)
 }

@@ -10,10 +10,7 @@ use work::MOST_SUBJECTS;
 fn shrinkage_in(at: State, subjects: usize) -> Option<f64>
     ensures { told result ≡ shrinkage_in subjects at }
 {
-    if MOST_SUBJECTS < subjects {
-        return None;
-    }
-    if session::has_finished(at.progress, subjects) {
+    if subjects <= MOST_SUBJECTS && session::has_finished(at.progress, subjects) {
         return Some(session::shrinkage(at, subjects as u32));
     }
     None
@@ -26,15 +23,8 @@ fn shrinkage_in(at: State, subjects: usize) -> Option<f64>
 pub fn shrinkage_from(counts: &[u64], state: &[u64], answer: &[u64]) -> Option<f64>
     ensures { told result ≡ shrinkage_from counts.now state.now answer.now }
 {
-    if words::read(answer, 0) == 1 {
-        match state_words::load(state) {
-            Some(at) => {
-                return shrinkage_in(at, counts.len());
-            }
-            None => {
-                return None;
-            }
-        }
+    if words::read(answer, 0) != 1 {
+        return None;
     }
-    None
+    shrinkage_in(state_words::load(state)?, counts.len())
 }

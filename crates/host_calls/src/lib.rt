@@ -20,7 +20,7 @@ pub mod replies;
 
 use matrix::Pair;
 use search::{Place, Step, Tally};
-use session::{Begun, Called, Refusal};
+use session::{Begun, Called};
 use setup::{Parameters, Setup};
 
 // The setup of a session as a host gives it: `additive` overrides the observations' own deviations where
@@ -78,7 +78,6 @@ pub struct AnswerWords {
 pub fn setup_of(setup: SessionSetup) -> Setup
     ensures { (result ≡ setup_of setup) × (setup_of setup ≡ setup_from (setup_bits setup)) }
 {
-    let additive_sd = subject::additive_sd(setup.has_additive, setup.additive);
     Setup {
         effects: setup.effects,
         omega00: setup.omega_00,
@@ -89,7 +88,7 @@ pub fn setup_of(setup: SessionSetup) -> Setup
         gradient_tolerance: setup.gradient_tolerance,
         width: setup.width,
         k: setup.k,
-        additive_sd,
+        additive_sd: subject::additive_sd(setup.has_additive, setup.additive),
         output_budget: setup.output_budget,
         max_evaluations: setup.max_evaluations,
     }
@@ -100,18 +99,26 @@ pub fn setup_of(setup: SessionSetup) -> Setup
 pub fn parameters_of(parameters: SessionParameters) -> Parameters
     ensures { (result ≡ parameters_of parameters) × (parameters_of parameters ≡ parameters_from (parameter_bits parameters)) }
 {
-    let additive_sd = subject::additive_sd(parameters.has_additive, parameters.additive);
     Parameters {
         theta: Pair {
             first: parameters.theta,
             second: parameters.theta_2,
         },
         omega: parameters.omega,
-        additive_sd,
+        additive_sd: subject::additive_sd(parameters.has_additive, parameters.additive),
     }
 }
 
 // ---- what a host gets
+
+// The words of an answer that says nothing.
+const NO_WORDS: AnswerWords = AnswerWords {
+    kind: 0,
+    first: 0,
+    second: 0,
+    third: 0,
+    fourth: 0,
+};
 
 fn place_words(number: u32, place: Place) -> AnswerWords
     ensures { result ≡ place_words number place }
@@ -120,16 +127,14 @@ fn place_words(number: u32, place: Place) -> AnswerWords
         Place::Nowhere => AnswerWords {
             kind: 2,
             first: number as u64,
-            second: 0,
-            third: 0,
-            fourth: 0,
+            ..NO_WORDS
         },
         Place::Subject(subject) => AnswerWords {
             kind: 2,
             first: number as u64,
             second: 1,
             third: subject as u64,
-            fourth: 0,
+            ..NO_WORDS
         },
         Place::Observation(subject, observation) => AnswerWords {
             kind: 2,
@@ -155,9 +160,7 @@ fn answer_of(step: Step) -> AnswerWords
         Step::Finished(objective) => AnswerWords {
             kind: 1,
             first: float64::to_word(objective),
-            second: 0,
-            third: 0,
-            fourth: 0,
+            ..NO_WORDS
         },
         Step::Refused(number, place) => place_words(number, place),
     }
@@ -177,8 +180,7 @@ fn number_of(step: Step) -> u32
     ensures { result ≡ number_of step }
 {
     match step {
-        Step::Asked(_, _) => 0,
-        Step::Finished(_) => 0,
+        Step::Asked(_, _) | Step::Finished(_) => 0,
         Step::Refused(number, _) => number,
     }
 }
@@ -188,13 +190,7 @@ fn number_of(step: Step) -> u32
 fn is_unaltered(number: u32) -> bool
     ensures { result ≡ is_unaltered number }
 {
-    if number == 0 {
-        return false;
-    }
-    if number < 6 {
-        return true;
-    }
-    number == 19
+    matches!(number, 1..=5 | 19)
 }
 
 // Hands a call's answer to the host: writes the answer's words, and the state's unless the call was refused
@@ -202,16 +198,15 @@ fn is_unaltered(number: u32) -> bool
 pub fn told(called: Called, state: &mut [u64], answer: &mut [u64]) -> Done
     ensures { told_as result state.new answer.new ≡ told called state.old answer.old }
 {
-    let step = called.step;
-    let tally = called.tally;
-    let number = number_of(step);
-    write_answer(answer_of(step), answer);
-    if is_unaltered(number) {
-        return Done { number, tally };
+    let number = number_of(called.step);
+    write_answer(answer_of(called.step), answer);
+    if !is_unaltered(number) {
+        state_words::save(called.state, state);
     }
-    let next = called.state;
-    state_words::save(next, state);
-    Done { number, tally }
+    Done {
+        number,
+        tally: called.tally,
+    }
 }
 
 // The answer where the lent words are no state: 19.
@@ -228,23 +223,24 @@ pub fn opened(begun: Begun, state: &mut [u64], answer: &mut [u64]) -> Done
     ensures { told_as result state.new answer.new ≡ opened begun state.old answer.old }
 {
     let tally = begun.tally;
-    let opening = begun.opening;
-    match opening {
+    match begun.opening {
         Ok(next) => {
-            let words = AnswerWords {
-                kind: 1,
-                first: 0,
-                second: 0,
-                third: 0,
-                fourth: 0,
-            };
-            write_answer(words, answer);
+            write_answer(
+                AnswerWords {
+                    kind: 1,
+                    ..NO_WORDS
+                },
+                answer,
+            );
             state_words::save(next, state);
             Done { number: 0, tally }
         }
-        Err(Refusal { number, place }) => {
-            write_answer(place_words(number, place), answer);
-            Done { number, tally }
+        Err(refusal) => {
+            write_answer(place_words(refusal.number, refusal.place), answer);
+            Done {
+                number: refusal.number,
+                tally,
+            }
         }
     }
 }

@@ -4,82 +4,28 @@
 ghost use Rattle.std.specs.Prelude.{◌≡◌};
 ghost use Rattle.session.specs.Calls.{lent_by};
 ghost use Rattle.state_words.specs.SessionWords.{loaded_state};
-ghost use Rattle.host_calls.specs.Hosting.{setup_of, out, admit_with, finish_with};
-ghost use Rattle.host_calls.specs.SubjectReplies.{subject_first, admit_subject_with, admit_for};
+ghost use Rattle.host_calls.specs.Hosting.{setup_of, out, finish_with};
+ghost use Rattle.host_calls.specs.SubjectReplies.{subject_first, admit_for};
 
 use super::{Done, SessionSetup};
 use search::Tally;
 use session::Admitted;
-use setup::Lent;
 use subject::{Check, Evaluation, Position};
-
-// The first part of a reply that lends all observations: whether it is accepted, and the evaluation that
-// begins with it. The state is only read.
-fn admit_reply(
-    setup: SessionSetup,
-    tally: Tally,
-    check: Check,
-    lent: Lent,
-    counts: &[u64],
-    reply: &[u64],
-    state: &mut [u64],
-) -> Admitted
-    ensures { (result ≡ admit_with (setup_of setup) counts.now lent check tally reply.now
-        (loaded_state state.old)) × (state.new ≡ state.old) }
-{
-    match state_words::load(state) {
-        Some(at) => {
-            session::checks::admit_reply(
-                super::setup_of(setup),
-                at,
-                tally,
-                check,
-                lent,
-                counts,
-                reply,
-            )
-        }
-        None => session::checks::unadmitted(super::setup_of(setup)),
-    }
-}
 
 // Where the check of the observations begins, if those of the awaited subject alone are lent: at the first of
 // the subject that the state's words name. The state is only read.
 pub fn subject_first(state: &mut [u64]) -> Check
     ensures { (result ≡ subject_first state.old) × (state.new ≡ state.old) }
 {
-    let subject = words::read(state, 8) as usize;
     Ok(Position {
-        subject,
+        subject: words::read(state, 8) as usize,
         observation: 0,
     })
 }
 
-// The first part of a reply that lends the observations of the awaited subject alone: whether it is accepted,
-// and the evaluation that begins with it. The state is only read.
-fn admit_subject_reply(
-    setup: SessionSetup,
-    tally: Tally,
-    check: Check,
-    lent: Lent,
-    counts: &[u64],
-    reply: &[u64],
-    state: &mut [u64],
-) -> Admitted
-    ensures { (result ≡ admit_subject_with (setup_of setup) counts.now lent check tally reply.now
-        (loaded_state state.old)) × (state.new ≡ state.old) }
-{
-    match state_words::load(state) {
-        Some(at) => {
-            let own = super::setup_of(setup);
-            session::checks::admit_subject_reply(own, at, tally, check, lent, counts, reply)
-        }
-        None => session::checks::unadmitted(super::setup_of(setup)),
-    }
-}
-
 // The first part of a reply, lent so many observations and words: of one that lends the observations of the
-// awaited subject `alone`, or those of all subjects. The state is only read.
+// awaited subject `alone`, or those of all subjects. It answers whether the reply is accepted, and the
+// evaluation that begins with it. The state is only read.
 pub fn admit(
     setup: SessionSetup,
     tally: Tally,
@@ -97,11 +43,15 @@ pub fn admit(
     ensures { (result ≡ admit_for alone (setup_of setup) counts.now (lent_by observations cache work warm results) check tally
         reply.now (loaded_state state.old)) × (state.new ≡ state.old) }
 {
+    let own = super::setup_of(setup);
+    let Some(at) = state_words::load(state) else {
+        return session::checks::unadmitted(own);
+    };
     let lent = session::lent_of(observations, cache, work, warm, results);
     if alone {
-        return admit_subject_reply(setup, tally, check, lent, counts, reply, state);
+        return session::checks::admit_subject_reply(own, at, tally, check, lent, counts, reply);
     }
-    admit_reply(setup, tally, check, lent, counts, reply, state)
+    session::checks::admit_reply(own, at, tally, check, lent, counts, reply)
 }
 
 // The second part of a reply: `admitted` is what the first part answered, and `evaluation` the one that the
@@ -124,13 +74,11 @@ pub fn finish_reply(
         ≡ finish_with counts.now admitted.awaited evaluation tally state.old answer.old
         cache.old work.old warm.old results.old }
 {
-    match state_words::load(state) {
-        Some(at) => {
-            let finished = session_calls::finish_reply(
-                at, tally, admitted, evaluation, counts, cache, work, warm, results,
-            );
-            super::told(finished, state, answer)
-        }
-        None => super::no_state(tally, answer),
-    }
+    let Some(at) = state_words::load(state) else {
+        return super::no_state(tally, answer);
+    };
+    let finished = session_calls::finish_reply(
+        at, tally, admitted, evaluation, counts, cache, work, warm, results,
+    );
+    super::told(finished, state, answer)
 }

@@ -42,11 +42,9 @@ pub fn add_observations(
 {
     let end = smaller(to, observations.len());
     let mut sums = evaluation;
-    let mut i = from;
-    while i < end {
+    for i in from..end {
         let observation = observation_at(observations, i);
         sums = subject::rows::add_observation(sums, observation, trial, reply, work);
-        i += 1;
     }
     sums
 }
@@ -67,11 +65,9 @@ pub fn check_observations(
 {
     let end = smaller(to, observations.len());
     let mut checked = check;
-    let mut i = from;
-    while i < end {
+    for i in from..end {
         let observation = observation_at(observations, i);
         checked = subject::checks::check_observation(checked, observation, width, counts);
-        i += 1;
     }
     checked
 }

@@ -1,21 +1,15 @@
 -- The ways through the code: one law for each, over plain variables. Assumes nothing.
 use Rattle.std.specs.Prelude.{None, Option, Some}
-use Rattle.std.proofs.Common.{◌≡◌, ℕ, zero, suc, ◌-◌, ◌≤◌, Bool, true, false, List, sym, refl, ap, ◌∙◌, subst, sub-one, arith, eq-eqb, ne_eqb}
-use Rattle.float64.specs.Pick.{yes, no, pick_yes, pick_no}
+use Rattle.std.proofs.Common.{◌≡◌, ℕ, zero, suc, ◌-◌, ◌≤◌, Bool, List, sym, refl, ap, ◌∙◌, subst, sub-one, arith, eq-eqb, ne_eqb}
+use Rattle.float64.specs.Pick.{no, pick_yes, pick_no}
 use Rattle.matrix.specs.declared.Pair.{Pair}
 use Rattle.subject.specs.declared.Sums.{Sums}
-use Rattle.mode.specs.Rules.{advance}
 use Rattle.mode.specs.declared.population_focei.Settings.{Settings}
-use Rattle.mode.specs.declared.population_focei.Conditional.{Conditional}
 use Rattle.mode.specs.declared.population_focei.Search.{Search}
-use Rattle.mode_2d.specs.Rules as R2
 use Rattle.mode_2d.specs.declared.population_focei_2d.Settings2.{Settings2}
-use Rattle.mode_2d.specs.declared.population_focei_2d.Conditional2.{Conditional2}
 use Rattle.mode_2d.specs.declared.population_focei_2d.Search2.{Search2}
 use Rattle.work.specs.Work.{block, move_rows}
-use Rattle.work.specs.declared.Sources.{Sources}
-use Rattle.cache.specs.Cache.{Cache, find, terms_of, copied}
-use Rattle.cache.specs.declared.CacheKey.{CacheKey}
+use Rattle.cache.specs.Cache.{Cache, terms_of, copied}
 use Rattle.search.specs.Subjects as B
 use Rattle.search.specs.declared.Advanced.{Advanced}
 use Rattle.search.specs.declared.Fit.{Fit}
@@ -26,19 +20,11 @@ use Rattle.search.specs.declared.Wanted.{Wanted}
 use Rattle.search.specs.declared.Wanted.TheVariants as Wants
 use Rattle.search.proofs.PointsPaths.{wanted_one, wanted_two, advance_one, advance_two}
 use Rattle.population.specs.Population.{Worked, worked, take}
-use Rattle.population.specs.Through.{is_over, eta_of, kept_in, kept_at, found_unless, kept_point, recalled, as_with, taken, taken1, taken2, reached, passed, through, through_from, reached1, reached2}
+use Rattle.population.specs.Through.{is_over, eta_of, kept_in, kept_at, found_unless, kept_point, recalled, as_with, taken, taken1, taken2, reached, passed, through, through_from}
 use Rattle.population.specs.declared.kept_points.Reached.{Reached}
-use Rattle.population.specs.declared.kept_points.Reached1.{Reached1}
-use Rattle.population.specs.declared.kept_points.Reached2.{Reached2}
 use Rattle.population.specs.declared.kept_points.Evaluated.{Evaluated}
 
--- ---- what is wanted: x, which is the variant v
-pub over_at : (n : ℕ) {x v : Wanted} {b : Bool} → x ≡ v → b ≡ is_over n v → b ≡ is_over n x
-over_at n e q = q ∙ ap (is_over n) (sym e)
-
-pub eta_at : {x v : Wanted} {p : Pair} → x ≡ v → p ≡ eta_of v → p ≡ eta_of x
-eta_at e q = q ∙ ap eta_of (sym e)
-
+-- ---- what is found
 IsNone : Option ℕ → Type 0
 IsNone None = Unit {0}
 IsNone (Some slot) = ⊥
@@ -49,15 +35,6 @@ none_is_none e = subst IsNone e tt
 
 -- what is found of a point: over is whether it is over
 module _ (fit : Fit) (subject : ℕ) (kept : Cache) where
-  pub none_over : {over : Bool} (eta : Pair) → over ≡ true → None ≡ found_unless over fit subject kept eta
-  unfolding found_unless
-  none_over eta t = yes _ t refl
-
-  pub found_by : {over : Bool} {key : CacheKey} {f : Option ℕ} (eta : Pair) → over ≡ false → key ≡ B.key_of fit subject eta → f ≡ find kept.words fit.k kept.order key → f ≡ found_unless over fit
-      subject kept eta
-  unfolding found_unless
-  found_by eta t ek ef = no _ t (ef ∙ ap (find kept.words fit.k kept.order) ek)
-
   -- with no request left it is over; with one, what is found says whether the point that is wanted is kept
   none_left : (x : Wanted) → found_unless (is_over 0 x) fit subject kept (eta_of x) ≡ None
   unfolding found_unless is_over
@@ -75,30 +52,6 @@ module _ (fit : Fit) (subject : ℕ) (kept : Cache) where
   pub one_left : (n : ℕ) (x : Wanted) {over : Bool} {eta : Pair} {f : Option ℕ} {slot : ℕ} → over ≡ is_over n x → eta ≡ eta_of x → f ≡ found_unless over fit subject kept eta → f ≡ Some slot → 1 ≤ n
   one_left zero x eo ee ef t = absurd (none_is_none (sym (none_left x) ∙ (λ i. found_unless (sym eo i) fit subject kept (sym ee i)) ∙ sym ef ∙ t))
   one_left (suc n) x eo ee ef t = omega arith
-
--- ---- what is in hand: y is the search afterwards, w the work words
-pub nothing_taken_one : (fit : Fit) (s : Settings) (rows : ℕ) (x : Search) (work : List ℕ) {hand : Option Evaluated} → hand ≡ None → worked x work ≡ taken1 fit s rows hand x work
-unfolding taken1
-nothing_taken_one fit s rows x work t = ap (λ (h : Option Evaluated). taken1 fit s rows h x work) (sym t)
-
-pub takes_one : (fit : Fit) (s : Settings) (rows : ℕ) (x : Search) (work : List ℕ) {hand : Option Evaluated} {eta : Pair} {sums : Sums} {c : Conditional} {sources : Sources} {y : Search} {w : List ℕ} → hand ≡
-    Some (record { eta = eta; sums = sums }) → c ≡ B.conditional1 fit eta sums → sources ≡ B.sources1 x c → w ≡ move_rows rows sources work → y ≡ advance s x c → worked y w ≡ taken1 fit s rows hand x work
-unfolding taken1
-takes_one fit s rows x work t ec es ew ey =
-    (λ i. worked ((ey ∙ ap (advance s x) ec) i) ((ew ∙ ap (λ (z : Sources). move_rows rows z work) (es ∙ ap (B.sources1 x) ec)) i))
-    ∙ ap (λ (h : Option Evaluated). taken1 fit s rows h x work) (sym t)
-
-pub nothing_taken_two : (s : Settings2) (rows : ℕ) (x : Search2) (work : List ℕ) {hand : Option Evaluated} → hand ≡ None → worked x work ≡ taken2 s rows hand x work
-unfolding taken2
-nothing_taken_two s rows x work t = ap (λ (h : Option Evaluated). taken2 s rows h x work) (sym t)
-
-pub takes_two : (s : Settings2) (rows : ℕ) (x : Search2) (work : List ℕ) {hand : Option Evaluated} {eta : Pair} {sums : Sums} {c : Conditional2} {y : Search2} {sources : Sources} {w : List ℕ} → hand ≡
-    Some (record { eta = eta; sums = sums }) → c ≡ B.conditional2 eta sums → y ≡ R2.advance s x c → sources ≡ B.sources2 s x y c → w ≡ move_rows rows sources work → worked y w ≡ taken2 s rows hand x work
-unfolding taken2
-takes_two s rows x work {eta = eta} {sums = sums} {c = c} t ec ey es ew =
-    (λ i. worked (ey i) ((ew ∙ ap (λ (z : Sources). move_rows rows z work) (es ∙ ap (λ (y : Search2). B.sources2 s x y c) ey)) i))
-    ∙ ap (λ (c : Conditional2). worked (R2.advance s x c) (move_rows rows (B.sources2 s x (R2.advance s x c) c) work)) ec
-    ∙ ap (λ (h : Option Evaluated). taken2 s rows h x work) (sym t)
 
 -- ---- either search, as that of the objective
 same_take : (fit : Fit) (rows : ℕ) (progress : Progress) (eta : Pair) (sums : Sums) (work : List ℕ) {a : Advanced} → a ≡ B.advance_by fit progress eta sums → worked a.progress
@@ -174,8 +127,9 @@ module _ (fit : Fit) (rows : ℕ) (kept : Cache) (n : ℕ) (hand : Option Evalua
         rw sub-one
         (ap (λ (v : Option ℕ). passed fit rows kept (suc m) p w (λ p w. through fit rows kept m p w) (kept_at (eta_of wanted) v)) (sym t) ∙ one_more m)
 
-    pub stops : f ≡ None → Goes (worked (record { progress = p; left = n; wanted = wanted }) w)
-    stops t = from_taken (told ∙ stops_from n (sym found_is ∙ t))
+    -- q is the objective as it was handed on
+    pub stops : {q : Progress} → q ≡ p → f ≡ None → Goes (worked (record { progress = q; left = n; wanted = wanted }) w)
+    stops eq t = ap (λ (q : Progress). worked (record { progress = q; left = n; wanted = wanted }) w) eq ∙ from_taken (told ∙ stops_from n (sym found_is ∙ t))
 
     -- the kept sums are in hand then
     pub goes_on : {slot : ℕ} {sums : Sums} {v : List ℕ} → f ≡ Some slot → v ≡ copied kept.words fit.k slot rows w (block rows 3) → sums ≡ B.sums_of (terms_of kept.words fit.k slot) →
@@ -212,16 +166,3 @@ module _ (fit : Fit) (rows : ℕ) (kept : Cache) (n : ℕ) (hand : Option Evalua
   pub from_two : {x : Search2} → fit.effects ≡ 2 → x ≡ B.two_of progress.search
       → through_from fit rows kept n hand (B.with_search progress (Two x)) work ≡ through_from fit rows kept n hand progress work
   from_two e ex = ap (λ (x : Search2). through_from fit rows kept n hand (B.with_search progress (Two x)) work) ex ∙ from_search (Two (B.two_of progress.search)) (taken_two e)
-
--- ---- either; p is what `with_search` made
-pub reaches_one : (fit : Fit) (rows : ℕ) (kept : Cache) (n : ℕ) (hand : Option Evaluated) (progress : Progress) (work : List ℕ) {m : ℕ} (r : Reached1) {p : Progress} {w : List ℕ} → rows ≡ m → worked
-    (reached1 progress r) w ≡ through_from fit rows kept n hand progress work → p ≡ B.with_search progress (One r.search) → worked
-    (record { progress = p; left = r.left; wanted = r.wanted }) w ≡ through_from fit m kept n hand progress work
-reaches_one fit rows kept n hand progress work r {w = w} er q ep =
-    ap (λ (p : Progress). worked (record { progress = p; left = r.left; wanted = r.wanted }) w) ep ∙ q ∙ ap (λ (m : ℕ). through_from fit m kept n hand progress work) er
-
-pub reaches_two : (fit : Fit) (rows : ℕ) (kept : Cache) (n : ℕ) (hand : Option Evaluated) (progress : Progress) (work : List ℕ) {m : ℕ} (r : Reached2) {p : Progress} {w : List ℕ} → rows ≡ m → worked
-    (reached2 progress r) w ≡ through_from fit rows kept n hand progress work → p ≡ B.with_search progress (Two r.search) → worked
-    (record { progress = p; left = r.left; wanted = r.wanted }) w ≡ through_from fit m kept n hand progress work
-reaches_two fit rows kept n hand progress work r {w = w} er q ep =
-    ap (λ (p : Progress). worked (record { progress = p; left = r.left; wanted = r.wanted }) w) ep ∙ q ∙ ap (λ (m : ℕ). through_from fit m kept n hand progress work) er

@@ -1,6 +1,6 @@
 -- The ways through the code: one law for each, over plain variables. Assumes nothing.
 use Rattle.std.specs.Prelude.{None, Option, Some}
-use Rattle.std.proofs.Common.{◌≡◌, ℕ, ◌+◌, ◌*◌, ◌<◌, ◌≤◌, Bool, true, false, ltb, List, length, get_or, set, sym, refl, ap, ◌∙◌, subst, arith, ltb-true, le-ltb, lt-ltb, eq-eqb, ne_eqb}
+use Rattle.std.proofs.Common.{◌≡◌, ℕ, ◌+◌, ◌*◌, ◌<◌, ◌≤◌, Bool, true, false, ltb, List, length, get_or, set, sym, ap, ◌∙◌, subst, arith, ltb-true, le-ltb, lt-ltb, eq-eqb, ne_eqb}
 use lib.ListN.{get_or-eq_default}
 use lib.Seq.{set_out}
 use lib.Ieee.{Float, binary64, to_bits}
@@ -19,17 +19,8 @@ use Rattle.search.specs.declared.Mode.{Mode}
 use Rattle.population.specs.Population.{rows_of, warm_of, warm_stored, worked, raised, next_subject, Ended, ended, closing, at_mode, Turned}
 use Rattle.core.specs.declared.ops.ControlFlow.TheVariants.{Break, Continue}
 
--- ---- a subject's number of observations; n is the word that was read
+-- ---- a subject's number of observations
 module _ (counts : List ℕ) (subject : ℕ) where
-  module _ {n : ℕ} (e : n ≡ get_or counts subject 0) where
-    pub all_rows : n < most_rows → n ≡ rows_of counts subject
-    unfolding rows_of
-    all_rows h = yes _ (lt-ltb _ _ (subst (λ (x : ℕ). x < most_rows) e h)) e
-
-    pub most_rows_lem : most_rows ≤ n → most_rows ≡ rows_of counts subject
-    unfolding rows_of
-    most_rows_lem h = no _ (le-ltb _ _ (subst (λ (x : ℕ). most_rows ≤ x) e h)) refl
-
   -- it is at most the domain's largest; n is what `rows_of` answered
   pub rows_at_most : {n : ℕ} → n ≡ rows_of counts subject → n ≤ most_rows
   unfolding rows_of

@@ -2,9 +2,8 @@
 use Rattle.std.specs.Prelude.{None, Option, Some}
 use Rattle.std.proofs.Common.{◌≡◌, ℕ, ◌-◌, Bool, true, false, eqb, ltb, List, length, sym, refl, ap, ◌∙◌, subst}
 use lib.Ieee.{Float}
-use Rattle.float64.specs.Pick.{pick, yes_of, no_of, both}
+use Rattle.float64.specs.Pick.{pick, both}
 use Rattle.matrix.specs.declared.Pair.{Pair}
-use Rattle.words.specs.Words.{zeros}
 use Rattle.work.specs.Work.{is_same_grid}
 use Rattle.cache.specs.Cache.{Cache}
 use Rattle.machine.specs.Machine.{loop}
@@ -15,13 +14,12 @@ use Rattle.search.specs.declared.Tally.{Tally}
 use Rattle.search.specs.declared.Fit.{Fit}
 use Rattle.search.specs.declared.Mode.{Mode}
 use Rattle.search.specs.declared.Progress.{Progress}
-use Rattle.search.specs.declared.Place.TheVariants.{Subject}
 use Rattle.search.specs.declared.SubjectSearch.TheVariants.{One, Two}
 use Rattle.search.specs.declared.Halted.{Halted}
 use Rattle.search.specs.declared.Wanted.{Wanted}
 use Rattle.search.specs.declared.Wanted.TheVariants as Wants
 use Rattle.population.specs.Kept.{words}
-use Rattle.population.specs.Population.{rows_of, Worked, worked, next_subject, Ended, ended, closing, at_mode, is_over, moved, turn, spent, whole, ran, raised, Turned}
+use Rattle.population.specs.Population.{rows_of, Worked, worked, next_subject, Ended, ended, closing, at_mode, moved, turn, spent, whole, ran, raised, Turned}
 use Rattle.population.specs.Through.{as_with, through_from, taken}
 use Rattle.population.specs.declared.kept_points.Reached.{Reached}
 use Rattle.population.specs.Steps.{whole_from, unkept, cleared}
@@ -29,46 +27,6 @@ use Rattle.population.proofs.Loops.{loop_spent, loop_on, loop_halt}
 use Rattle.population.proofs.Passing.{unkept_served, same_loop, ends_from}
 use Rattle.core.specs.declared.ops.ControlFlow.TheVariants.{Break, Continue}
 use Rattle.population.specs.declared.kept_points.Evaluated.{Evaluated}
-
--- ---- a request that no kept evaluation answers; x is what is wanted
-module _ (fit : Fit) (counts : List ℕ) (progress : Progress) (tally : Tally) (work warm results : List ℕ) {x : Wanted} where
-  wanted : {variant : Wanted} {z : Ended} → x ≡ variant → z ≡ unkept fit counts progress tally work warm results variant → z ≡ unkept fit counts progress tally work warm results x
-  wanted t q = q ∙ ap (unkept fit counts progress tally work warm results) (sym t)
-
-  pub wants_point : {eta : Pair} {h : Halted} → x ≡ Wants.Point eta → h ≡ B.ask fit progress tally eta → ended (Break h) work warm results ≡ unkept fit counts progress tally work warm results x
-  unfolding unkept
-  wants_point t q = wanted t (ap (λ (h : Halted). ended (Break h) work warm results) q)
-
-  pub wants_mode : {next : Turned} {w a r : List ℕ} → x ≡ Wants.Mode → ended next w a r ≡ at_mode fit counts progress tally work warm results → ended next w a r ≡ unkept fit counts progress tally work
-      warm results x
-  unfolding unkept
-  wants_mode t q = wanted t q
-
-  pub wants_nothing : {number : ℕ} {h : Halted} → x ≡ Wants.Refused number → h ≡ B.refused_by progress tally number (Subject progress.subject) → ended (Break h) work warm results ≡ unkept fit counts
-      progress tally work warm results x
-  unfolding unkept
-  wants_nothing t q = wanted t (ap (λ (h : Halted). ended (Break h) work warm results) q)
-
--- ---- whether a turn ends the objective
-pub goes_on : {t : Turned} {next : Progress} → t ≡ Continue next → false ≡ is_over t
-unfolding is_over
-goes_on e = ap is_over (sym e)
-
-pub halts : {t : Turned} {h : Halted} {b : Bool} → t ≡ Break h → b ≡ B.is_over h.step → b ≡ is_over t
-unfolding is_over
-halts e q = q ∙ ap is_over (sym e)
-
--- ---- a turn; t is what `served` answered, w, a and r the words that it left, b what `is_over` answered
-module _ (e : Ended) {t : Turned} {w a r : List ℕ} {b : Bool} (ee : ended t w a r ≡ e) (eb : b ≡ is_over t) where
-  turns : {w' : List ℕ} → w' ≡ pick (is_over t) (zeros (length w)) w → ended t w' a r ≡ cleared e
-  unfolding cleared
-  turns q = ap (λ (v : List ℕ). ended t v a r) q ∙ ap cleared ee
-
-  pub turn_over : {w' : List ℕ} → b ≡ true → w' ≡ zeros (length w) → ended t w' a r ≡ cleared e
-  turn_over u q = turns (yes_of _ eb u q)
-
-  pub turn_on : b ≡ false → ended t w a r ≡ cleared e
-  turn_on u = turns (no_of _ eb u refl)
 
 -- ---- a subject begins with a search of the objective's effects
 first_by : (b : Bool) (x : Search) (y : Search2) → let s = pick b (Two y) (One x) in s ≡ pick b (Two (B.two_of s)) (One (B.one_of s))
@@ -89,7 +47,7 @@ begun_own fit effects subject first start ofv squares e =
 module _ (fit : Fit) (counts : List ℕ) (progress : Progress) (tally : Tally) (work warm results : List ℕ) where
   Begins : Turned → Type 0
   Begins (Continue p) = p ≡ own fit p
-  Begins (Break h) = Break h ≡ Break h
+  Begins (Break h) = h ≡ h
 
   next_begins : (mode : Mode) (rows : ℕ) (stored : List ℕ) → Begins (next_subject fit counts progress tally mode rows stored work).value
   unfolding Begins next_subject

@@ -20,8 +20,6 @@ use Rattle.search.specs.declared.Wanted.{Wanted}
 use Rattle.search.specs.declared.Wanted.TheVariants as Wants
 use Rattle.population.specs.Population.{Worked, worked, take}
 use Rattle.population.specs.declared.kept_points.Reached.{Reached}
-use Rattle.population.specs.declared.kept_points.Reached1.{Reached1}
-use Rattle.population.specs.declared.kept_points.Reached2.{Reached2}
 use Rattle.population.specs.declared.kept_points.Evaluated.{Evaluated}
 
 -- ---- what is kept
@@ -112,11 +110,3 @@ unfoldable pub through_from : Fit → ℕ → Cache → ℕ → Option Evaluated
 through_from fit rows kept n hand progress work =
     let t = taken fit rows hand progress work in
     through fit rows kept n t.value t.work
-
--- ---- where a search of either kind has come to
-
-abbrev pub reached1 : Progress → Reached1 → Reached
-reached1 progress r = record { progress = B.with_search progress (One r.search); left = r.left; wanted = r.wanted }
-
-abbrev pub reached2 : Progress → Reached2 → Reached
-reached2 progress r = record { progress = B.with_search progress (Two r.search); left = r.left; wanted = r.wanted }

@@ -36,22 +36,19 @@ pub fn keep(
     let key = search::questions::key_of(fit, subject, eta);
     let trial = work::block(rows, work::TRIAL);
     let kept = cache::keeping::insert(cache, fit.k, order, key, terms, rows, work, trial);
-    let calls = tally.calls;
     Kept {
         order: kept,
         tally: Tally {
-            calls,
             cached_rows: CachedRows(cached_rows(kept)),
+            ..tally
         },
     }
 }
 
 // The number of rows that are kept, by the positions of the kept evaluations.
+#[tactic(auto, unfolding(crate::specs::Kept::order_rows))]
 pub fn cached_rows(order: CacheOrder) -> usize
     ensures { result ≡ order_rows order }
 {
-    if order.first_row < order.next_row {
-        return order.next_row - order.first_row;
-    }
-    0
+    order.next_row.saturating_sub(order.first_row)
 }

@@ -8,7 +8,7 @@ ghost use Rattle.cache.specs.Cache.{terms_of, copied};
 ghost use Rattle.search.specs.Subjects.{sums_of};
 ghost use Rattle.population.specs.Kept.{cache_of};
 ghost use Rattle.population.specs.Population.{rows_of, worked};
-ghost use Rattle.population.specs.Through.{is_over, eta_of, found_unless, taken1, taken2, reached1, reached2, through_from};
+ghost use Rattle.population.specs.Through.{is_over, eta_of, found_unless, taken1, taken2, through_from};
 
 use cache::CacheOrder;
 use matrix::Pair;
@@ -33,52 +33,36 @@ pub struct Reached {
     pub wanted: Wanted,
 }
 
-// Where a search with one effect has come to, the requests that are left, and what it wants now.
-#[derive(Clone, Copy)]
-pub struct Reached1 {
-    pub search: Search,
-    pub left: usize,
-    pub wanted: Wanted,
-}
-
-// Where a search with two effects has come to, the requests that are left, and what it wants now.
-#[derive(Clone, Copy)]
-pub struct Reached2 {
-    pub search: Search2,
-    pub left: usize,
-    pub wanted: Wanted,
-}
-
 // ---- what is kept
 
 // No request is left, or no point is wanted.
+#[tactic(auto, unfolding(crate::specs::Through::is_over))]
 fn is_over(left: usize, wanted: Wanted) -> bool
     ensures { result ≡ is_over left wanted }
 {
     match wanted {
         Wanted::Point(_) => left == 0,
-        Wanted::Mode => true,
-        Wanted::Refused(_) => true,
+        Wanted::Mode | Wanted::Refused(_) => true,
     }
 }
 
 // The point that is wanted; zero where none is.
+#[tactic(auto, unfolding(crate::specs::Through::eta_of))]
 fn eta_of(wanted: Wanted) -> Pair
     ensures { result ≡ eta_of wanted }
 {
-    let zero = Pair {
-        first: 0.0,
-        second: 0.0,
-    };
     match wanted {
         Wanted::Point(eta) => eta,
-        Wanted::Mode => zero,
-        Wanted::Refused(_) => zero,
+        Wanted::Mode | Wanted::Refused(_) => Pair {
+            first: 0.0,
+            second: 0.0,
+        },
     }
 }
 
 // The slot of the kept evaluation of a point, unless it is over. Both loops call it, so that it is compiled
 // once, by itself; two floats are passed faster than a pair.
+#[tactic(auto, unfolding(crate::specs::Through::found_unless, float64::specs::Pick::pick))]
 fn kept_at(
     over: bool,
     fit: Fit,
@@ -115,6 +99,7 @@ fn recall(k: usize, slot: usize, cache: &[u64]) -> Sums
 // ---- one effect
 
 // The search with what is in hand; the rows of the trial block go to the blocks where the search has them.
+#[tactic(auto, unfolding(crate::specs::Through::taken1))]
 fn take_1d(
     fit: Fit,
     settings: Settings,
@@ -145,14 +130,13 @@ fn through_kept_1d(
     fuel: usize,
     cache: &[u64],
     work: &mut [u64],
-) -> Reached1
+) -> Reached
     requires { fit.effects ≢ 2 }
-    ensures { worked (reached1 start result) work.new
+    ensures { worked result work.new
         ≡ through_from fit rows (cache_of cache.now order) fuel hand start work.old }
 {
     let settings = search::points::settings(fit, start);
-    let begun = start.search;
-    let mut search = search::one_of(begun);
+    let mut search = search::one_of(start.search);
     let mut left = fuel;
     let mut given = hand;
     'kept: loop {
@@ -170,8 +154,8 @@ fn through_kept_1d(
                 });
             }
             None => {
-                break 'kept Reached1 {
-                    search,
+                break 'kept Reached {
+                    progress: search::points::with_search(start, SubjectSearch::One(search)),
                     left,
                     wanted,
                 };
@@ -182,6 +166,7 @@ fn through_kept_1d(
 
 // ---- two effects
 
+#[tactic(auto, unfolding(crate::specs::Through::taken2))]
 fn take_2d(
     settings: Settings2,
     rows: usize,
@@ -212,14 +197,13 @@ fn through_kept_2d(
     fuel: usize,
     cache: &[u64],
     work: &mut [u64],
-) -> Reached2
+) -> Reached
     requires { fit.effects ≡ 2 }
-    ensures { worked (reached2 start result) work.new
+    ensures { worked result work.new
         ≡ through_from fit rows (cache_of cache.now order) fuel hand start work.old }
 {
     let settings = search::points::settings_2d(fit, start);
-    let begun = start.search;
-    let mut search = search::two_of(begun);
+    let mut search = search::two_of(start.search);
     let mut left = fuel;
     let mut given = hand;
     'kept: loop {
@@ -237,8 +221,8 @@ fn through_kept_2d(
                 });
             }
             None => {
-                break 'kept Reached2 {
-                    search,
+                break 'kept Reached {
+                    progress: search::points::with_search(start, SubjectSearch::Two(search)),
                     left,
                     wanted,
                 };
@@ -267,23 +251,7 @@ pub fn through_kept(
 {
     let rows = super::rows_of(counts, progress.subject);
     if fit.effects == 2 {
-        let r = through_kept_2d(fit, rows, order, progress, hand, fuel, cache, work);
-        let own = r.search;
-        let search = SubjectSearch::Two(own);
-        let wanted = r.wanted;
-        return Reached {
-            progress: search::points::with_search(progress, search),
-            left: r.left,
-            wanted,
-        };
+        return through_kept_2d(fit, rows, order, progress, hand, fuel, cache, work);
     }
-    let r = through_kept_1d(fit, rows, order, progress, hand, fuel, cache, work);
-    let own = r.search;
-    let search = SubjectSearch::One(own);
-    let wanted = r.wanted;
-    Reached {
-        progress: search::points::with_search(progress, search),
-        left: r.left,
-        wanted,
-    }
+    through_kept_1d(fit, rows, order, progress, hand, fuel, cache, work)
 }

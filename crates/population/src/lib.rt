@@ -12,9 +12,9 @@ pub mod answers;
 pub mod kept_points;
 pub mod steps;
 
-use std::ops::ControlFlow;
 use matrix::Pair;
 use search::{Fit, Halted, Mode, Place, Progress, Tally};
+use std::ops::ControlFlow;
 
 // A turn of the loop over the remaining requests: it goes on, without an evaluation, or breaks off with an
 // answer.
@@ -23,14 +23,11 @@ pub type Turned = ControlFlow<Halted, Progress>;
 // ---- lent words
 
 // A subject's number of observations, at most document 01's largest.
+#[tactic(auto, unfolding(crate::specs::Population::rows_of, float64::specs::Pick::pick))]
 pub fn rows_of(counts: &[u64], subject: usize) -> usize
     ensures { result ≡ rows_of counts.now subject }
 {
-    let count = words::read(counts, subject) as usize;
-    if count < work::MOST_ROWS {
-        return count;
-    }
-    work::MOST_ROWS
+    (words::read(counts, subject) as usize).min(work::MOST_ROWS)
 }
 
 // A subject's warm start, the source's warm_etas: a word for each subject, or two with two effects. Beyond
@@ -95,7 +92,8 @@ fn next_subject(
         let first = std::num::wrapping_add_usize(progress.first, rows);
         let start = warm_of(warm, fit.effects, subject);
         words::clear(work);
-        return ControlFlow::Continue(search::begin_subject(fit.effects, subject, first, start, ofv, squares));
+        let next = search::begin_subject(fit.effects, subject, first, start, ofv, squares);
+        return ControlFlow::Continue(next);
     }
     ControlFlow::Break(search::objective::objective_of(progress, tally, ofv, squares))
 }
@@ -116,22 +114,15 @@ pub fn at_mode(
 {
     let subject = progress.subject;
     let rows = rows_of(counts, subject);
-    match search::objective::closed_by(fit, progress, rows as u32) {
-        Some(mode) => {
-            let eta = mode.eta;
-            store_warm(warm, fit.effects, subject, eta);
-            if work::is_same_grid(work, rows) {
-                work::results::write_result(results, subject, eta, mode.nll);
-                work::results::write_fitted(results, counts.len(), progress.first, work, rows);
-                return next_subject(fit, counts, progress, tally, mode, rows, work, warm);
-            }
-            ControlFlow::Break(search::refused(progress, tally, 17, Place::Subject(subject)))
-        }
-        None => ControlFlow::Break(search::refused(
-            progress,
-            tally,
-            16,
-            Place::Subject(subject),
-        )),
+    let place = Place::Subject(subject);
+    let Some(mode) = search::objective::closed_by(fit, progress, rows as u32) else {
+        return ControlFlow::Break(search::refused(progress, tally, 16, place));
+    };
+    store_warm(warm, fit.effects, subject, mode.eta);
+    if !work::is_same_grid(work, rows) {
+        return ControlFlow::Break(search::refused(progress, tally, 17, place));
     }
+    work::results::write_result(results, subject, mode.eta, mode.nll);
+    work::results::write_fitted(results, counts.len(), progress.first, work, rows);
+    next_subject(fit, counts, progress, tally, mode, rows, work, warm)
 }

@@ -6,13 +6,14 @@ ghost use Rattle.population.specs.Kept.{cache_of, words};
 ghost use Rattle.population.specs.Population.{ended, is_over, spent, ran, turn};
 ghost use Rattle.population.specs.Steps.{whole_from, unkept, cleared};
 
-use std::ops::ControlFlow;
-use super::kept_points::Evaluated;
 use super::Turned;
+use super::kept_points::Evaluated;
 use cache::CacheOrder;
 use search::{Fit, Halted, Place, Progress, Step, Tally, Wanted};
+use std::ops::ControlFlow;
 
 // What is done with a request that no kept evaluation answers.
+#[tactic(auto, unfolding(crate::specs::Steps::unkept))]
 fn served(
     fit: Fit,
     counts: &[u64],
@@ -36,20 +37,19 @@ fn served(
     }
 }
 
+#[tactic(auto, unfolding(crate::specs::Population::is_over))]
 fn is_over(turned: Turned) -> bool
     ensures { result ≡ is_over turned }
 {
     match turned {
         ControlFlow::Continue(_) => false,
-        ControlFlow::Break(halted) => {
-            let step = halted.step;
-            search::is_over(step)
-        }
+        ControlFlow::Break(halted) => search::is_over(halted.step),
     }
 }
 
 // What is done with a request that no kept evaluation answers; where it ends the objective the work words are
 // cleared.
+#[tactic(auto, unfolding(crate::specs::Steps::cleared, float64::specs::Pick::pick))]
 fn turn(
     fit: Fit,
     counts: &[u64],

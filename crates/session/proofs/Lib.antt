@@ -1,5 +1,4 @@
--- Paths: the ways through the code, for its proofs. Replies: the parts of a reply's admission, put together. Loops: the loop over the
--- requests, and the second part of a reply, with what the searches have in common at hand.
-pub mod Paths
+-- Replies: the parts of a reply's admission, put together. Loops: the loop over the requests, and the second part of a reply, with what
+-- the searches have in common at hand.
 pub mod Replies
 pub mod Loops

@@ -1,62 +1,25 @@
 -- The parts of a reply's admission, over plain values, put together. Assumes nothing.
-use Rattle.std.specs.Prelude.{Err, Ok}
-use mathlib.Core.Path.{◌≡◌, refl, sym, ap, ◌∙◌}
-use mathlib.Core.Bool.{Bool, true, false}
+use mathlib.Core.Path.{◌≡◌, ap, ◌∙◌}
 use mathlib.Core.List.{List}
 use Prim.Native.Nat.{ℕ, ◌+◌}
-use Rattle.float64.specs.Pick.{yes, no, yes_of, no_of}
-use Rattle.matrix.specs.declared.Pair.{Pair}
 use Rattle.words.specs.Words.{smaller}
-use Rattle.subject.specs.Subject.{begin, Evaluation}
-use Rattle.subject.specs.declared.Position.{Position}
 use Rattle.subject.specs.declared.Trial.{Trial}
 use Rattle.setup.specs.Admission.{checks, with_parameters, Admission}
 use Rattle.setup.specs.declared.Lent.{Lent}
 use Rattle.setup.specs.declared.Setup.{Setup}
 use Rattle.setup.specs.SubjectChecks.{subject_checks}
 use Rattle.search.proofs.Fits.{own_fit}
-use Rattle.search.specs.Subjects.{fit_in, fit_of, wanted_by}
+use Rattle.search.specs.Subjects.{fit_in, fit_of}
 use Rattle.search.specs.declared.Fit.{Fit}
 use Rattle.search.specs.declared.Tally.{Tally}
 use Rattle.search.specs.declared.Wanted.{Wanted}
-use Rattle.search.specs.declared.Wanted.TheVariants as Wants
 use Rattle.population.specs.Population.{rows_of}
-use Rattle.session.specs.Calls.{stands, awaited_point, unawaited, awaited_for, admit_awaited, trial_by, nothing_admitted, admitted_over, admit_reply}
+use Rattle.session.specs.Calls.{awaited_point, awaited_for, admit_awaited, trial_by, admitted_over, admit_reply}
 use Rattle.session.specs.declared.Admitted.{Admitted}
 use Rattle.session.specs.declared.Awaited.{Awaited}
 use Rattle.session.specs.declared.State.{State}
 use Rattle.session.specs.SubjectReply.{subject_awaited, admit_subject_reply}
-use Rattle.setup.specs.declared.AdmissionError.TheVariants as A
 use Rattle.subject.specs.Observations.{Check}
-
--- ---- the point that is awaited; b is what `is_standing` answered
-module _ (setup : Setup) (counts : List ℕ) (n : ℕ) (fit : Fit) (state : State) (tally : Tally) where
-  pub unasked : state.progress.awaits ≡ false → Wants.Refused 19 ≡ awaited_point setup counts n fit state tally
-  unfolding awaited_point
-  unasked e = no _ e refl
-
-  module _ {b : Bool} (e : state.progress.awaits ≡ true) (q : b ≡ stands setup counts n state tally) where
-    pub unplaced : b ≡ false → Wants.Refused 19 ≡ awaited_point setup counts n fit state tally
-    unfolding awaited_point
-    unplaced f = yes _ e (no_of _ q f refl)
-
-    pub asked : {wanted : Wanted} → b ≡ true → wanted ≡ wanted_by fit state.progress → wanted ≡ awaited_point setup counts n fit state tally
-    unfolding awaited_point
-    asked t w = yes _ e (yes_of _ q t w)
-
--- ---- the checks, where a point is wanted
-module _ (fit : Fit) (admission : Admission) {wanted : Wanted} where
-  pub point_awaited : {eta : Pair} → wanted ≡ Wants.Point eta → record { admission = admission; eta = eta; fit = fit } ≡ awaited_for fit admission wanted
-  unfolding awaited_for
-  point_awaited t = ap (awaited_for fit admission) (sym t)
-
-  pub mode_unawaited : {r : Awaited} → wanted ≡ Wants.Mode → r ≡ unawaited fit → r ≡ awaited_for fit admission wanted
-  unfolding awaited_for
-  mode_unawaited t e = e ∙ ap (awaited_for fit admission) (sym t)
-
-  pub refusal_unawaited : {r : Awaited} {number : ℕ} → wanted ≡ Wants.Refused number → r ≡ unawaited fit → r ≡ awaited_for fit admission wanted
-  unfolding awaited_for
-  refusal_unawaited t e = e ∙ ap (awaited_for fit admission) (sym t)
 
 -- ---- what is awaited, by the setup of the objective: own is the code's, and judged what its checks are of it
 module _ (setup : Setup) (state : State) {own : Setup} {fit : Fit} (eo : own ≡ with_parameters setup state.parameters) (ef : fit ≡ fit_in own state.parameters.theta) where
@@ -77,24 +40,6 @@ module _ (setup : Setup) (state : State) {own : Setup} {fit : Fit} (eo : own ≡
     unfolding subject_awaited
     subject_awaited_lem w d e =
         awaited_own (λ f. awaited_point setup counts 100000 f state tally) (λ s. subject_checks s counts state.progress.subject lent check) w d e
-
--- ---- what is begun with a reply; v is the admission that `awaited` has
-module _ (setup : Setup) (trial : Trial) (reply : List ℕ) (awaited : Awaited) (from to : ℕ) {v : Admission} (t : awaited.admission ≡ v) where
-  abbrev over : Admission → Admitted
-  over a = admitted_over setup trial reply awaited from to a
-
-  pub begun : {e : Evaluation} → v ≡ (Ok tt) → e ≡ begin reply setup.width setup.effects setup.output_budget
-      → record { awaited = awaited; from = from; to = to; evaluation = e; trial = trial } ≡ over awaited.admission
-  unfolding admitted_over
-  begun a b = (λ i. record { awaited = awaited; from = from; to = to; evaluation = b i; trial = trial }) ∙ ap over (sym (t ∙ a))
-
-  pub refused_over : {number : ℕ} {r : Admitted} → v ≡ Err (A.Refused number) → r ≡ nothing_admitted awaited trial number → r ≡ over awaited.admission
-  unfolding admitted_over
-  refused_over a q = q ∙ ap over (sym (t ∙ a))
-
-  pub unsound_over : {at : Position} {r : Admitted} → v ≡ Err (A.Unsound at) → r ≡ nothing_admitted awaited trial 4 → r ≡ over awaited.admission
-  unfolding admitted_over
-  unsound_over a q = q ∙ ap over (sym (t ∙ a))
 
 -- ---- a reply's first part, with all observations lent, and with one subject's; w is what is awaited
 module _ (setup : Setup) (counts : List ℕ) (lent : Lent) (check : Check) (state : State) (tally : Tally) (reply : List ℕ) {rows : ℕ} {trial : Trial}

@@ -8,8 +8,7 @@ ghost use Rattle.session.specs.Calls.{unadmitted, admitted_over, admit_reply};
 ghost use Rattle.session.specs.Session.{count_within, search_within, search_within2, is_placed};
 ghost use Rattle.session.specs.SubjectReply.{admit_subject_reply};
 
-use super::{Admitted, Awaited, State};
-use matrix::Pair;
+use super::{Admitted, Awaited, State, ZERO};
 use mode::population_focei::{Search, Stage};
 use mode_2d::population_focei_2d::Search2;
 use search::{Fit, Progress, Tally, Wanted};
@@ -18,59 +17,46 @@ use subject::{Check, EvaluationError, Trial};
 
 // ---- 19
 
-fn count_within(stage: Stage, count: u32) -> bool
-    ensures { result ≡ count_within stage count }
-{
-    match stage {
-        Stage::Grid => count < 18,
-        Stage::Warm => count < 1,
-        Stage::Secant => count < 16,
-        Stage::Halving => count < 49,
-    }
-}
-
+#[tactic(auto, unfolding(crate::specs::Session::count_within, crate::specs::Session::search_within))]
 fn search_within(search: Search) -> bool
     ensures { result ≡ search_within search }
 {
-    let stage = search.stage;
-    count_within(stage, search.count)
+    match search.stage {
+        Stage::Grid => search.count < 18,
+        Stage::Warm => search.count < 1,
+        Stage::Secant => search.count < 16,
+        Stage::Halving => search.count < 49,
+    }
 }
 
+#[tactic(auto, unfolding(crate::specs::Session::search_within2, float64::specs::Pick::pick))]
 fn search_within_2d(search: Search2) -> bool
     ensures { result ≡ search_within2 search }
 {
-    if search.seed < 7 {
-        if search.round < 48 {
-            return search.reduction < 22;
-        }
-        return false;
-    }
-    false
+    search.seed < 7 && search.round < 48 && search.reduction < 22
 }
 
 // The state's positions are within the subjects, the observations and the search's limits.
+#[tactic(auto, unfolding(crate::specs::Session::is_placed, float64::specs::Pick::pick))]
 fn is_placed(effects: u32, counts: &[u64], observations: usize, progress: Progress) -> bool
     ensures { result ≡ is_placed effects counts.now observations progress }
 {
-    if progress.subject < counts.len() {
-        let rows = population::rows_of(counts, progress.subject);
-        if observations < rows {
-            return false;
-        }
-        if observations - rows < progress.first {
-            return false;
-        }
-        let search = progress.search;
-        if effects == 2 {
-            return search_within_2d(search::two_of(search));
-        }
-        return search_within(search::one_of(search));
+    if counts.len() <= progress.subject {
+        return false;
     }
-    false
+    let rows = population::rows_of(counts, progress.subject);
+    if observations < rows || observations - rows < progress.first {
+        return false;
+    }
+    if effects == 2 {
+        return search_within_2d(search::two_of(progress.search));
+    }
+    search_within(search::one_of(progress.search))
 }
 
 // Whether the state's positions are in range as for `is_placed`, and the kept rows are at most K, those of the
 // tally and those by the positions of the kept evaluations.
+#[tactic(auto, unfolding(crate::specs::Session::is_standing, float64::specs::Pick::pick))]
 fn is_standing(
     setup: Setup,
     counts: &[u64],
@@ -80,18 +66,15 @@ fn is_standing(
 ) -> bool
     ensures { result ≡ stands setup counts.now observations state tally }
 {
-    if setup.k < tally.cached_rows.0 {
-        return false;
-    }
-    if setup.k < population::answers::cached_rows(state.order) {
-        return false;
-    }
-    is_placed(setup.effects, counts, observations, state.progress)
+    tally.cached_rows.0 <= setup.k
+        && population::answers::cached_rows(state.order) <= setup.k
+        && is_placed(setup.effects, counts, observations, state.progress)
 }
 
 // ---- a new objective
 
 // Whether a new objective is accepted: 19, then 1 to 5 with the objective's own parameters.
+#[tactic(auto, unfolding(crate::specs::Calls::admit_objective, float64::specs::Pick::pick))]
 pub fn admit_objective(
     setup: Setup,
     parameters: Parameters,
@@ -103,20 +86,18 @@ pub fn admit_objective(
 ) -> Admission
     ensures { result ≡ admit_objective setup counts.now lent check parameters state tally }
 {
-    if state.progress.awaits {
+    if state.progress.awaits || !is_standing(setup, counts, lent.observations, state, tally) {
         return Err(AdmissionError::Refused(19));
     }
-    if is_standing(setup, counts, lent.observations, state, tally) {
-        let own = setup::with_parameters(setup, parameters);
-        return setup::checks::checks(own, counts, lent, check);
-    }
-    Err(AdmissionError::Refused(19))
+    let own = setup::with_parameters(setup, parameters);
+    setup::checks::checks(own, counts, lent, check)
 }
 
 // ---- a reply, and its failure
 
 // 19: a reply is awaited, and the state's positions are in range for so many observations; then what the
 // search wants.
+#[tactic(auto, unfolding(crate::specs::Calls::awaited_point, float64::specs::Pick::pick))]
 fn awaited_point(
     setup: Setup,
     fit: Fit,
@@ -127,16 +108,14 @@ fn awaited_point(
 ) -> Wanted
     ensures { result ≡ awaited_point setup counts.now observations fit state tally }
 {
-    if state.progress.awaits {
-        if is_standing(setup, counts, observations, state, tally) {
-            return search::points::wanted_by(fit, state.progress);
-        }
-        return Wanted::Refused(19);
+    if state.progress.awaits && is_standing(setup, counts, observations, state, tally) {
+        return search::points::wanted_by(fit, state.progress);
     }
     Wanted::Refused(19)
 }
 
 // What the checks of the lent words and observations found, where a point is wanted; else 19.
+#[tactic(auto, unfolding(crate::specs::Calls::awaited_for))]
 fn awaited_for(fit: Fit, wanted: Wanted, admission: Admission) -> Awaited
     ensures { result ≡ awaited_for fit admission wanted }
 {
@@ -146,8 +125,7 @@ fn awaited_for(fit: Fit, wanted: Wanted, admission: Admission) -> Awaited
             eta,
             fit,
         },
-        Wanted::Mode => unawaited(fit),
-        Wanted::Refused(_) => unawaited(fit),
+        Wanted::Mode | Wanted::Refused(_) => unawaited(fit),
     }
 }
 
@@ -156,10 +134,7 @@ fn unawaited(fit: Fit) -> Awaited
 {
     Awaited {
         admission: Err(AdmissionError::Refused(19)),
-        eta: Pair {
-            first: 0.0,
-            second: 0.0,
-        },
+        eta: ZERO,
         fit,
     }
 }
@@ -186,13 +161,9 @@ pub fn admit_awaited(
 fn trial_by(setup: Setup, state: State, rows: usize) -> Trial
     ensures { result ≡ trial_by setup state rows }
 {
-    let parameters = state.parameters;
-    let additive_sd = parameters.additive_sd;
-    let progress = state.progress;
-    let individual = progress.individual;
     Trial {
-        individual,
-        additive_sd,
+        individual: state.progress.individual,
+        additive_sd: state.parameters.additive_sd,
         width: setup.width,
         effects: setup.effects,
         block: work::block(rows, work::TRIAL),
@@ -203,18 +174,13 @@ fn trial_by(setup: Setup, state: State, rows: usize) -> Trial
 fn end_of(first: usize, rows: usize, observations: usize) -> usize
     ensures { result ≡ smaller (first + rows) observations }
 {
-    if observations < rows {
-        return observations;
-    }
-    if observations - rows < first {
-        return observations;
-    }
-    first + rows
+    first.saturating_add(rows).min(observations)
 }
 
 // A reply over the observations lent from number `from` up to, but without, `to`: where it is accepted, its
 // evaluation begins, with 8 and 9. The observations are added to the evaluation afterwards, one after the
 // other.
+#[tactic(auto, unfolding(crate::specs::Calls::admitted_over))]
 fn admitted_over(
     setup: Setup,
     trial: Trial,
@@ -225,18 +191,14 @@ fn admitted_over(
 ) -> Admitted
     ensures { result ≡ admitted_over setup trial reply.now awaited from to awaited.admission }
 {
-    let admission = awaited.admission;
-    match admission {
-        Ok(()) => {
-            let evaluation = subject::begin(reply, setup.width, setup.effects, setup.output_budget);
-            Admitted {
-                awaited,
-                from,
-                to,
-                evaluation,
-                trial,
-            }
-        }
+    match awaited.admission {
+        Ok(()) => Admitted {
+            awaited,
+            from,
+            to,
+            evaluation: subject::begin(reply, setup.width, setup.effects, setup.output_budget),
+            trial,
+        },
         Err(AdmissionError::Refused(number)) => nothing_admitted(awaited, trial, number),
         Err(AdmissionError::Unsound(_)) => nothing_admitted(awaited, trial, 4),
     }
@@ -255,11 +217,11 @@ pub fn admit_reply(
     ensures { result ≡ admit_reply setup counts.now lent check state tally reply.now }
 {
     let awaited = admit_awaited(setup, state, tally, check, lent, counts);
-    let progress = state.progress;
-    let rows = population::rows_of(counts, progress.subject);
+    let first = state.progress.first;
+    let rows = population::rows_of(counts, state.progress.subject);
     let trial = trial_by(setup, state, rows);
-    let to = end_of(progress.first, rows, lent.observations);
-    admitted_over(setup, trial, reply, awaited, progress.first, to)
+    let to = end_of(first, rows, lent.observations);
+    admitted_over(setup, trial, reply, awaited, first, to)
 }
 
 // The first part of a reply that lends the observations of the awaited subject alone, of which `check` was
@@ -303,16 +265,12 @@ fn nothing_admitted(awaited: Awaited, trial: Trial, number: u32) -> Admitted
 pub fn unadmitted(setup: Setup) -> Admitted
     ensures { result ≡ unadmitted setup }
 {
-    let zero = Pair {
-        first: 0.0,
-        second: 0.0,
-    };
     let trial = Trial {
-        individual: zero,
+        individual: ZERO,
         additive_sd: None,
         width: 0,
         effects: 0,
         block: 0,
     };
-    nothing_admitted(unawaited(search::fit_of(setup, zero)), trial, 19)
+    nothing_admitted(unawaited(search::fit_of(setup, ZERO)), trial, 19)
 }

@@ -17,6 +17,11 @@ use search::{Fit, Place, Progress, Step, Tally};
 use setup::{Admission, Lent, Parameters, Setup};
 use subject::{Evaluation, Trial};
 
+const ZERO: Pair = Pair {
+    first: 0.0,
+    second: 0.0,
+};
+
 // What a host hands from call to call: the objective's parameters, where it stands, and the positions of the
 // kept evaluations.
 #[derive(Clone, Copy)]
@@ -82,13 +87,13 @@ pub fn lent_by(
         observations (length cache.now) (length work.now) (length warm.now)
         (length results.now) }
 {
-    Lent {
+    lent_of(
         observations,
-        work: work.len(),
-        cache: cache.len(),
-        warm: warm.len(),
-        results: results.len(),
-    }
+        cache.len(),
+        work.len(),
+        warm.len(),
+        results.len(),
+    )
 }
 
 // How much is lent to a call: so many observations and so many words of each kind.
@@ -122,18 +127,13 @@ pub fn refused_as(state: State, tally: Tally, number: u32, place: Place) -> Call
 pub fn first_state(setup: Setup) -> State
     ensures { result ≡ first_state setup }
 {
-    let additive_sd = setup.additive_sd;
-    let zero = Pair {
-        first: 0.0,
-        second: 0.0,
-    };
     State {
         parameters: Parameters {
-            theta: zero,
+            theta: ZERO,
             omega: setup.omega00,
-            additive_sd,
+            additive_sd: setup.additive_sd,
         },
-        progress: search::begin_subject(setup.effects, 0, 0, zero, 0.0, 0.0),
+        progress: search::begin_subject(setup.effects, 0, 0, ZERO, 0.0, 0.0),
         order: CacheOrder {
             oldest: 1,
             next: 1,
@@ -147,6 +147,7 @@ pub fn first_state(setup: Setup) -> State
 
 // The state as an objective begins: its parameters, the first subject's search from its warm start, and the
 // kept evaluations as they are.
+#[tactic(auto, unfolding(crate::specs::Calls::start_of))]
 pub fn start_of(parameters: Parameters, warm: &[u64], effects: u32, order: CacheOrder) -> State
     ensures { result ≡ start_of parameters warm.now effects order }
 {
@@ -161,6 +162,7 @@ pub fn start_of(parameters: Parameters, warm: &[u64], effects: u32, order: Cache
 // ---- a finished objective
 
 // The shrinkage of a finished objective with one effect: 1 - ((sum of eta²) / n) / omega, over n subjects.
+#[tactic(auto, unfolding(crate::specs::Calls::shrinkage))]
 pub fn shrinkage(state: State, subjects: u32) -> f64
     ensures { result ≡ shrinkage state subjects }
 {
@@ -169,50 +171,37 @@ pub fn shrinkage(state: State, subjects: u32) -> f64
 
 // Whether a search with one effect may have its mode in this stage: on the grid and at the warm start there
 // is always a point left to ask for, or a refusal.
+#[tactic(auto, unfolding(crate::specs::Figures::has_mode))]
 fn has_mode(stage: Stage) -> bool
     ensures { result ≡ has_mode stage }
 {
-    match stage {
-        Stage::Grid => false,
-        Stage::Warm => false,
-        Stage::Secant => true,
-        Stage::Halving => true,
-    }
+    matches!(stage, Stage::Secant | Stage::Halving)
 }
 
 // Whether an objective stands where one with one effect is finished: no reply is awaited, the subject is the
 // last one, and its search may have its mode. An objective that was refused at its last subject may stand
 // there too. With two effects there is no shrinkage, and the answer is false.
+#[tactic(auto, unfolding(crate::specs::Figures::has_finished, float64::specs::Pick::pick))]
 pub fn has_finished(progress: Progress, subjects: usize) -> bool
     ensures { result ≡ has_finished progress subjects }
 {
-    if progress.awaits {
-        return false;
-    }
-    if subjects == 0 {
-        return false;
-    }
-    if progress.subject == subjects - 1 {
-        let search = progress.search;
-        let own = search::one_of(search);
-        let stage = own.stage;
-        return has_mode(stage);
-    }
-    false
+    !progress.awaits
+        && subjects != 0
+        && progress.subject == subjects - 1
+        && has_mode(search::one_of(progress.search).stage)
 }
 
 // ---- what is to be booked
 
 // The most evaluations that a subject's search asks for within an objective, by the number of effects: 0 where
 // there is no session with so many.
+#[tactic(auto, unfolding(crate::specs::Figures::ceiling_of, float64::specs::Pick::pick))]
 pub fn ceiling(effects: u32) -> u32
     ensures { result ≡ ceiling_of effects }
 {
-    if effects == 1 {
-        return mode::population_focei::CEILING;
+    match effects {
+        1 => mode::population_focei::CEILING,
+        2 => mode_2d::population_focei_2d::CEILING,
+        _ => 0,
     }
-    if effects == 2 {
-        return mode_2d::population_focei_2d::CEILING;
-    }
-    0
 }

@@ -1,6 +1,6 @@
 -- What holds of a setup, its counts and what is lent, where checks 1 to 5 have passed. Assumes nothing.
-use Rattle.std.specs.Prelude.{Err, None, Ok, Option}
-use mathlib.Core.Path.{◌≡◌, refl, sym, subst}
+use Rattle.std.specs.Prelude.{Err, None, Ok, Option, Some}
+use mathlib.Core.Path.{◌≡◌, refl, sym, ap, subst}
 use mathlib.Core.Bool.{true, false}
 use mathlib.Core.List.{List, [], ◌∷◌}
 use mathlib.Core.Logic.{◌⊎◌, inl, inr, ⊎_elim}
@@ -40,10 +40,15 @@ is_cohort_lem effects subjects total observations q =
     either n low high = ⊎_elim (λ (l : n < 2). inl (omega arith)) (λ (l : 2 ≤ n). inr (omega arith)) (split n 2)
 
 -- ---- the counts
+pub same_counts : (total largest t l : ℕ) → within total largest ≡ within t l → (total ≡ t) × (largest ≡ l)
+same_counts total largest t l e =
+    let q : ◌≡◌ {A = Counts} (record { total = total; largest = largest }) (record { total = t; largest = l }) = cc in
+    (ap (λ (n : Counts). n.total) q, ap (λ (n : Counts). n.largest) q)
+
 pub each_count : (counts : List ℕ) (total largest : ℕ) {t l : ℕ} → count_from total largest counts ≡ within t l
     → (largest ≤ l) × ((i : ℕ) → i < length counts → (1 ≤ get_or counts i 0) × (get_or counts i 0 ≤ l))
 unfolding count_from
-each_count [] total largest {t} {l} e = let q : largest ≡ l = cc in (omega arith, λ i h. absurd (not-suc-le-zero h))
+each_count [] total largest {t} {l} e = let q : largest ≡ l = (same_counts _ _ _ _ e).1 in (omega arith, λ i h. absurd (not-suc-le-zero h))
 each_count (count ∷ rest) total largest {t} {l} e =
     let never : None ≡ within t l → ⊥ = λ q. let z : ◌≡◌ {A = ℕ} 0 1 = cc in omega arith in
     let some = not_first (eqb count 0) _ never e in
@@ -103,8 +108,8 @@ module _ (setup : Setup) (counts : List ℕ) (lent : Lent) (check : Check) where
       → admitted setup (length counts) total largest lent check ≡ (Ok tt) → Accepts setup counts lent
   unfolding admitted count_observations
   passed total largest c h e =
-      let never2 : Err (A.Refused 2) ≡ (Ok tt) → ⊥ = λ q. let z : ◌≡◌ {A = ℕ} 0 1 = cc in omega arith in
-      let never3 : Err (A.Refused 3) ≡ (Ok tt) → ⊥ = λ q. let z : ◌≡◌ {A = ℕ} 0 1 = cc in omega arith in
+      let never2 : ◌≡◌ {A = Admission} (Err (A.Refused 2)) (Ok tt) → ⊥ = λ q. let z : ◌≡◌ {A = ℕ} 0 1 = cc in omega arith in
+      let never3 : ◌≡◌ {A = Admission} (Err (A.Refused 3)) (Ok tt) → ⊥ = λ q. let z : ◌≡◌ {A = ℕ} 0 1 = cc in omega arith in
       let o = not_first (is_no_omega setup) _ never2 e in
       let s = not_first (is_no_shape setup) _ never3 o.1 in
       let r = room_lent (length counts) total largest (by_check total largest check s.1) in

@@ -1,5 +1,5 @@
 -- What the entry of a call does, whatever is lent: it refuses and alters nothing, it ends the objective, or it goes on to the requests from a place that they are enough for. Assumes nothing.
-use Rattle.std.specs.Prelude.{Err, None, Ok, Option}
+use Rattle.std.specs.Prelude.{Err, None, Ok, Option, Some}
 use mathlib.Core.Path.{◌≡◌, refl, sym, ap, subst, ◌∙◌}
 use mathlib.Core.Bool.{true}
 use mathlib.Core.List.{List}

@@ -1,5 +1,5 @@
 -- A session lets in what it awaits, `let_in` (specs/LetIn.antt). Assumes nothing.
-use Rattle.std.specs.Prelude.{Err, None, Ok, Option}
+use Rattle.std.specs.Prelude.{Err, None, Ok, Option, Some}
 use mathlib.Core.Path.{◌≡◌, refl, sym, ap, subst, ◌∙◌}
 use mathlib.Core.Bool.{Bool, true, false}
 use mathlib.Core.List.{List}

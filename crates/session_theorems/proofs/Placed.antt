@@ -46,7 +46,7 @@ use Rattle.session.specs.Session as N
 use Rattle.session.specs.Session.{Held, held, Call, objective, reply, failure}
 use Rattle.session_theorems.specs.Shown.{before}
 use Rattle.session_theorems.proofs.FirstSearch.{first_one, first_two}
-use Rattle.session_theorems.proofs.Accepted.{Accepts, each_count}
+use Rattle.session_theorems.proofs.Accepted.{Accepts, each_count, same_counts}
 use Rattle.session_theorems.proofs.Always.{After, Says}
 use Rattle.session_theorems.proofs.Evaluated.{work_length}
 use Rattle.session_theorems.proofs.Lengths.{AsLong, zeros_length, move_rows_length, recalled_length, warm_stored_length, results_length}
@@ -73,7 +73,7 @@ counted_rest count rest total largest {t} {l} e =
 -- are no more than there are in all
 pub before_most : (counts : List ℕ) (i total largest : ℕ) {t l : ℕ} → count_from total largest counts ≡ within t l → i ≤ length counts → total + before counts i ≤ t
 unfolding count_from before
-before_most [] zero total largest {t} {l} e m = let q : total ≡ t = cc in omega arith
+before_most [] zero total largest {t} {l} e m = let q : total ≡ t = (same_counts _ _ _ _ e).0 in omega arith
 before_most [] (suc i) total largest e m = absurd (not-suc-le-zero m)
 before_most (count ∷ rest) zero total largest e m = let f = before_most rest zero (total + count) _ (counted_rest count rest total largest e) (omega arith) in omega (arith, f)
 before_most (count ∷ rest) (suc i) total largest e m =

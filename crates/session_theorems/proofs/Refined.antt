@@ -467,7 +467,7 @@ module _ (setup : Setup) (counts : List ℕ) (observations : List Observation) (
 pub over_the_list : OverTheList
 over_the_list setup counts observations effects bound limit lent results e deeds =
     let a = accepts setup counts lent (N.all_checked setup counts observations) e in
-    let room : Room setup.k = record { Some = some_room setup a.shape_in; most = shape_low {b = false} setup (sym a.shape_in) refl } in
+    let room : Room setup.k = record { some = some_room setup a.shape_in; most = shape_low {b = false} setup (sym a.shape_in) refl } in
     ⊎_elim (λ (one : setup.effects ≡ 1). holds_over setup counts observations inner1 (subst (Suits inner1) (sym one) suits1) bound limit lent a room results deeds)
     (λ (two : setup.effects ≡ 2). holds_over setup counts observations inner2 (subst (Suits inner2) (sym two) suits2) bound limit lent a room results deeds)
     effects

@@ -291,7 +291,7 @@ module _ (setup : Setup) (counts : List ℕ) (observations : List Observation) (
       few_lent : judgement ≡ (Ok tt) → length observations ≤ 100000
       unfolding subject_checks checks_of
       few_lent e =
-          let never : Err (A.Refused 1) ≡ (Ok tt) → ⊥ = λ q. let z : ◌≡◌ {A = ℕ} 0 1 = cc in omega arith in
+          let never : ◌≡◌ {A = Admission} (Err (A.Refused 1)) (Ok tt) → ⊥ = λ q. let z : ◌≡◌ {A = ℕ} 0 1 = cc in omega arith in
           let low = not_first _ _ never (not_first _ _ never e).1 in
           let n : count ≤ 100000 = ltb-false _ _ low.0 in
           cases (λ (a : Admission). a ≡ (Ok tt) → length observations ≤ 100000) (is_cohort (with_parameters setup s.parameters).effects (length counts) count (length observations))

@@ -66,7 +66,7 @@ found_fine key (y ∷ l) x (more p h) q =
 -- ---- the words
 module _ (k : ℕ) (some_room : 1 ≤ k) (most : k ≤ 100000) where
   abbrev room : Room k
-  room = record { Some = some_room; most = most }
+  room = record { some = some_room; most = most }
 
   pub record Stood (n : ℕ) (c : Cache) : Type 0 where
     pub list : List Entry

@@ -1,5 +1,5 @@
 -- Where checks 1 to 5 pass of all observations, they pass of one subject's. Assumes nothing.
-use Rattle.std.specs.Prelude.{Err, None, Ok, Option}
+use Rattle.std.specs.Prelude.{Err, None, Ok, Option, Some}
 use mathlib.Core.Path.{◌≡◌, refl, sym, subst, ◌∙◌}
 use mathlib.Core.Bool.{true, false}
 use mathlib.Core.List.{List, [], ◌∷◌}

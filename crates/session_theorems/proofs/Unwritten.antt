@@ -340,7 +340,7 @@ module _ (setup : Setup) (counts : List ℕ) where
 pub every_unwritten : EveryUnwritten
 every_unwritten setup counts observations lent results b acts c =
     let a = accepts setup counts lent (N.all_checked setup counts observations) b.passes in
-    let room : Room setup.k = record { Some = some_room setup a.shape_in; most = shape_low {b = false} setup (sym a.shape_in) refl } in
+    let room : Room setup.k = record { some = some_room setup a.shape_in; most = shape_low {b = false} setup (sym a.shape_in) refl } in
     let from : (I : Inner) → Suits I setup.effects → Going setup counts observations lent a (run (N.session words setup counts observations) (N.opened words setup counts lent results) acts) =
     λ I Q. (both_hold setup counts observations I Q b.bound b.limit lent results b.many b.long b.passes a room acts).1 in
     called setup counts observations lent a c _ (⊎_elim

@@ -718,7 +718,7 @@ for_words : (setup : Setup) (counts : List ℕ) (observations : List Observation
 for_words setup counts observations I L Q X lent results b o acts =
     let a = accepts setup counts lent (N.all_checked setup counts observations) b.passes in
     holds setup counts observations I Q L X b.bound b.limit lent results b.many b.long a (record {
-      Some = some_room setup a.shape_in;
+      some = some_room setup a.shape_in;
       most = shape_low {b = false} setup
           (sym a.shape_in) refl;
     }) o acts

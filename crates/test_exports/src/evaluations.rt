@@ -50,9 +50,7 @@ pub fn curlewstand_individual_values(
         ≡ or_old individual.old
         (floats_of (individual_values (pair_of theta.now) (pair_of eta.now) effects)) }
 {
-    let typical = pair_of(*theta);
-    let effect = pair_of(*eta);
-    match subject::individual_values(typical, effect, effects) {
+    match subject::individual_values(pair_of(*theta), pair_of(*eta), effects) {
         Some(values) => {
             *individual = [values.first, values.second];
             0
@@ -61,41 +59,35 @@ pub fn curlewstand_individual_values(
     }
 }
 
-fn pair_of(floats: [f64; 2]) -> Pair
+pub(crate) fn pair_of(floats: [f64; 2]) -> Pair
     ensures { result ≡ pair_of floats }
 {
-    Pair {
-        first: floats[0],
-        second: floats[1],
-    }
+    let [first, second] = floats;
+    Pair { first, second }
 }
 
 fn beginning(question: Question, reply: &[u64]) -> Begun
     ensures { result ≡ beginning question reply.now }
 {
-    let evaluation = subject::begin(
-        reply,
-        question.width,
-        question.effects,
-        question.output_budget,
-    );
-    let individual = Pair {
-        first: question.individual,
-        second: question.individual_2,
-    };
-    let additive_sd = subject::additive_sd(question.has_additive, question.additive);
-    let trial = Trial {
-        individual,
-        additive_sd,
-        width: question.width,
-        effects: question.effects,
-        block: question.block,
-    };
     Begun {
         from: question.from,
         to: question.to,
-        evaluation,
-        trial,
+        evaluation: subject::begin(
+            reply,
+            question.width,
+            question.effects,
+            question.output_budget,
+        ),
+        trial: Trial {
+            individual: Pair {
+                first: question.individual,
+                second: question.individual_2,
+            },
+            additive_sd: subject::additive_sd(question.has_additive, question.additive),
+            width: question.width,
+            effects: question.effects,
+            block: question.block,
+        },
     }
 }
 
@@ -126,7 +118,7 @@ fn told(evaluation: Evaluation, out: &mut [u64]) -> u32
             number
         }
         Err(EvaluationError::RefusedAt(number, observation)) => {
-            words::put(out, 7, std::num::wrapping_add_u64(observation as u64, 1));
+            words::put(out, 7, (observation as u64).wrapping_add(1));
             number
         }
     }

@@ -9,28 +9,30 @@ use cache::{CacheKey, CacheOrder, CachedTerms};
 fn key_of(words: [u64; 7]) -> CacheKey
     ensures { result ≡ key_of words }
 {
+    let [subject, theta0, theta1, eta0, eta1, has_additive, additive] = words;
     CacheKey {
-        subject: words[0],
-        theta0: words[1],
-        theta1: words[2],
-        eta0: words[3],
-        eta1: words[4],
-        has_additive: words[5],
-        additive: words[6],
+        subject,
+        theta0,
+        theta1,
+        eta0,
+        eta1,
+        has_additive,
+        additive,
     }
 }
 
 fn terms_from(words: [u64; 7]) -> CachedTerms
     ensures { result ≡ terms_from words }
 {
+    let [nll, score0, score1, i00, i01, i10, i11] = words;
     CachedTerms {
-        nll: words[0],
-        score0: words[1],
-        score1: words[2],
-        i00: words[3],
-        i01: words[4],
-        i10: words[5],
-        i11: words[6],
+        nll,
+        score0,
+        score1,
+        i00,
+        i01,
+        i10,
+        i11,
     }
 }
 
@@ -57,9 +59,7 @@ pub fn curlewstand_cache_find(
     ensures slot_after { slot.new
         ≡ slot_or slot.old (find words.now k (order_of order.now) (key_of key.now)) }
 {
-    let at = order_of(*order);
-    let wanted = key_of(*key);
-    match cache::find(words, k, at, wanted) {
+    match cache::find(words, k, order_of(*order), key_of(*key)) {
         Some(place) => {
             *slot = place;
             true
@@ -111,10 +111,16 @@ pub fn curlewstand_cache_insert(
         ≡ order_words (insert words.old k (order_of order.old) (key_of key.now)
         (terms_from terms.now) n rows.now from).order }
 {
-    let at = order_of(*order);
-    let new = key_of(*key);
-    let kept = terms_from(*terms);
-    let next = cache::keeping::insert(words, k, at, new, kept, n, rows, from);
+    let next = cache::keeping::insert(
+        words,
+        k,
+        order_of(*order),
+        key_of(*key),
+        terms_from(*terms),
+        n,
+        rows,
+        from,
+    );
     *order = [
         next.oldest as u64,
         next.next as u64,

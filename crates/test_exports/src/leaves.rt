@@ -6,14 +6,13 @@ ghost use Rattle.likelihood.specs.RowTerms.{row_terms};
 ghost use Rattle.likelihood.specs.Row2.{row_variance};
 ghost use Rattle.test_exports.specs.Leaves.{exists, inverse_or, det_or, observation_of, terms_or, sums, add_row};
 
-use likelihood::population_focei::{Observation, RowError};
+use likelihood::population_focei::Observation;
 
 // The determinant of a matrix (`matrix::determinant`).
 pub fn curlewstand_determinant(matrix: &[[f64; 2]; 2]) -> f64
     ensures { result ≡ determinant matrix.now }
 {
-    let m = *matrix;
-    matrix::determinant(m)
+    matrix::determinant(*matrix)
 }
 
 // Answers whether a matrix has an inverse, and writes it and the determinant where it has; else nothing is
@@ -27,11 +26,9 @@ pub fn curlewstand_inverse_positive(
     ensures inverse_after { inverse.new ≡ inverse_or inverse.old (inverse_positive matrix.now) }
     ensures det_after { det.new ≡ det_or det.old (inverse_positive matrix.now) }
 {
-    let m = *matrix;
-    match matrix::inverse_positive(m) {
+    match matrix::inverse_positive(*matrix) {
         Some(d) => {
-            let i = matrix::inverse(m, d);
-            *inverse = i;
+            *inverse = matrix::inverse(*matrix, d);
             *det = d;
             true
         }
@@ -43,19 +40,14 @@ pub fn curlewstand_inverse_positive(
 pub fn curlewstand_product(matrix: &[[f64; 2]; 2], vector: &[f64; 2], res: &mut [f64; 2])
     ensures { res.new ≡ product matrix.now vector.now }
 {
-    let m = *matrix;
-    let v = *vector;
-    let p = matrix::product(m, v);
-    *res = p;
+    *res = matrix::product(*matrix, *vector);
 }
 
 // The sum of the products of two vectors' entries (`matrix::dot`).
 pub fn curlewstand_dot(left: &[f64; 2], right: &[f64; 2]) -> f64
     ensures { result ≡ dot left.now right.now }
 {
-    let l = *left;
-    let r = *right;
-    matrix::dot(l, r)
+    matrix::dot(*left, *right)
 }
 
 // Writes nll, score and information of a row of a fit with one effect to `terms` and answers 0; or answers
@@ -84,8 +76,7 @@ pub fn curlewstand_row_terms(
             *terms = [t.nll, t.score, t.information];
             0
         }
-        Err(RowError::InvalidVariance) => 11,
-        Err(RowError::Overflow) => 12,
+        Err(error) => error.number(),
     }
 }
 
@@ -122,15 +113,11 @@ pub fn curlewstand_add_row(
                 f,
                 variance,
             );
-            let s = *score;
-            let i = *information;
-            let next_score = likelihood::population_focei_2d::add_score(s, row, f);
-            let next_information = likelihood::population_focei_2d::add_information(i, row, f);
             *nll = likelihood::population_focei_2d::add_nll(*nll, row);
-            *score = next_score;
-            *information = next_information;
+            *score = likelihood::population_focei_2d::add_score(*score, row, f);
+            *information = likelihood::population_focei_2d::add_information(*information, row, f);
             0
         }
-        Err(RowError::InvalidVariance) => 11,
+        Err(error) => error.number(),
     }
 }

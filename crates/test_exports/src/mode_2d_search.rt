@@ -3,10 +3,10 @@
 ghost use Rattle.std.specs.Prelude.{◌≡◌};
 ghost use Rattle.float64.specs.Answer.{number_of, or_old};
 ghost use Rattle.mode_2d.specs.Rules.{start};
-ghost use Rattle.state_words.specs.SearchWords2.{saved, loaded, answer};
+ghost use Rattle.state_words.specs.SearchWords2.{saved};
 ghost use Rattle.test_exports.specs.Mode2d.{settings_of, point_of, requested, advanced, request_number, point_or};
 
-use matrix::Pair;
+use super::evaluations::pair_of;
 use mode_2d::population_focei_2d::{Conditional2, Request2, Search2, Settings2};
 
 fn settings_of(eta_bound: f64, precision: [[f64; 2]; 2], warm: [f64; 2]) -> Settings2
@@ -15,10 +15,7 @@ fn settings_of(eta_bound: f64, precision: [[f64; 2]; 2], warm: [f64; 2]) -> Sett
     Settings2 {
         eta_bound,
         precision: matrix::matrix_of(precision),
-        warm: Pair {
-            first: warm[0],
-            second: warm[1],
-        },
+        warm: pair_of(warm),
     }
 }
 
@@ -26,31 +23,18 @@ fn point_of(eta: [f64; 2], nll: f64, score: [f64; 2], information: [[f64; 2]; 2]
     ensures { result ≡ point_of eta nll score information }
 {
     Conditional2 {
-        eta: Pair {
-            first: eta[0],
-            second: eta[1],
-        },
+        eta: pair_of(eta),
         nll,
-        score: Pair {
-            first: score[0],
-            second: score[1],
-        },
+        score: pair_of(score),
         information: matrix::matrix_of(information),
     }
-}
-
-fn load(words: [u64; 25]) -> Option<Search2>
-    ensures { answer result ≡ loaded words }
-{
-    state_words::two_effects::load(&words)
 }
 
 // Writes the words of a search with two effects that has not asked for anything.
 pub fn curlewstand_mode_2d_start(search: &mut [u64; 25])
     ensures { search.new ≡ saved start }
 {
-    let words = state_words::two_effects::save(Search2::start());
-    *search = words;
+    *search = state_words::two_effects::save(Search2::start());
 }
 
 // What the search asks for next: 0, with the point written; 1 for a mode, the search's best point; document
@@ -69,17 +53,16 @@ pub fn curlewstand_mode_2d_request(
         (requested (settings_of eta_bound precision.now warm.now) search.now) }
 {
     let settings = settings_of(eta_bound, *precision, *warm);
-    let words = *search;
-    match load(words) {
-        Some(x) => match x.request(settings) {
-            Request2::Point(p) => {
-                *point = [p.first, p.second];
-                0
-            }
-            Request2::Mode => 1,
-            Request2::Refused(number) => number,
-        },
-        None => 19,
+    let Some(x) = state_words::two_effects::load(search) else {
+        return 19;
+    };
+    match x.request(settings) {
+        Request2::Point(p) => {
+            *point = [p.first, p.second];
+            0
+        }
+        Request2::Mode => 1,
+        Request2::Refused(number) => number,
     }
 }
 
@@ -105,13 +88,9 @@ pub fn curlewstand_mode_2d_advance(
 {
     let settings = settings_of(eta_bound, *precision, *warm);
     let c = point_of(*eta, nll, *score, *information);
-    let words = *search;
-    match load(words) {
-        Some(x) => {
-            let next = state_words::two_effects::save(x.advance(settings, c));
-            *search = next;
-            0
-        }
-        None => 19,
-    }
+    let Some(x) = state_words::two_effects::load(search) else {
+        return 19;
+    };
+    *search = state_words::two_effects::save(x.advance(settings, c));
+    0
 }

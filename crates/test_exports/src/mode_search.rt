@@ -3,7 +3,7 @@
 ghost use Rattle.std.specs.Prelude.{◌≡◌};
 ghost use Rattle.float64.specs.Answer.{number_of, or_old};
 ghost use Rattle.mode.specs.Rules.{eta_tolerance, start};
-ghost use Rattle.state_words.specs.SearchWords.{point_of, saved, loaded, answer};
+ghost use Rattle.state_words.specs.SearchWords.{point_of, saved};
 ghost use Rattle.test_exports.specs.Mode.{settings_of, requested, advanced, request_number, point_or};
 
 use mode::population_focei::{Conditional, Request, Search, Settings};
@@ -15,18 +15,11 @@ pub fn curlewstand_eta_tolerance(gradient_tolerance: f64) -> f64
     mode::population_focei::eta_tolerance(gradient_tolerance)
 }
 
-fn load(words: [u64; 20]) -> Option<Search>
-    ensures { answer result ≡ loaded words }
-{
-    state_words::one_effect::load(&words)
-}
-
 // Writes the words of a search that has not asked for anything.
 pub fn curlewstand_mode_start(search: &mut [u64; 20])
     ensures { search.new ≡ saved start }
 {
-    let words = state_words::one_effect::save(Search::start());
-    *search = words;
+    *search = state_words::one_effect::save(Search::start());
 }
 
 // What the search asks for next: 0, with the point written; 1 for a mode, the search's best point; document
@@ -49,17 +42,16 @@ pub fn curlewstand_mode_request(
         tolerance,
         warm,
     };
-    let words = *search;
-    match load(words) {
-        Some(x) => match x.request(settings) {
-            Request::Point(p) => {
-                *point = p;
-                0
-            }
-            Request::Mode => 1,
-            Request::Refused(number) => number,
-        },
-        None => 19,
+    let Some(x) = state_words::one_effect::load(search) else {
+        return 19;
+    };
+    match x.request(settings) {
+        Request::Point(p) => {
+            *point = p;
+            0
+        }
+        Request::Mode => 1,
+        Request::Refused(number) => number,
     }
 }
 
@@ -94,13 +86,9 @@ pub fn curlewstand_mode_advance(
         score,
         information,
     };
-    let words = *search;
-    match load(words) {
-        Some(x) => {
-            let next = state_words::one_effect::save(x.advance(settings, c));
-            *search = next;
-            0
-        }
-        None => 19,
-    }
+    let Some(x) = state_words::one_effect::load(search) else {
+        return 19;
+    };
+    *search = state_words::one_effect::save(x.advance(settings, c));
+    0
 }

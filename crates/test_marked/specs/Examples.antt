@@ -1,5 +1,5 @@
 -- Document 01's examples of its program: what is read and what is printed, also with another eta_bound or max_evaluations.
-use Rattle.std.specs.Prelude.{List, [], ◌∷◌, ◌++◌, ℕ, zero, suc, ◌/◌, ◌%◌, Float, replicate, Ok, Result}
+use Rattle.std.specs.Prelude.{List, [], ◌∷◌, ◌++◌, ℕ, zero, suc, ◌/◌, ◌%◌, Float, replicate, Err, Ok, Result}
 use Prim.Native.Char.{code}
 use Prim.Native.String.{String}
 use Prim.Native.String as Text

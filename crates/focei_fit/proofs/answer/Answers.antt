@@ -17,6 +17,6 @@ pub returns : goal.returns
 returns c =
     let a = c.args in answers a.counts.now a.observations.now
     (held_of a.at.state a.at.tally a.cache.now a.work.now a.warm.now a.results.now) a.input.now a.individual
-    c.settings-setup.ensures
+    c.settings.ensures
     c.rows_of-rows.ensures
     (whole_reply a.input.now a.reply.now a.at.state.progress.first c.rows_of-rows.result a.individual.first c.requires.0 c.requires.1 c.reply-n.ensures) c.reply.ensures

@@ -13,23 +13,14 @@ run-last-requires c = (
 pub told-requires : goal.told-requires
 told-requires c = c.requires.2
 
-pub shape_of-cache-in-Ok : goal.shape_of-cache-in-Ok
-shape_of-cache-in-Ok c = c.run-last.auto.cache ∙ c.open-opened.auto.cache
-
-pub shape_of-work-in-Ok : goal.shape_of-work-in-Ok
-shape_of-work-in-Ok c = c.run-last.auto.work ∙ c.open-opened.auto.work
-
-pub shape_of-warm-in-Ok : goal.shape_of-warm-in-Ok
-shape_of-warm-in-Ok c = c.run-last.auto.warm ∙ c.open-opened.auto.warm
-
 pub returns-in-Ok : goal.returns-in-Ok
 returns-in-Ok c =
     let a = c.args in is_opened_lem a.input.now a.counts.now a.observations.now a.cache.now a.work.now a.warm.now a.results.now (written 0 a.out.now)
-    c.settings-setup.ensures
+    c.settings.ensures
     c.open-opened.ensures c.in-Ok.is c.run-last.ensures c.told.ensures
 
 pub returns-in-Err : goal.returns-in-Err
 returns-in-Err c =
     let a = c.args in not_opened a.input.now a.counts.now a.observations.now a.cache.now a.work.now a.warm.now a.results.now
-    (written 0 a.out.now) c.settings-setup.ensures c.open-opened.ensures
+    (written 0 a.out.now) c.settings.ensures c.open-opened.ensures
     c.in-Err.is c.refused.ensures

@@ -1,13 +1,10 @@
 -- `play` meets its contract: each turn by its law. Assumes nothing.
 use Rattle.focei_fit.specs.Output as Output
 use Rattle.session.specs.Calls.{called}
-use lib.ListN.{length}
+use Prim.Native.Nat.{◌-◌}
 use Rattle.std.proofs.Common.{◌≡◌}
 use Rattle.focei_fit.proofs.play.Given as goal
 
-abbrev pub invariant-loop-left : goal.invariant-loop-left
-invariant-loop-left l = (Output.play l.input l.counts l.observations l.left (called l.at l.cache l.work l.warm l.results) ≡ Output.play l.input l.counts l.observations Output.most_evaluations (called l.initial.at l.initial.cache l.initial.work l.initial.warm l.initial.results)) ×
-    (length l.reply ≡ length l.initial.reply) × (length l.cache ≡ length l.initial.cache) × (length l.work ≡ length l.initial.work) × (length l.warm ≡ length l.initial.warm) × (length l.results ≡ length l.initial.results)
-
-abbrev pub decreases-loop-left : goal.decreases-loop-left
-decreases-loop-left l = l.left
+abbrev pub invariant-loop-turn : goal.invariant-loop-turn
+invariant-loop-turn l = Output.play l.input l.counts l.observations (10000 - l._turn) (called l.at l.cache l.work l.warm l.results)
+    ≡ Output.play l.input l.counts l.observations Output.most_evaluations (called l.initial.at l.initial.cache l.initial.work l.initial.warm l.initial.results)

@@ -6,6 +6,3 @@ use Rattle.focei_records.proofs.count.Given as goal
 
 abbrev pub invariant-loop-i : goal.invariant-loop-i
 invariant-loop-i l = (l.total + count_from (l.records - l.i) l.input l.i l.subject ≡ count_from l.records l.input 0 l.subject) × (l.total ≤ l.i)
-
-abbrev pub decreases-loop-i : goal.decreases-loop-i
-decreases-loop-i l = l.records - l.i

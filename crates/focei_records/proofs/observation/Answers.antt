@@ -3,9 +3,6 @@ use Rattle.focei_records.proofs.Paths.{observed}
 use Rattle.std.proofs.Common.{◌∙◌}
 use Rattle.focei_records.proofs.observation.Goals as goal
 
-pub shape_of-out : goal.shape_of-out
-shape_of-out c = c.word.auto.out ∙ c.word-additive.auto.out ∙ c.word-value.auto.out ∙ c.word-place.auto.out ∙ c.word-output.auto.out
-
 pub returns : goal.returns
 returns c =
     observed _ _ _ c.subject_at.ensures.0 c.count-row.ensures c.word-output.ensures c.word-place.ensures c.float_at.ensures

@@ -1,13 +1,10 @@
 -- `reply` meets its contract: each turn by its law. Assumes nothing.
 use Rattle.focei_records.specs.Records.{replied_from}
 use Rattle.words.specs.Written.{written, write}
-use lib.ListN.{length}
+use Prim.Native.Nat.{◌-◌}
 use Rattle.std.proofs.Common.{◌≡◌}
 use Rattle.focei_records.proofs.reply.Given as goal
 
-abbrev pub invariant-loop-left : goal.invariant-loop-left
-invariant-loop-left l = (write (replied_from l.left l.input l.individual l.i) (written l.end l.out) ≡ write (replied_from l.rows l.input l.individual l.first)
-    (written 0 l.initial.out)) × (length l.out ≡ length l.initial.out)
-
-abbrev pub decreases-loop-left : goal.decreases-loop-left
-decreases-loop-left l = l.left
+abbrev pub invariant-loop-i : goal.invariant-loop-i
+invariant-loop-i l = write (replied_from (l.rows - (l.i - l.first)) l.input l.individual l.i) (written l.end l.out) ≡ write (replied_from l.rows l.input l.individual l.first)
+    (written 0 l.initial.out)

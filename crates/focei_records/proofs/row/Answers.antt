@@ -3,9 +3,6 @@ use Rattle.focei_records.proofs.Paths.{simulated}
 use Rattle.std.proofs.Common.{◌∙◌}
 use Rattle.focei_records.proofs.row.Goals as goal
 
-pub shape_of-out : goal.shape_of-out
-shape_of-out c = c.word.auto.out ∙ c.word-value.auto.out ∙ c.word-side.auto.out ∙ c.word-time.auto.out
-
 pub returns : goal.returns
 returns c =
     simulated _ _ _ _ c.float_at.ensures c.from_word-base.ensures c.float_at-2.ensures

@@ -6,6 +6,3 @@ use Rattle.focei_records.proofs.subjects.Given as goal
 
 abbrev pub invariant-loop-i : goal.invariant-loop-i
 invariant-loop-i l = (cohort_from (l.records - l.i) l.input l.i l.subjects ≡ cohort_from l.records l.input 0 0) × (l.subjects ≤ l.i)
-
-abbrev pub decreases-loop-i : goal.decreases-loop-i
-decreases-loop-i l = l.records - l.i

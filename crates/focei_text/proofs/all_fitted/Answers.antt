@@ -1,11 +1,11 @@
 -- `all_fitted` meets its contract: each turn by its law. Assumes nothing.
-use Rattle.std.proofs.Common.{rules, arith, refl, ◌∙◌}
+use Rattle.std.proofs.Common.{rules, arith, ◌∙◌}
 use Rattle.focei_text.proofs.ReportPaths.{all_end, all_step, few_rows}
 use native.Mathlib.Nat.{sub-zero}
 use Rattle.focei_text.proofs.all_fitted.Goals as goal
 
 pub loop-subject-init : goal.loop-subject-init
-loop-subject-init c = (simp sub-zero, refl, omega arith)
+loop-subject-init c = (simp sub-zero, omega arith)
 
 pub fitted_lines-end-requires : goal.fitted_lines-end-requires
 fitted_lines-end-requires c = let low = few_rows _ _ c.rows_of-rows.ensures in (low, omega arith)
@@ -21,12 +21,8 @@ loop-subject-preserved c =
     let low = few_rows _ _ c.rows_of-rows.ensures in (
       all_step _ _ _ _ _ _ c.loop-subject-test.true
           c.rows_of-rows.ensures c.fitted_lines-end.ensures ∙ c.loop-subject.invariant.0,
-      c.fitted_lines-end.auto.out ∙ c.loop-subject.invariant.1,
       omega arith,
     )
-
-pub shape_of-out : goal.shape_of-out
-shape_of-out c = c.loop-subject.invariant.1
 
 pub returns : goal.returns
 returns c = all_end _ _ _ _ _ _ c.loop-subject-test.false ∙ c.loop-subject.invariant.0

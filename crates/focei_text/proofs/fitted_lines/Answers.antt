@@ -1,22 +1,16 @@
 -- `fitted_lines` meets its contract: each turn by its law. Assumes nothing.
 use Rattle.focei_text.proofs.ReportPaths.{fitted_end, fitted_step}
-use Rattle.std.proofs.Common.{arith, refl, ◌∙◌}
-use native.Mathlib.Nat.{sub-zero}
+use Rattle.std.proofs.Common.{arith, ◌∙◌}
+use native.Mathlib.Nat.{sub-zero, mul-zero, add-zero}
 use Rattle.focei_text.proofs.fitted_lines.Goals as goal
 
 pub loop-i-init : goal.loop-i-init
-loop-i-init c = (simp sub-zero, refl, omega arith)
+loop-i-init c = simp (sub-zero, mul-zero, add-zero)
 
 pub loop-i-preserved : goal.loop-i-preserved
-loop-i-preserved c = (
-  fitted_step _ _ _ _ _ _ c.loop-i-test.true c.read-population.ensures
-      c.read-individual.ensures c.fitted_line-end.ensures ∙ c.loop-i.invariant.0,
-  c.fitted_line-end.auto.out ∙ c.loop-i.invariant.1,
-  omega arith,
-)
-
-pub shape_of-out : goal.shape_of-out
-shape_of-out c = c.loop-i.invariant.1
+loop-i-preserved c =
+    fitted_step _ _ _ _ _ _ c.loop-i-test.true (omega arith) c.read-population.ensures
+    c.read-individual.ensures c.fitted_line-end.ensures ∙ c.loop-i.invariant
 
 pub returns : goal.returns
-returns c = fitted_end _ _ _ _ _ _ c.loop-i-test.false ∙ c.loop-i.invariant.0
+returns c = fitted_end _ _ _ _ _ _ c.loop-i-test.false ∙ c.loop-i.invariant

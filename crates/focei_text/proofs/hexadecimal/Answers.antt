@@ -3,21 +3,11 @@ use Rattle.std.proofs.Common.{arith, refl, ◌∙◌}
 use Rattle.focei_text.proofs.Paths.{hex_end, hex_step, hex_all}
 use Rattle.focei_text.proofs.hexadecimal.Goals as goal
 
-pub loop-left-init : goal.loop-left-init
-loop-left-init c = (refl, refl, omega arith)
+pub loop-turn-init : goal.loop-turn-init
+loop-turn-init c = refl
 
-pub byte-end-requires : goal.byte-end-requires
-byte-end-requires c = tt
-
-pub loop-left-preserved : goal.loop-left-preserved
-loop-left-preserved c = (
-  hex_step _ _ _ c.loop-left-test.true c.glyph.ensures c.byte-end.ensures ∙ c.loop-left.invariant.0,
-  c.byte-end.auto.out ∙ c.loop-left.invariant.1,
-  omega arith,
-)
-
-pub shape_of-out : goal.shape_of-out
-shape_of-out c = c.loop-left.invariant.1
+pub loop-turn-preserved : goal.loop-turn-preserved
+loop-turn-preserved c = hex_step _ _ _ _ (omega arith) c.glyph.ensures c.byte-end.ensures ∙ c.loop-turn.invariant
 
 pub returns : goal.returns
-returns c = hex_all _ _ (hex_end _ _ _ c.loop-left-test.false ∙ c.loop-left.invariant.0)
+returns c = hex_all _ _ (hex_end _ _ _ (omega arith) ∙ c.loop-turn.invariant)

@@ -1,14 +1,9 @@
 -- `hexadecimal` meets its contract: each turn by its law. Assumes nothing.
 use Rattle.words.specs.Written.{written, write}
 use Rattle.focei_text.specs.Writing.{hex_from}
-use lib.ListN.{length}
-use Prim.Native.Nat.{◌≤◌}
+use Prim.Native.Nat.{◌-◌}
 use Rattle.std.proofs.Common.{◌≡◌}
 use Rattle.focei_text.proofs.hexadecimal.Given as goal
 
-abbrev pub invariant-loop-left : goal.invariant-loop-left
-invariant-loop-left l = (write (hex_from l.left l.rest) (written l.end l.out) ≡ write (hex_from 16 l.value) (written l.at l.initial.out)) × (length l.out ≡ length l.initial.out) ×
-    (l.rest ≤ 18446744073709551615)
-
-abbrev pub decreases-loop-left : goal.decreases-loop-left
-decreases-loop-left l = l.left
+abbrev pub invariant-loop-turn : goal.invariant-loop-turn
+invariant-loop-turn l = write (hex_from (16 - l._turn) l.rest) (written l.end l.out) ≡ write (hex_from 16 l.value) (written l.at l.initial.out)

@@ -5,15 +5,14 @@ use Rattle.host_calls.proofs.setup_of.Goals as goal
 
 pub returns : goal.returns
 returns c = (
-  setup_made _ c.additive_sd-additive_sd.ensures,
+  setup_made _ c.additive_sd.ensures,
   setup_handed _ (record {
     o00 = search rules;
     o01 = search rules;
     o10 = search rules;
     o11 = search rules;
     bound = search rules;
-    tolerance = search
-        rules;
+    tolerance = search rules;
     additive = search rules;
     most = search rules;
   }),

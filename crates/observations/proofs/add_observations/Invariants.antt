@@ -7,6 +7,3 @@ abbrev pub invariant-loop-i : goal.invariant-loop-i
 invariant-loop-i l =
     add_observations l.trial l.reply (take (l.end - l.i) (drop l.i l.observations)) (evaluating l.sums l.work)
     ≡ add_observations l.trial l.reply (take (l.end - l.from) (drop l.from l.observations)) (evaluating l.fn.evaluation l.fn.work)
-
-abbrev pub decreases-loop-i : goal.decreases-loop-i
-decreases-loop-i l = l.end - l.i

@@ -7,6 +7,3 @@ abbrev pub invariant-loop-i : goal.invariant-loop-i
 invariant-loop-i l =
     check_observations l.width l.counts (take (l.end - l.i) (drop l.i l.observations)) l.checked
     ≡ check_observations l.width l.counts (take (l.end - l.from) (drop l.from l.observations)) l.fn.check
-
-abbrev pub decreases-loop-i : goal.decreases-loop-i
-decreases-loop-i l = l.end - l.i

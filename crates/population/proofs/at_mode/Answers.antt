@@ -6,16 +6,16 @@ use Rattle.population.proofs.at_mode.Goals as goal
 pub overflow_cast-rows : goal.overflow_cast-rows
 overflow_cast-rows c = let most = rows_at_most _ _ c.rows_of-rows.ensures in omega arith
 
-pub returns-then-is_same_grid : goal.returns-then-is_same_grid
-returns-then-is_same_grid c =
+pub returns : goal.returns
+returns c =
     same_grid _ _ _ _ _ _ _ c.rows_of-rows.ensures c.closed_by.ensures c.in-Some.is c.store_warm.ensures
-    c.is_same_grid.ensures c.if-is_same_grid.true c.write_result.ensures c.write_fitted.ensures
+    c.is_same_grid.ensures c.if-not-is_same_grid.false c.write_result.ensures c.write_fitted.ensures
     c.next_subject.ensures
 
-pub returns-else-is_same_grid : goal.returns-else-is_same_grid
-returns-else-is_same_grid c =
+pub returns-then-not-is_same_grid : goal.returns-then-not-is_same_grid
+returns-then-not-is_same_grid c =
     other_grid _ _ _ _ _ _ _ c.rows_of-rows.ensures c.closed_by.ensures c.in-Some.is c.store_warm.ensures
-    c.is_same_grid.ensures c.if-is_same_grid.false c.refused.ensures
+    c.is_same_grid.ensures c.if-not-is_same_grid.true c.refused-then-not-is_same_grid.ensures
 
-pub returns-in-None : goal.returns-in-None
-returns-in-None c = not_positive _ _ _ _ _ _ _ c.rows_of-rows.ensures c.closed_by.ensures c.in-None.is c.refused-in-None.ensures
+pub returns-in_default : goal.returns-in_default
+returns-in_default c = not_positive _ _ _ _ _ _ _ c.rows_of-rows.ensures c.closed_by.ensures c.in_default.is c.refused.ensures

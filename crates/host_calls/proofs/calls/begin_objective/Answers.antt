@@ -3,8 +3,8 @@ use Rattle.host_calls.specs.Hosting.{setup_of, parameters_of}
 use Rattle.host_calls.proofs.Paths.{objective_given, objective_none}
 use Rattle.host_calls.proofs.calls.begin_objective.Goals as goal
 
-pub returns-in-Some : goal.returns-in-Some
-returns-in-Some c =
+pub returns : goal.returns
+returns c =
     objective_given (setup_of c.args.setup) c.args.counts.now c.args.observations c.args.check
     c.args.tally c.args.state.now c.args.answer.now c.args.cache.now c.args.work.now c.args.warm.now c.args.results.now
     c.load.ensures
@@ -12,9 +12,9 @@ returns-in-Some c =
     c.parameters_of.ensures.0
     c.begin_objective-begun.ensures c.told.ensures
 
-pub returns-in-None : goal.returns-in-None
-returns-in-None c =
+pub returns-in_default : goal.returns-in_default
+returns-in_default c =
     objective_none (setup_of c.args.setup)
     c.args.counts.now c.args.observations c.args.check c.args.tally c.args.state.now c.args.answer.now c.args.cache.now c.args.work.now c.args.warm.now
-    c.args.results.now c.load.ensures (parameters_of c.args.parameters) c.in-None.is
+    c.args.results.now c.load.ensures (parameters_of c.args.parameters) c.in_default.is
     c.no_state.ensures

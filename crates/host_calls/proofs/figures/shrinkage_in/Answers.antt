@@ -2,15 +2,17 @@
 use Rattle.std.proofs.Common.{arith}
 use Rattle.host_calls.proofs.ShrinkagePaths.{many, finished, unfinished}
 use Rattle.host_calls.proofs.figures.shrinkage_in.Goals as goal
-
-pub returns-then-subjects-gt-MOST_SUBJECTS : goal.returns-then-subjects-gt-MOST_SUBJECTS
-returns-then-subjects-gt-MOST_SUBJECTS c = many _ _ c.if-subjects-gt-MOST_SUBJECTS.true
+use Rattle.host_calls.proofs.figures.shrinkage_in.Goals.{else-subjects-le-MOST_SUBJECTS-via-then-subjects-le-MOST_SUBJECTS+else-has_finished, else-subjects-le-MOST_SUBJECTS-via-else-subjects-le-MOST_SUBJECTS}
 
 pub overflow_cast-subjects : goal.overflow_cast-subjects
-overflow_cast-subjects c = let few = c.if-subjects-gt-MOST_SUBJECTS.false in omega (arith, few)
+overflow_cast-subjects c = let few = c.if-subjects-le-MOST_SUBJECTS.true in omega (arith, few)
 
 pub returns-then-has_finished : goal.returns-then-has_finished
-returns-then-has_finished c = finished _ _ c.if-subjects-gt-MOST_SUBJECTS.false c.has_finished.ensures c.if-has_finished.true c.shrinkage.ensures
+returns-then-has_finished c = finished _ _ c.if-subjects-le-MOST_SUBJECTS.true c.has_finished.ensures c.if-has_finished.true c.shrinkage.ensures
 
 pub returns : goal.returns
-returns c = unfinished _ _ c.if-subjects-gt-MOST_SUBJECTS.false c.has_finished.ensures c.if-has_finished.false
+returns c = elim c.else-subjects-le-MOST_SUBJECTS.branch [
+  | else-subjects-le-MOST_SUBJECTS-via-then-subjects-le-MOST_SUBJECTS+else-has_finished w ↦
+      unfinished _ _ w.if-subjects-le-MOST_SUBJECTS.true w.has_finished.ensures w.if-has_finished.false
+  | else-subjects-le-MOST_SUBJECTS-via-else-subjects-le-MOST_SUBJECTS w ↦ many _ _ w.if-subjects-le-MOST_SUBJECTS.false
+]

@@ -4,4 +4,4 @@ use Rattle.host_calls.proofs.Subject.{first_at}
 use Rattle.host_calls.proofs.replies.subject_first.Goals as goal
 
 pub returns : goal.returns
-returns c = (first_at _ c.read-subject.ensures, refl)
+returns c = (first_at _ c.read.ensures, refl)

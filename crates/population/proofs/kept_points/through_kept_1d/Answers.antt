@@ -37,5 +37,5 @@ unfolding with_search
 returns c =
     let taken = one_taken c.args.fit c.args.rows c.args.start c.requires c.settings-settings.ensures _ _ _ c.take_1d-search.ensures in
     let wanted = one_wanted c.args.fit c.args.rows c.args.start c.requires c.settings-settings.ensures _ c.wanted_1d-wanted.ensures in
-    stops _ _ _ _ _ _ _ taken wanted c.is_over-over.ensures c.eta_of-at.ensures c.kept_at.ensures c.in-None.is ∙
+    stops _ _ _ _ _ _ _ taken wanted c.is_over-over.ensures c.eta_of-at.ensures c.kept_at.ensures c.with_search.ensures c.in-None.is ∙
     c.kept.invariant.0 ∙ from_one _ _ _ _ _ _ _ c.requires c.one_of-search.ensures

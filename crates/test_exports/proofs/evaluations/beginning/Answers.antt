@@ -4,4 +4,4 @@ use Rattle.test_exports.proofs.evaluations.beginning.Goals as goal
 
 pub returns : goal.returns
 unfolding beginning
-returns c = rw (c.begin-evaluation.ensures, c.additive_sd-additive_sd.ensures)
+returns c = rw (c.begin.ensures, c.additive_sd.ensures)

@@ -4,10 +4,10 @@ use Rattle.test_exports.proofs.evaluations.curlewstand_individual_values.Goals a
 
 pub returns-in-Some : goal.returns-in-Some
 returns-in-Some c =
-    let e = values_written c.args.theta.now c.args.eta.now c.args.effects c.args.individual.now c.pair_of-typical.ensures c.pair_of-effect.ensures c.individual_values.ensures c.in-Some.is in
+    let e = values_written c.args.theta.now c.args.eta.now c.args.effects c.args.individual.now c.pair_of.ensures c.pair_of-2.ensures c.individual_values.ensures c.in-Some.is in
     record { value = e.0; individual_after = e.1 }
 
 pub returns-in-None : goal.returns-in-None
 returns-in-None c =
-    let e = no_values c.args.theta.now c.args.eta.now c.args.effects c.args.individual.now c.pair_of-typical.ensures c.pair_of-effect.ensures c.individual_values.ensures c.in-None.is in
+    let e = no_values c.args.theta.now c.args.eta.now c.args.effects c.args.individual.now c.pair_of.ensures c.pair_of-2.ensures c.individual_values.ensures c.in-None.is in
     record { value = e.0; individual_after = e.1 }

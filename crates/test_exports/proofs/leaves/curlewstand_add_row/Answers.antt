@@ -12,11 +12,11 @@ returns-in-Ok c =
     let row = c.scaled_row-row.ensures in
     record {
       value = ap number_of found;
-      information_after = rw (c.add_nll.ensures, c.add_score-next_score.ensures, c.add_information-next_information.ensures, row) (ap (added _ _ _ _) found);
+      information_after = rw (c.add_nll.ensures, c.add_score.ensures, c.add_information.ensures, row) (ap (added _ _ _ _) found);
     }
 
 pub returns-in-Err : goal.returns-in-Err
 unfolding answer observation_of number_of added add_row
 returns-in-Err c =
     let found = sym (ap answer c.in-Err.is) ∙ c.row_variance.ensures in
-    record { value = ap number_of found; information_after = ap (added _ _ _ _) found }
+    record { value = c.number.ensures ∙ ap number_of found; information_after = ap (added _ _ _ _) found }

@@ -8,7 +8,7 @@ pub returns-in-Some : goal.returns-in-Some
 unfolding answer exists inverse_or det_or
 returns-in-Some c =
     let found = sym (ap (answer _) c.in-Some.is) ∙ c.inverse_positive.ensures in
-    record { value = ap exists found; inverse_after = c.inverse-i.ensures ∙ ap (inverse_or _) found; det_after = ap (det_or _) found }
+    record { value = ap exists found; inverse_after = c.inverse.ensures ∙ ap (inverse_or _) found; det_after = ap (det_or _) found }
 
 pub returns-in-None : goal.returns-in-None
 unfolding answer exists inverse_or det_or

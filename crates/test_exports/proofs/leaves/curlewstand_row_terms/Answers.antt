@@ -11,14 +11,8 @@ returns-in-Ok c =
     let found = sym (ap answer c.in-Ok.is) ∙ c.row_terms.ensures in
     record { value = ap number_of found; terms_after = ap (terms_or _) found }
 
-pub returns-in-InvalidVariance : goal.returns-in-InvalidVariance
+pub returns-in-Err : goal.returns-in-Err
 unfolding answer observation_of number_of terms_or
-returns-in-InvalidVariance c =
-    let found = sym (ap answer c.in-InvalidVariance.is) ∙ c.row_terms.ensures in
-    record { value = ap number_of found; terms_after = ap (terms_or _) found }
-
-pub returns-in-Overflow : goal.returns-in-Overflow
-unfolding answer observation_of number_of terms_or
-returns-in-Overflow c =
-    let found = sym (ap answer c.in-Overflow.is) ∙ c.row_terms.ensures in
-    record { value = ap number_of found; terms_after = ap (terms_or _) found }
+returns-in-Err c =
+    let found = sym (ap answer c.in-Err.is) ∙ c.row_terms.ensures in
+    record { value = c.number.ensures ∙ ap number_of found; terms_after = ap (terms_or _) found }

@@ -22,7 +22,7 @@ returns-in-Refused c =
     let e = request_given _ c.load.ensures c.settings_of-settings.ensures c.args.point.now c.in-Some.is (sym c.in-Refused.is ∙ c.request.ensures) in
     record { value = e.0; point_after = e.1 }
 
-pub returns-in-None : goal.returns-in-None
-returns-in-None c =
-    let e = request_none _ c.load.ensures c.in-None.is (settings_of c.args.eta_bound c.args.precision.now c.args.warm.now) c.args.point.now in
+pub returns-in_default : goal.returns-in_default
+returns-in_default c =
+    let e = request_none _ c.load.ensures c.in_default.is (settings_of c.args.eta_bound c.args.precision.now c.args.warm.now) c.args.point.now in
     record { value = e.0; point_after = e.1 }

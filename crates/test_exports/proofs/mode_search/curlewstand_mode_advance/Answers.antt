@@ -5,14 +5,14 @@ use Rattle.state_words.specs.SearchWords.{saved, answer}
 use Rattle.test_exports.specs.Mode.{next, advanced}
 use Rattle.test_exports.proofs.mode_search.curlewstand_mode_advance.Goals as goal
 
-pub returns-in-Some : goal.returns-in-Some
+pub returns : goal.returns
 unfolding answer through advanced number_of or_old
-returns-in-Some c =
+returns c =
     let found = ap (through (next _ _)) (sym (ap answer c.in-Some.is) ∙ c.load.ensures) in
-    record { value = ap number_of found; search_after = c.save-next.ensures ∙ ap saved c.advance.ensures ∙ ap (or_old _) found }
+    record { value = ap number_of found; search_after = c.save.ensures ∙ ap saved c.advance.ensures ∙ ap (or_old _) found }
 
-pub returns-in-None : goal.returns-in-None
+pub returns-in_default : goal.returns-in_default
 unfolding answer through advanced number_of or_old
-returns-in-None c =
-    let found = ap (through (next _ _)) (sym (ap answer c.in-None.is) ∙ c.load.ensures) in
+returns-in_default c =
+    let found = ap (through (next _ _)) (sym (ap answer c.in_default.is) ∙ c.load.ensures) in
     record { value = ap number_of found; search_after = ap (or_old _) found }

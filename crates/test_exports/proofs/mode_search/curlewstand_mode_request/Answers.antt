@@ -27,8 +27,8 @@ returns-in-Refused c =
     let told = ap given (sym c.in-Refused.is ∙ c.request.ensures) ∙ found in
     record { value = ap request_number told; point_after = ap (point_or _) told }
 
-pub returns-in-None : goal.returns-in-None
+pub returns-in_default : goal.returns-in_default
 unfolding answer through requested request_number point_or
-returns-in-None c =
-    let found = ap (through (request _)) (sym (ap answer c.in-None.is) ∙ c.load.ensures) in
+returns-in_default c =
+    let found = ap (through (request _)) (sym (ap answer c.in_default.is) ∙ c.load.ensures) in
     record { value = ap request_number found; point_after = ap (point_or _) found }
