@@ -120,7 +120,7 @@ module _ (input counts observations cache work warm results : List ℕ) (place :
   abbrev admission : Admission
   admission = checks settings counts words_lent (all_checked settings counts os)
 
-  grants : admission ≡ (Ok tt) → Granted settings counts os words_lent results
+  grants : admission ≡ Ok tt → Granted settings counts os words_lent results
   unfolding settings of_bits fits
   grants e = record { bound = tt; limit = omega arith; many = refl; long = refl; passes = e }
 

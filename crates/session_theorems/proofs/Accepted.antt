@@ -99,13 +99,13 @@ module _ (setup : Setup) (counts : List ℕ) (lent : Lent) (check : Check) where
       let v = not_first (ltb lent.warm (setup.effects * subjects)) _ true_not_false c.1 in
       (ltb-false _ _ w.0, ltb-false _ _ c.0, ltb-false _ _ v.0, ltb-false _ _ v.1)
 
-  by_check : (total largest : ℕ) (k : Check) → roomy setup (length counts) total largest lent k ≡ (Ok tt) → is_short setup (length counts) total largest lent ≡ false
+  by_check : (total largest : ℕ) (k : Check) → roomy setup (length counts) total largest lent k ≡ Ok tt → is_short setup (length counts) total largest lent ≡ false
   unfolding roomy
   by_check total largest (Err place) q = absurd (let z : ◌≡◌ {A = ℕ} 0 1 = cc in omega arith)
   by_check total largest (Ok place) q = (not_first (is_short setup (length counts) total largest lent) (Ok tt) (λ p. let z : ◌≡◌ {A = ℕ} 0 1 = cc in omega arith) q).0
 
   passed : (total largest : ℕ) → count_observations counts ≡ within total largest → is_cohort setup.effects (length counts) total lent.observations ≡ true
-      → admitted setup (length counts) total largest lent check ≡ (Ok tt) → Accepts setup counts lent
+      → admitted setup (length counts) total largest lent check ≡ Ok tt → Accepts setup counts lent
   unfolding admitted count_observations
   passed total largest c h e =
       let never2 : ◌≡◌ {A = Admission} (Err (A.Refused 2)) (Ok tt) → ⊥ = λ q. let z : ◌≡◌ {A = ℕ} 0 1 = cc in omega arith in
@@ -134,13 +134,13 @@ module _ (setup : Setup) (counts : List ℕ) (lent : Lent) (check : Check) where
         results_lent = subst (λ (n : ℕ). 2 * n + 3 * length counts ≤ lent.results) g.adds r.3;
       }
 
-  by_counts : (c : Option Counts) → count_observations counts ≡ c → checks_of setup (length counts) lent check c ≡ (Ok tt) → Accepts setup counts lent
+  by_counts : (c : Option Counts) → count_observations counts ≡ c → checks_of setup (length counts) lent check c ≡ Ok tt → Accepts setup counts lent
   unfolding checks_of
   by_counts (Some n) d e =
-      cases (λ (a : Admission). a ≡ (Ok tt) → Accepts setup counts lent) (is_cohort setup.effects (length counts) n.total lent.observations)
+      cases (λ (a : Admission). a ≡ Ok tt → Accepts setup counts lent) (is_cohort setup.effects (length counts) n.total lent.observations)
       (λ h q. passed n.total n.largest d h q) (λ h q. absurd (let z : ◌≡◌ {A = ℕ} 0 1 = cc in omega arith)) e
   by_counts None d e = absurd (let z : ◌≡◌ {A = ℕ} 0 1 = cc in omega arith)
 
-  pub accepts : checks setup counts lent check ≡ (Ok tt) → Accepts setup counts lent
+  pub accepts : checks setup counts lent check ≡ Ok tt → Accepts setup counts lent
   unfolding checks
   accepts e = by_counts (count_observations counts) refl e

@@ -199,7 +199,7 @@ module _ (setup : Setup) (counts : List ℕ) (h : Held words) where
   pub nineteen : Enters (S.unaltered words 19 At.Nowhere h)
   nineteen = stays 19 (inr refl) (inr (inr (inr refl)))
 
-  pub admits : (go : Moved (Held words) Step) (a : Admission) → Judged (length counts) a → (a ≡ (Ok tt) → length counts ≤ 4096 → Enters go) → Enters (when_admitted words h go a)
+  pub admits : (go : Moved (Held words) Step) (a : Admission) → Judged (length counts) a → (a ≡ Ok tt → length counts ≤ 4096 → Enters go) → Enters (when_admitted words h go a)
   unfolding when_admitted Judged Enters
   admits go (Ok tt) j f = f refl j
   admits go (Err (A.Refused n)) j f = stays n j.0 j.1

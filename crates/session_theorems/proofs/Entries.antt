@@ -86,7 +86,7 @@ module _ (S : Store) (setup : Setup) (counts : List ℕ) (observations : List Ob
     unaltered : (number : ℕ) (place : Place) → Goes c h (N.unaltered S number place h)
     unaltered number place = same refl
 
-    when_admitted_lem : (go : Moved (Held S) Step) (a : Admission) → (a ≡ (Ok tt) → Goes c h go) → Goes c h (N.when_admitted S h go a)
+    when_admitted_lem : (go : Moved (Held S) Step) (a : Admission) → (a ≡ Ok tt → Goes c h go) → Goes c h (N.when_admitted S h go a)
     unfolding N.when_admitted
     when_admitted_lem go (Ok tt) f = f refl
     when_admitted_lem go (Err (A.Refused n)) f = unaltered n At.Nowhere
@@ -103,7 +103,7 @@ module _ (S : Store) (setup : Setup) (counts : List ℕ) (observations : List Ob
     })
 
     -- ---- an objective
-    starts : (parameters : Parameters) → p.awaits ≡ false → N.admitted S setup counts (length observations) (N.all_checked setup counts observations) parameters w ≡ (Ok tt) → Goes c h
+    starts : (parameters : Parameters) → p.awaits ≡ false → N.admitted S setup counts (length observations) (N.all_checked setup counts observations) parameters w ≡ Ok tt → Goes c h
         (on (N.begun S setup counts parameters w))
     unfolding N.begun N.admitted B.begin_subject
     starts parameters idle e =

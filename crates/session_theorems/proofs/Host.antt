@@ -165,11 +165,11 @@ module _ (l : Lending) where
   run_set s (sets w ∷ xs) v = run_set (set (M l) w s) xs v
 
 -- ---- the session, where setup let it in
-granted : (l : Lending) → FitsSetup l.setup → N.opens words l.setup l.counts l.observations (lent l) ≡ (Ok tt)
+granted : (l : Lending) → FitsSetup l.setup → N.opens words l.setup l.counts l.observations (lent l) ≡ Ok tt
     → Granted l.setup l.counts l.observations (lent l) l.results
 granted l f passes = record { bound = f.bound; limit = f.most; many = refl; long = refl; passes = passes }
 
-module _ (l : Lending) (I : Inner) (Q : Suits I l.setup.effects) (f : FitsSetup l.setup) (passes : N.opens words l.setup l.counts l.observations (lent l) ≡ (Ok tt)) where
+module _ (l : Lending) (I : Inner) (Q : Suits I l.setup.effects) (f : FitsSetup l.setup) (passes : N.opens words l.setup l.counts l.observations (lent l) ≡ Ok tt) where
   abbrev a : Accepts l.setup l.counts (lent l)
   a = accepts l.setup l.counts (lent l) (all_checked l.setup l.counts l.observations) passes
 
@@ -338,7 +338,7 @@ module _ (l : Lending) (f : FitsSetup l.setup) (e : number l opens ≡ 0) where
   is_opened_lem = opened_by_lem _ (counts_judged l.setup (length l.counts) (lent l) (all_checked l.setup l.counts l.observations) (count_observations l.counts))
       (ap (λ (o : Out). o.told.done.number) (sym settled_by.same) ∙ e)
 
-  abbrev passes : N.opens words l.setup l.counts l.observations (lent l) ≡ (Ok tt)
+  abbrev passes : N.opens words l.setup l.counts l.observations (lent l) ≡ Ok tt
   passes = (every_setup l.setup l.counts l.observations l.tally l.cache l.work l.warm l.results next is_opened_lem).passes
 
   first_state_lem : settled_out.told.state ≡ saved_state next l.state

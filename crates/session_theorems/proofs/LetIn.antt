@@ -80,25 +80,25 @@ module _ (setup : Setup) (parameters : Parameters) (subjects : ℕ) (lent : Lent
     own_room total largest (Ok place) = refl
     own_room total largest (Err place) = refl
 
-    own_admitted : (total largest : ℕ) (check : Check) → admitted setup subjects total largest lent check ≡ (Ok tt) → admitted (with_parameters setup parameters) subjects total largest lent check ≡
-        (Ok tt)
+    own_admitted : (total largest : ℕ) (check : Check) → admitted setup subjects total largest lent check ≡ Ok tt → admitted (with_parameters setup parameters) subjects total largest lent check ≡
+        Ok tt
     unfolding admitted
     own_admitted total largest check e =
         let a = not_first (is_no_omega setup) _ (λ q. let z : ◌≡◌ {A = ℕ} 0 1 = cc in omega arith) e in
         let b = not_first (is_no_shape setup) _ (λ q. let z : ◌≡◌ {A = ℕ} 0 1 = cc in omega arith) a.1 in
         pick_no _ _ _ o ∙ pick_no _ _ _ s ∙ own_room total largest check ∙ b.1
 
-    own_checks : (check : Check) (c : Option Counts) → checks_of setup subjects lent check c ≡ (Ok tt) → checks_of (with_parameters setup parameters) subjects lent check c ≡ (Ok tt)
+    own_checks : (check : Check) (c : Option Counts) → checks_of setup subjects lent check c ≡ Ok tt → checks_of (with_parameters setup parameters) subjects lent check c ≡ Ok tt
     unfolding checks_of with_parameters
     own_checks check (Some n) e =
-        cases (λ (x : Admission). x ≡ (Ok tt) → checks_of (with_parameters setup parameters) subjects lent check (within n.total n.largest) ≡ (Ok tt))
+        cases (λ (x : Admission). x ≡ Ok tt → checks_of (with_parameters setup parameters) subjects lent check (within n.total n.largest) ≡ Ok tt)
         (is_cohort setup.effects subjects n.total lent.observations)
         (λ t q. pick_yes _ _ _ t ∙ own_admitted n.total n.largest check q) (λ t q. absurd (let z : ◌≡◌ {A = ℕ} 0 1 = cc in omega arith)) e
     own_checks check None e = e
 
 module _ (setup : Setup) (counts : List ℕ) (observations : List Observation) (I : Inner) (Q : Suits I setup.effects) (bound : Fits setup.eta_bound)
     (limit : setup.max_evaluations < 4294967296)
-    (lent : Lent) (results : List ℕ) (many : length observations ≡ lent.observations) (long : length results ≡ lent.results) (opens : N.opens words setup counts observations lent ≡ (Ok tt))
+    (lent : Lent) (results : List ℕ) (many : length observations ≡ lent.observations) (long : length results ≡ lent.results) (opens : N.opens words setup counts observations lent ≡ Ok tt)
     (a : Accepts setup counts lent) (room : Room setup.k) where
   abbrev U : Trusted words setup.k
   U = words_trusted setup.k room.some room.most
@@ -152,14 +152,14 @@ module _ (setup : Setup) (counts : List ℕ) (observations : List Observation) (
         ∙ both (λ (b : Bool). b ≡ true) (eqb setup.effects 2) (within2_true _ g.place.two) g.place.one
 
     others : (parameters : Parameters) → is_no_omega (with_parameters setup parameters) ≡ false → is_no_shape (with_parameters setup parameters) ≡ false → admission setup counts observations parameters h ≡
-        (Ok tt)
+        Ok tt
     unfolding N.admitted with_parameters checks
     others parameters o k =
         checks_same (with_parameters setup parameters) (N.lent_of words setup n h.whole) lent g.work g.warm g.results many
         (kept_lent setup.k room.some room.most s.count h.whole.kept s.trust) a.cache_lent counts check
         ∙ own_checks setup parameters (length counts) lent o k check (count_observations counts) opens
 
-    accepted : admission setup counts observations h.parameters h ≡ (Ok tt)
+    accepted : admission setup counts observations h.parameters h ≡ Ok tt
     accepted = others h.parameters s.omega_in s.shape_in
 
     awaited : h.whole.progress.awaits ≡ true → (go : Pair → Moved (Held words) Step) → N.when_awaited words setup counts n check h go ≡ go (wanted_point setup counts observations h)

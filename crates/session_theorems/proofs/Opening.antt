@@ -35,7 +35,7 @@ module _ (setup : Setup) (counts : List ℕ) (lent : Lent) (tally : Tally) (cach
   abbrev gives : Admission → Setting
   gives a = opening setup counts lent tally cache work warm results a
 
-  accepted : (a : Admission) → (gives a).begun.opening ≡ Ok s → a ≡ (Ok tt)
+  accepted : (a : Admission) → (gives a).begun.opening ≡ Ok s → a ≡ Ok tt
   unfolding opening is_opened
   accepted (Ok tt) e = refl
   accepted (Err (A.Refused number)) e = refused_never refl e

@@ -288,13 +288,13 @@ module _ (setup : Setup) (counts : List ℕ) (observations : List Observation) (
       abbrev count : ℕ
       count = get_or counts s.progress.subject 0
 
-      few_lent : judgement ≡ (Ok tt) → length observations ≤ 100000
+      few_lent : judgement ≡ Ok tt → length observations ≤ 100000
       unfolding subject_checks checks_of
       few_lent e =
           let never : ◌≡◌ {A = Admission} (Err (A.Refused 1)) (Ok tt) → ⊥ = λ q. let z : ◌≡◌ {A = ℕ} 0 1 = cc in omega arith in
           let low = not_first _ _ never (not_first _ _ never e).1 in
           let n : count ≤ 100000 = ltb-false _ _ low.0 in
-          cases (λ (a : Admission). a ≡ (Ok tt) → length observations ≤ 100000) (is_cohort (with_parameters setup s.parameters).effects (length counts) count (length observations))
+          cases (λ (a : Admission). a ≡ Ok tt → length observations ≤ 100000) (is_cohort (with_parameters setup s.parameters).effects (length counts) count (length observations))
           (λ t q. let m = (is_cohort_lem _ (length counts) count (length observations) t).adds in omega (arith, n, m)) (λ f q. absurd (never q)) low.1
 
       abbrev awaited : Admission → Pair → Awaited
@@ -307,7 +307,7 @@ module _ (setup : Setup) (counts : List ℕ) (observations : List Observation) (
       by_own a e u q = subst (λ (z : Ran (Held words) Step). Way (did z state answer)) (sym (own_finish setup counts a e u q))
 
       -- not let in
-      barred_way : W.state_size ≤ length state → (eta : Pair) (a : Admission) → (a ≡ (Ok tt) → ⊥) → Judged (length counts) a → (n : ℕ)
+      barred_way : W.state_size ≤ length state → (eta : Pair) (a : Admission) → (a ≡ Ok tt → ⊥) → Judged (length counts) a → (n : ℕ)
           → Way (ends_as (nothing_admitted (awaited a eta) trial n) s)
       barred_way long eta a never j n = by_own (awaited a eta) _ _ refl (way s long _ (done setup counts (h s) _ (admits setup counts (h s) _ a j (λ q. absurd (never q)))))
 

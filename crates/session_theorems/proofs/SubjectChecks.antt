@@ -105,14 +105,14 @@ module _ (setup : Setup) (counts : List ℕ) (lent lent' : Lent) (check : Check)
     pub sound : IsSound check
     pub room : is_short setup (length counts) total largest lent ≡ false
 
-  by_check : (total largest : ℕ) (c : Check) → roomy setup (length counts) total largest lent c ≡ (Ok tt) → IsSound c × (is_short setup (length counts) total largest lent ≡ false)
+  by_check : (total largest : ℕ) (c : Check) → roomy setup (length counts) total largest lent c ≡ Ok tt → IsSound c × (is_short setup (length counts) total largest lent ≡ false)
   unfolding roomy
   by_check total largest (Err place) q = absurd (let z : ◌≡◌ {A = ℕ} 0 1 = cc in omega arith)
   by_check total largest (Ok place) q =
       (record { at = place; is = refl }, (not_first (is_short setup (length counts) total largest lent) (Ok tt) (λ p. let z : ◌≡◌ {A = ℕ} 0 1 = cc in omega arith) q).0)
 
   by_cohort : (total largest : ℕ) → count_observations counts ≡ within total largest → is_cohort setup.effects (length counts) total lent.observations ≡ true → admitted setup (length counts) total
-      largest lent check ≡ (Ok tt) → Passed
+      largest lent check ≡ Ok tt → Passed
   unfolding admitted
   by_cohort total largest c h e =
       let o = not_first (is_no_omega setup) _ (λ q. let z : ◌≡◌ {A = ℕ} 0 1 = cc in omega arith) e in
@@ -120,14 +120,14 @@ module _ (setup : Setup) (counts : List ℕ) (lent lent' : Lent) (check : Check)
       let r = by_check total largest check s.1 in
       record { total = total; largest = largest; counted = c; cohort = h; omega_in = o.0; shape_in = s.0; sound = r.0; room = r.1 }
 
-  by_counts : (c : Option Counts) → count_observations counts ≡ c → checks_of setup (length counts) lent check c ≡ (Ok tt) → Passed
+  by_counts : (c : Option Counts) → count_observations counts ≡ c → checks_of setup (length counts) lent check c ≡ Ok tt → Passed
   unfolding checks_of
   by_counts (Some n) d e =
-      cases (λ (a : Admission). a ≡ (Ok tt) → Passed) (is_cohort setup.effects (length counts) n.total lent.observations)
+      cases (λ (a : Admission). a ≡ Ok tt → Passed) (is_cohort setup.effects (length counts) n.total lent.observations)
       (λ h q. by_cohort n.total n.largest d h q) (λ h q. absurd (let z : ◌≡◌ {A = ℕ} 0 1 = cc in omega arith)) e
   by_counts None d e = absurd (let z : ◌≡◌ {A = ℕ} 0 1 = cc in omega arith)
 
-  pub passed : checks setup counts lent check ≡ (Ok tt) → Passed
+  pub passed : checks setup counts lent check ≡ Ok tt → Passed
   unfolding checks
   passed e = by_counts (count_observations counts) refl e
 
@@ -142,7 +142,7 @@ module _ (setup : Setup) (counts : List ℕ) (lent lent' : Lent) (check : Check)
         (each.0, each.1, low.1, low.0)
 
     pub subject_passes : (check' : Check) → IsSound check' → get_or counts subject 0 ≤ w.total → get_or counts subject 0 ≡ lent'.observations
-        → lent'.work ≡ lent.work → lent'.cache ≡ lent.cache → lent'.warm ≡ lent.warm → lent'.results ≡ lent.results → (Ok tt) ≡ subject_checks setup counts subject lent' check'
+        → lent'.work ≡ lent.work → lent'.cache ≡ lent.cache → lent'.warm ≡ lent.warm → lent'.results ≡ lent.results → Ok tt ≡ subject_checks setup counts subject lent' check'
     unfolding subject_checks checks_of admitted roomy
     subject_passes check' sound most lends ew ec ea er =
         let c = get_or counts subject 0 in
@@ -153,5 +153,5 @@ module _ (setup : Setup) (counts : List ℕ) (lent lent' : Lent) (check : Check)
         (no _ (le-ltb _ _ few)
         (yes _ (sym (cohort_of setup.effects (length counts) w.total lent.observations c lent'.observations w.cohort lends))
         (no _ w.omega_in (no _ w.shape_in
-        (subst (λ (k : Check). (Ok tt) ≡ roomy setup (length counts) c c lent' k) (sym sound.is)
+        (subst (λ (k : Check). Ok tt ≡ roomy setup (length counts) c c lent' k) (sym sound.is)
         (no _ (sym (room_of setup (length counts) w.total w.largest c lent lent' n.1 most ew ec ea er w.room)) refl))))))

@@ -82,7 +82,7 @@ same_point setup counts n m fit s tally a b =
 module _ (setup : Setup) (counts : List ℕ) (observations : List Observation) (tally : Tally) (state answer cache work warm results : List ℕ) (said : List ℕ) (s : State)
     (placing : stands setup counts (length observations) s tally ≡ true)
     (accepted : checks (with_parameters setup s.parameters) counts (lent_by (length observations) (length cache) (length work) (length warm) (length results)) (all_checked setup counts observations) ≡
-    (Ok tt)) where
+    Ok tt) where
   abbrev own : List Observation
   own = own_of counts observations s
 
@@ -121,7 +121,7 @@ module _ (setup : Setup) (counts : List ℕ) (observations : List Observation) (
   unfolding subject_first
   own_sound = part_sound setup.width counts observations _ all.sound.at _ rows s.progress.first all.sound.is
 
-  own_accepted : (Ok tt) ≡ subject_checks set counts subject (lent (length own)) (subject_checked setup counts own state)
+  own_accepted : Ok tt ≡ subject_checks set counts subject (lent (length own)) (subject_checked setup counts own state)
   own_accepted =
       subject_passes set counts (lent (length observations)) (lent (length own)) (all_checked setup counts observations) all subject inside.0 (subject_checked setup counts own state)
       own_sound (omega (arith, rows_are, inside.1, total_is)) (sym rows_are ∙ sym own_length) refl refl refl refl
@@ -200,4 +200,4 @@ in_every_session setup counts observations lent before granted acts tally state 
     let here-stands = let_in setup counts observations lent before granted acts in
     every_subject_reply setup counts observations tally state answer cache work warm results said s loads
     (subst (λ (h : Held words). standing words setup counts (length observations) h.whole ≡ true) (sym here) here-stands.placed)
-    (subst (λ (h : Held words). admitted words setup counts (length observations) (all_checked setup counts observations) h.parameters h.whole ≡ (Ok tt)) (sym here) here-stands.accepted)
+    (subst (λ (h : Held words). admitted words setup counts (length observations) (all_checked setup counts observations) h.parameters h.whole ≡ Ok tt) (sym here) here-stands.accepted)

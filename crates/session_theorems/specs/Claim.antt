@@ -16,7 +16,7 @@ module _ (S : Store) (setup : Setup) (counts : List ℕ) (observations : List Ob
   -- of the code is.
   abbrev pub Holds3 : Inner → Type 0
   Holds3 I = T (fits binary64 setup.eta_bound) → setup.max_evaluations < 4294967296
-      → (lent : Lent) (results : List ℕ) → opens S setup counts observations lent ≡ (Ok tt)
+      → (lent : Lent) (results : List ℕ) → opens S setup counts observations lent ≡ Ok tt
       → let M = session S setup counts observations in
       (acts : List (Act M))
       → Demand3 I.rules I.claims M (view S setup counts observations I) (opened S setup counts lent results) acts

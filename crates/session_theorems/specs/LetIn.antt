@@ -37,9 +37,9 @@ module _ (setup : Setup) (counts : List ℕ) (observations : List Observation) w
     -- 19's positions and kept rows
     pub placed : standing words setup counts (length observations) h.whole ≡ true
     -- 1 to 5 of the objective's own parameters; of others only 2 and 3 can refuse
-    pub accepted : admission h.parameters h ≡ (Ok tt)
+    pub accepted : admission h.parameters h ≡ Ok tt
     pub others : (parameters : Parameters) → is_no_omega (with_parameters setup parameters) ≡ false
-        → is_no_shape (with_parameters setup parameters) ≡ false → admission parameters h ≡ (Ok tt)
+        → is_no_shape (with_parameters setup parameters) ≡ false → admission parameters h ≡ Ok tt
     -- a reply is awaited: it is evaluated at the point that was asked for, and its failure ends the objective with 8
     pub replies : h.whole.progress.awaits ≡ true → (said : List ℕ)
         → enter_reply words setup counts observations said h ≡ answered words setup counts observations said (wanted_point h) h

@@ -52,5 +52,5 @@ module _ (setup : Setup) (counts : List ℕ) (observations : List Observation) (
 abbrev pub OverTheList : Type 0
 OverTheList = (setup : Setup) (counts : List ℕ) (observations : List Observation) → (setup.effects ≡ 1) ⊎ (setup.effects ≡ 2)
     → T (fits binary64 setup.eta_bound) → setup.max_evaluations < 4294967296
-    → (lent : Lent) (results : List ℕ) → opens words setup counts observations lent ≡ (Ok tt)
+    → (lent : Lent) (results : List ℕ) → opens words setup counts observations lent ≡ Ok tt
     → (deeds : List Deed) → SameAnswers setup counts observations lent results deeds

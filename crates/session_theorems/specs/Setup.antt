@@ -19,7 +19,7 @@ pub record Granted (setup : Setup) (counts : List ℕ) (observations : List Obse
   pub limit : setup.max_evaluations < 4294967296
   pub many : length observations ≡ lent.observations
   pub long : length results ≡ lent.results
-  pub passes : opens words setup counts observations lent ≡ (Ok tt)
+  pub passes : opens words setup counts observations lent ≡ Ok tt
 
 module _ (setup : Setup) (counts : List ℕ) (observations : List Observation) (tally : Tally) (cache work warm results : List ℕ) where
   -- what setup gives back, and the words as it leaves them
@@ -32,7 +32,7 @@ module _ (setup : Setup) (counts : List ℕ) (observations : List Observation) (
 
   -- 1 to 5 pass, and what setup gives back is the state that the session begins with
   pub record Opens (s : State) : Type 0 where
-    pub passes : opens words setup counts observations lent ≡ (Ok tt)
+    pub passes : opens words setup counts observations lent ≡ Ok tt
     pub begins : held_of s setting.begun.tally setting.cache setting.work setting.warm results
         ≡ opened words setup counts lent results
 

@@ -28,7 +28,7 @@ EverySubjectReply = (setup : Setup) (counts : List ℕ) (observations : List Obs
     → stands setup counts (length observations) s tally ≡ true
     → checks (with_parameters setup s.parameters) counts
     (lent_by (length observations) (length cache) (length work) (length warm) (length results)) (all_checked setup counts observations)
-    ≡ (Ok tt)
+    ≡ Ok tt
     → subject_reply_over setup counts (own_of counts observations s) tally state answer cache work warm results said
     ≡ call_over setup counts observations tally state answer cache work warm results (reply said)
 

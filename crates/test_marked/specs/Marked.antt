@@ -63,7 +63,7 @@ pub record Marked : Type 0 where
   pub tolerance_loose : eta_tolerance (word 0x3f50_624d_d2f1_a9fc) ≡ word 0x3e45_798e_e230_8c3a
   pub tolerance_tight : eta_tolerance (word 0x3e11_2e0b_e826_d695) ≡ word 0x3d71_9799_812d_ea11
   -- eta_bound 16 passes, the next float gets 3; whatever max_evaluations is
-  pub bound_16 : (most : ℕ) → checks (settings_with (word 0x4030_0000_0000_0000) most) (1 ∷ []) room first_check ≡ (Ok tt)
+  pub bound_16 : (most : ℕ) → checks (settings_with (word 0x4030_0000_0000_0000) most) (1 ∷ []) room first_check ≡ Ok tt
   pub bound_next : (most : ℕ) → checks (settings_with (word 0x4030_0000_0000_0001) most) (1 ∷ []) room first_check ≡ Err (Refused 3)
   -- what the program prints of the example
   pub printed : output example ≡ example_text
