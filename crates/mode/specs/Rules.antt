@@ -10,8 +10,8 @@ use Rattle.mode.specs.declared.population_focei.Conditional.{Conditional}
 use Rattle.mode.specs.declared.population_focei.Stage.{Stage}
 use Rattle.mode.specs.declared.population_focei.Stage.TheVariants.{Grid, Warm, Secant, Halving}
 use Rattle.mode.specs.declared.population_focei.Search.{Search}
-use Rattle.mode.specs.declared.population_focei.Request.{Request}
-use Rattle.mode.specs.declared.population_focei.Request.TheVariants.{Point, Mode, Refused}
+use Rattle.mode.specs.declared.Request.{Request}
+use Rattle.mode.specs.declared.Request.TheVariants.{Point, Mode, Refused}
 
 -- ---- literals: 0, 8, 0.1, 1e-4, 1e-8, 1e-12
 abbrev pub nought : Float
@@ -69,7 +69,7 @@ unfoldable pub is_closer : Conditional → Conditional → Bool
 is_closer a b = lt (abs a.score) (abs b.score)
 
 -- ---- what is asked
-unfoldable pub request_at : Stage → Settings → Search → Request
+unfoldable pub request_at : Stage → Settings → Search → Request Float
 request_at Grid s x =
     pick (ltb x.count 17) (Point (grid_point s.eta_bound x.count))
     (pick (le nought x.first) (Refused 13) (pick (is_under x.latest) (Refused 13) (Refused 14)))
@@ -79,7 +79,7 @@ request_at Halving s x =
     pick (settled s x.best x.left x.right) Mode
     (pick (ltb x.count 48) (Point (midpoint x.left x.right)) (Refused 15))
 
-abbrev pub request : Settings → Search → Request
+abbrev pub request : Settings → Search → Request Float
 request s x = request_at x.stage s x
 
 -- ---- what an evaluated point makes of the search

@@ -4,6 +4,8 @@ ghost use Rattle.std.specs.Prelude.{◌≡◌, ◌<◌};
 ghost use Rattle.mode.specs.Rules.{eta_tolerance, grid_point, secant_point, midpoint, settled, is_above, is_under, is_closer, first_score};
 ghost use Rattle.mode.specs.Rules.{fell, first_stage, start, request, screened, entered, tried, chosen, advance};
 
+use super::Request;
+
 // The most evaluations that a search asks for: the points of the grid, the warm start, the secant steps and
 // the halvings. That it holds is proved in `mode_theorems` (specs/Claim.antt).
 pub const CEILING: u32 = 17 + 1 + 16 + 48;
@@ -50,15 +52,6 @@ pub struct Search {
     pub left: Conditional,
     pub right: Conditional,
     pub best: Conditional,
-}
-
-// What a search asks for: the next point, to end in its mode (the search's best point), or to end in a
-// refusal with document 01's number, 13, 14 or 15.
-#[derive(Clone, Copy)]
-pub enum Request {
-    Point(f64),
-    Mode,
-    Refused(u32),
 }
 
 // The tolerance of eta within which a mode is settled: gradient_tolerance · 1e-4, clamped to 1e-12..1e-8.
@@ -250,7 +243,7 @@ impl Search {
 
     // What the search asks for next.
     #[tactic(auto, using(float64::specs::Pick::picks), unfolding(crate::specs::Rules::request_at))]
-    pub fn request(self, s: Settings) -> Request
+    pub fn request(self, s: Settings) -> Request<f64>
         ensures { result ≡ request s self }
     {
         match self.stage {

@@ -14,8 +14,8 @@ use Rattle.mode_2d.specs.declared.population_focei_2d.NewtonStep.{NewtonStep}
 use Rattle.mode_2d.specs.declared.population_focei_2d.Stage2.{Stage2}
 use Rattle.mode_2d.specs.declared.population_focei_2d.Stage2.TheVariants.{Zero, Start, Trial, Found, Halted}
 use Rattle.mode_2d.specs.declared.population_focei_2d.Search2.{Search2}
-use Rattle.mode_2d.specs.declared.population_focei_2d.Request2.{Request2}
-use Rattle.mode_2d.specs.declared.population_focei_2d.Request2.TheVariants.{Point, Mode, Refused}
+use Rattle.mode.specs.declared.Request.{Request}
+use Rattle.mode.specs.declared.Request.TheVariants.{Point, Mode, Refused}
 
 abbrev pub nought : Float
 nought = word 0
@@ -189,14 +189,14 @@ leave s x =
     (finish s x.seed x.current x.best)
 
 -- ---- what is asked
-unfoldable pub request_at : Stage2 → Settings2 → Search2 → Request2
+unfoldable pub request_at : Stage2 → Settings2 → Search2 → Request Pair
 request_at Zero s x = Point (of nought nought)
 request_at Start s x = Point (start_point s x.seed)
 request_at Trial s x = Point x.trial
 request_at Found s x = Mode
 request_at (Halted number) s x = Refused number
 
-abbrev pub request : Settings2 → Search2 → Request2
+abbrev pub request : Settings2 → Search2 → Request Pair
 request s x = request_at x.stage s x
 
 -- ---- what an evaluated point makes of the search. One that has ended stays as it is.

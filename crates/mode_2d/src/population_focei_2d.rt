@@ -8,6 +8,7 @@ ghost use Rattle.mode_2d.specs.Rules.{is_unresolved, is_far, better, between, fi
 ghost use Rattle.mode_2d.specs.Turns.{over, beginning, taking, leaving, turn_after, tried, descended, proceeded, gone_on};
 
 use matrix::{Matrix, Pair};
+use mode::Request;
 
 // The most evaluations that a search with two effects asks for: the point zero, and from each of six starts
 // the start and 48 rounds of 22 trials. That it holds is proved in `mode_theorems` (specs/Claim2.antt).
@@ -83,15 +84,6 @@ pub enum Onward {
     Try(u32, u32, Pair, f64),
     Over,
     NoInverse,
-}
-
-// What a search with two effects asks for: the next point, to end in its mode (the search's best point), or
-// to end in a refusal with document 01's number, 13, 14 or 16.
-#[derive(Clone, Copy)]
-pub enum Request2 {
-    Point(Pair),
-    Mode,
-    Refused(u32),
 }
 
 // The prior's part of the score.
@@ -460,15 +452,15 @@ impl Search2 {
 
     // What the search asks for next.
     #[tactic(auto, unfolding(crate::specs::Rules::request_at))]
-    pub fn request(self, s: Settings2) -> Request2
+    pub fn request(self, s: Settings2) -> Request<Pair>
         ensures { result ≡ request s self }
     {
         match self.stage {
-            Stage2::Zero => Request2::Point(Pair::ZERO),
-            Stage2::Start => Request2::Point(start_point(s, self.seed)),
-            Stage2::Trial => Request2::Point(self.trial),
-            Stage2::Found => Request2::Mode,
-            Stage2::Halted(number) => Request2::Refused(number),
+            Stage2::Zero => Request::Point(Pair::ZERO),
+            Stage2::Start => Request::Point(start_point(s, self.seed)),
+            Stage2::Trial => Request::Point(self.trial),
+            Stage2::Found => Request::Mode,
+            Stage2::Halted(number) => Request::Refused(number),
         }
     }
 

@@ -1,4 +1,5 @@
 -- A search asks for at most 82 points, and one that is refused with 15 has tried every point past the grid. Assumes nothing.
+use Rattle.std.specs.Prelude.{Float}
 use mathlib.Core.Path.{◌≡◌, refl, sym, ap, ◌∙◌, subst}
 use mathlib.Core.Bool.{Bool, true, false, not}
 use mathlib.Core.List.{List, [], ◌∷◌}
@@ -14,8 +15,6 @@ use Rattle.mode.specs.declared.population_focei.Conditional.{Conditional}
 use Rattle.mode.specs.declared.population_focei.Stage.{Stage}
 use Rattle.mode.specs.declared.population_focei.Stage.TheVariants.{Grid, Warm, Secant, Halving}
 use Rattle.mode.specs.declared.population_focei.Search.{Search}
-use Rattle.mode.specs.declared.population_focei.Request.{Request}
-use Rattle.mode.specs.declared.population_focei.Request.TheVariants.{Point, Mode, Refused}
 use Rattle.mode.specs.Rules.{nought, request_at, request, advance_at, advance, tried, screened, chosen, entered, first_stage, start, secant_point, midpoint, grid_point, settled, is_above, is_under}
 use Rattle.mode_theorems.specs.Histories.{led_from, Answered}
 use Rattle.mode_theorems.specs.Terms.{warm_trials}
@@ -23,6 +22,8 @@ use Rattle.mode_theorems.specs.History.{Answers, FollowsFrom, Follows, after_fro
 use Rattle.mode_theorems.proofs.Ceiling.{Fewer, at_most}
 use Rattle.mode_theorems.proofs.Words.{cell_in, warm_is}
 use Rattle.mode_theorems.proofs.Trials.{is_point, point_true}
+use Rattle.mode.specs.declared.Request.{Request}
+use Rattle.mode.specs.declared.Request.TheVariants.{Point, Mode, Refused}
 
 -- at this stage and count at most n more are asked
 abbrev pub Room : Stage → ℕ → ℕ → Type 0
@@ -35,17 +36,17 @@ abbrev pub RoomOf : ℕ → Search → Type 0
 RoomOf n x = Room x.stage x.count n
 
 -- ---- which requests are points
-pick_point : (t : Bool) (q r : Request) → T (not (is_point r)) → T (is_point (pick t q r)) → t ≡ true
+pick_point : (t : Bool) (q r : Request Float) → T (not (is_point r)) → T (is_point (pick t q r)) → t ≡ true
 unfolding pick
 pick_point true q r n h = refl
 pick_point false q r n h = absurd (T_not (is_point r) n h)
 
-no_point : (t : Bool) (q r : Request) → T (not (is_point q)) → T (not (is_point r)) → T (not (is_point (pick t q r)))
+no_point : (t : Bool) (q r : Request Float) → T (not (is_point q)) → T (not (is_point r)) → T (not (is_point (pick t q r)))
 unfolding pick
 no_point true q r a b = a
 no_point false q r a b = b
 
-past_mode : (t : Bool) (q : Request) → T (is_point (pick t Mode q)) → T (is_point q)
+past_mode : (t : Bool) (q : Request Float) → T (is_point (pick t Mode q)) → T (is_point q)
 unfolding pick
 past_mode true q h = absurd h
 past_mode false q h = h
@@ -107,7 +108,7 @@ room_step Halving s x c n r h =
     cases (RoomOf (n - 1)) (ltb x.count 48)
     (λ _. omega arith) (λ e. absurd (past x.count 48 k (ltb-false x.count 48 e)))
 
-asks_none : (q : Request) (n : ℕ) → (T (is_point q) → 1 ≤ n) → asks q ≤ n
+asks_none : (q : Request Float) (n : ℕ) → (T (is_point q) → 1 ≤ n) → asks q ≤ n
 unfolding asks
 asks_none (Point p) n h = h tt
 asks_none Mode n h = omega arith
@@ -143,7 +144,7 @@ Past x = PastGrid x.stage x.count
 abbrev left_of : Search → ℕ
 left_of x = left x.stage x.count
 
-abbrev is_unsettled : Request → Bool
+abbrev is_unsettled : Request Float → Bool
 is_unsettled (Point p) = false
 is_unsettled Mode = false
 is_unsettled (Refused n) = true
@@ -190,5 +191,5 @@ spent s (c ∷ h) x r f q =
 pub all_tried_lem : (s : Settings) (h : List Conditional) (y : Search) → FollowsFrom s (entered s y) h → request s (after_from s (entered s y) h) ≡ Refused 15 → length h ≡ warm_trials s (cell_in y) + 16 + 48
 unfolding entered
 all_tried_lem s h y f q =
-    spent s h (entered s y) (warm_is (λ st n. PastGrid st 0) s (cell_in y) tt (lit≤ tt)) f (subst (λ (r : Request). T (is_unsettled r)) (sym q) tt)
+    spent s h (entered s y) (warm_is (λ st n. PastGrid st 0) s (cell_in y) tt (lit≤ tt)) f (subst (λ (r : Request Float). T (is_unsettled r)) (sym q) tt)
     ∙ warm_is (λ st n. left st 0 ≡ n + 16 + 48) s (cell_in y) refl refl

@@ -18,34 +18,34 @@ use Rattle.mode_2d.specs.declared.population_focei_2d.NewtonStep.{NewtonStep}
 use Rattle.mode_2d.specs.declared.population_focei_2d.Stage2.{Stage2}
 use Rattle.mode_2d.specs.declared.population_focei_2d.Stage2.TheVariants.{Zero, Start, Trial, Found, Halted}
 use Rattle.mode_2d.specs.declared.population_focei_2d.Search2.{Search2}
-use Rattle.mode_2d.specs.declared.population_focei_2d.Request2.{Request2}
-use Rattle.mode_2d.specs.declared.population_focei_2d.Request2.TheVariants.{Point, Mode, Refused}
 use Rattle.mode_2d.specs.Rules.{request_at, request, advance_at, advance, between, trying, finish, try_from, descend_by, descend, begin_round, take, leave, next_reduction, trial_point, is_passed_over}
 use Rattle.mode_2d.specs.Rules.{is_unresolved, is_far, better, norm, curvature, step_by, is_taken, start}
 use Rattle.mode_theorems.specs.History2.{Answers, Follows, after, asks}
 use Rattle.mode_theorems.proofs.Ceiling.{Fewer, at_most}
+use Rattle.mode.specs.declared.Request.{Request}
+use Rattle.mode.specs.declared.Request.TheVariants.{Point, Mode, Refused}
 
 -- ---- requests apart
-abbrev pub is_mode : Request2 → Bool
+abbrev pub is_mode : Request Pair → Bool
 is_mode (Point p) = false
 is_mode Mode = true
 is_mode (Refused n) = false
 
-abbrev pub is_point : Request2 → Bool
+abbrev pub is_point : Request Pair → Bool
 is_point (Point p) = true
 is_point Mode = false
 is_point (Refused n) = false
 
-abbrev pub point_of : Pair → Request2 → Pair
+abbrev pub point_of : Pair → Request Pair → Pair
 point_of d (Point p) = p
 point_of d Mode = d
 point_of d (Refused n) = d
 
-pub mode-true : (q : Request2) → q ≡ Mode → T (is_mode q)
-mode-true q e = subst (λ (z : Request2). T (is_mode z)) (sym e) tt
+pub mode-true : (q : Request Pair) → q ≡ Mode → T (is_mode q)
+mode-true q e = subst (λ (z : Request Pair). T (is_mode z)) (sym e) tt
 
-pub point_true : (q : Request2) (p : Pair) → q ≡ Point p → T (is_point q)
-point_true q p e = subst (λ (z : Request2). T (is_point z)) (sym e) tt
+pub point_true : (q : Request Pair) (p : Pair) → q ≡ Point p → T (is_point q)
+point_true q p e = subst (λ (z : Request Pair). T (is_point z)) (sym e) tt
 
 -- ---- the reductions
 pub reduction_ge : (l : Float) (step : NewtonStep) (n j : ℕ) → j ≤ next_reduction l step n j
@@ -173,7 +173,7 @@ room_step Trial s x c n r h = cases (RoomOf (n - 1)) (is_taken s x c) {x = take 
 room_step Found s x c n r h = absurd h
 room_step (Halted i) s x c n r h = absurd h
 
-point_asks : (q : Request2) → T (is_point q) → 1 ≤ asks q
+point_asks : (q : Request Pair) → T (is_point q) → 1 ≤ asks q
 unfolding asks
 point_asks (Point p) h = lit≤ tt
 point_asks Mode h = absurd h

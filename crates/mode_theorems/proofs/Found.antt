@@ -14,7 +14,6 @@ use Rattle.mode.specs.declared.population_focei.Settings.{Settings}
 use Rattle.mode.specs.declared.population_focei.Conditional.{Conditional}
 use Rattle.mode.specs.declared.population_focei.Stage.TheVariants.{Grid}
 use Rattle.mode.specs.declared.population_focei.Search.{Search}
-use Rattle.mode.specs.declared.population_focei.Request.TheVariants.{Mode, Refused}
 use Rattle.mode.specs.Rules.{nought, request, advance, screened, first_score, fell, start, grid_point, settled, is_above, is_under, is_closer}
 use Rattle.mode_theorems.specs.Histories.{led_from, Answered}
 use Rattle.mode_theorems.specs.Terms.{etas, score_at, Cell, neighbours_from, neighbours, is_upward, upward, warm_trials}
@@ -25,6 +24,7 @@ use Rattle.mode_theorems.proofs.Trials.{nought_num, is_mode, is_end, mode-end, u
 use Rattle.mode_theorems.proofs.Count.{at_most_82}
 use Rattle.mode_theorems.proofs.Refusals.{at_bound, several, numbers}
 use Rattle.mode_theorems.proofs.Screen.{or_not, true_of, side, grid_no_mode, grid_asked, next, stays_bad, stays_under, Bad, doomed, Below, climbing, Rest, nearer}
+use Rattle.mode.specs.declared.Request.TheVariants.{Mode, Refused}
 
 -- ---- the ends of a cell are points of the list
 EndsIn : Cell → List Conditional → Type 0

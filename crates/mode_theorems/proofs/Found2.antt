@@ -17,8 +17,6 @@ use Rattle.mode_2d.specs.declared.population_focei_2d.Conditional2.{Conditional2
 use Rattle.mode_2d.specs.declared.population_focei_2d.Stage2.{Stage2}
 use Rattle.mode_2d.specs.declared.population_focei_2d.Stage2.TheVariants.{Zero, Start, Trial, Found, Halted}
 use Rattle.mode_2d.specs.declared.population_focei_2d.Search2.{Search2}
-use Rattle.mode_2d.specs.declared.population_focei_2d.Request2.{Request2}
-use Rattle.mode_2d.specs.declared.population_focei_2d.Request2.TheVariants.{Point, Mode, Refused}
 use Rattle.mode_2d.specs.Rules.{request_at, request, advance_at, advance, between, begin_round, take, leave, start_point, better, is_taken, start}
 use Rattle.mode_theorems.specs.Histories.{led_from, Answered}
 use Rattle.mode_theorems.specs.Terms2 as W
@@ -31,6 +29,8 @@ use Rattle.mode_theorems.proofs.Joint.{joint_num}
 use Rattle.mode_theorems.proofs.Precision.{precision_bound}
 use Rattle.mode_theorems.proofs.Descent.{taken_no_higher, Passes, run_whole, Why, Way, OnWay, round_way, take_way, leave_way, Begin, AtStart, InRound, Ahead, AheadOf, round_back, take_back}
 use Rattle.mode_theorems.proofs.Descent.{leave_back, Of, round_of, take_of, leave_of}
+use Rattle.mode.specs.declared.Request.{Request}
+use Rattle.mode.specs.declared.Request.TheVariants.{Point, Mode, Refused}
 
 -- ---- forward: what holds on the way is kept
 way_step : (st : Stage2) (s : Settings2) (x : Search2) (c : Conditional2) → Way st s x → T (num? (joint s c)) → T (is_point (request_at st s x)) → OnWay s (advance_at st s x c)
@@ -212,7 +212,7 @@ unfolding Pass
 best_in s m [] p = absurd p
 best_in s m (c ∷ q) p = elim (best_after s c m q p.1) [ inl e ↦ Memᴰ.head e | inr h ↦ Memᴰ.tail h ]
 
-number : Request2 → ℕ
+number : Request Pair → ℕ
 number (Point p) = 0
 number Mode = 0
 number (Refused n) = n

@@ -7,10 +7,11 @@ use Rattle.float64.proofs.Order.{num?}
 use Rattle.float64.proofs.Powers.{InPower, within_finite, add_within, mul_within, finite_add_num}
 use Rattle.mode_2d.specs.declared.population_focei_2d.Settings2.{Settings2}
 use Rattle.mode_2d.specs.declared.population_focei_2d.Conditional2.{Conditional2}
-use Rattle.mode_2d.specs.declared.population_focei_2d.Request2.{Request2}
 use Rattle.mode_theorems.specs.Terms2.{prior0, prior1, joint}
 use Rattle.mode_theorems.specs.History2.{Within, Answers}
 use Rattle.mode_theorems.specs.Claim2.{Bounded}
+use Rattle.mode.specs.declared.Request.{Request}
+use Rattle.matrix.specs.declared.Pair.{Pair}
 
 pub in_16 : (x : Float) → Within edge x → InPower 4 x
 unfolding of_bits neg
@@ -36,7 +37,7 @@ penalty e g v w we wg wv ww =
     mul_within 0 111 half (e *ᶠ v +ᶠ g *ᶠ w) (record { high = tt; low = tt }) half_in
     (add_within 110 (e *ᶠ v) (g *ᶠ w) (record { high = tt; low = tt }) (mul_within 4 106 e v (record { high = tt; low = tt }) we wv) (mul_within 4 106 g w (record { high = tt; low = tt }) wg ww))
 
-pub joint_num : (s : Settings2) → Bounded s → (q : Request2) (c : Conditional2) → Answers q c → T (num? (joint s c))
+pub joint_num : (s : Settings2) → Bounded s → (q : Request Pair) (c : Conditional2) → Answers q c → T (num? (joint s c))
 unfolding joint prior0 prior1
 joint_num s d q c a =
     let v = in_16 c.eta.first a.within0 in

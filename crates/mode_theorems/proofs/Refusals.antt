@@ -1,4 +1,5 @@
 -- What 13 and 14 say of the history: the whole grid was asked, and nothing more. There is no number but these and 15. Assumes nothing.
+use Rattle.std.specs.Prelude.{Float}
 use mathlib.Core.Path.{◌≡◌, refl, sym, ap, ◌∙◌, subst}
 use mathlib.Core.Logic.{◌⊎◌, inl, inr}
 use mathlib.Core.Bool.{Bool, true, false, not, true≢false}
@@ -14,8 +15,6 @@ use Rattle.mode.specs.declared.population_focei.Conditional.{Conditional}
 use Rattle.mode.specs.declared.population_focei.Stage.{Stage}
 use Rattle.mode.specs.declared.population_focei.Stage.TheVariants.{Grid, Warm, Secant, Halving}
 use Rattle.mode.specs.declared.population_focei.Search.{Search}
-use Rattle.mode.specs.declared.population_focei.Request.{Request}
-use Rattle.mode.specs.declared.population_focei.Request.TheVariants.{Point, Mode, Refused}
 use Rattle.mode.specs.Rules.{nought, request_at, request, advance_at, advance, screened, fell, first_score, first_stage, entered, chosen, tried, start, grid_point, settled, is_above, is_under}
 use Rattle.mode_theorems.specs.Histories.{led_from, Answered}
 use Rattle.mode_theorems.specs.Terms.{etas, grid_from, score_at, Cell, neighbours_from, neighbours, filter, is_fall}
@@ -25,9 +24,11 @@ use Rattle.float64.proofs.Order.{num?, lt→le, of_true}
 use Rattle.mode_theorems.proofs.Words.{cell, grid_next, under_is, fall_is, and_yes, filter_yes, last_from, last_is, grid_length, over}
 use Rattle.mode_theorems.proofs.Trials.{nought_num, is_mode, is_point}
 use Rattle.mode_theorems.proofs.Screen.{next, grid_asked, keeps_first, side, or_not, true_of}
+use Rattle.mode.specs.declared.Request.{Request}
+use Rattle.mode.specs.declared.Request.TheVariants.{Point, Mode, Refused}
 
 -- ---- 13 or 14
-abbrev is_screen : Request → Bool
+abbrev is_screen : Request Float → Bool
 is_screen (Point p) = false
 is_screen Mode = false
 is_screen (Refused n) = not (eqb n 15)
@@ -43,8 +44,8 @@ past_no_screen : (st : Stage) (s : Settings) (x : Search) → T (past_grid st) �
 unfolding request_at
 past_no_screen Grid s x p = absurd p
 past_no_screen Warm s x p = tt
-past_no_screen Secant s x p = both (λ (q : Request). T (not (is_screen q))) _ tt tt
-past_no_screen Halving s x p = both (λ (q : Request). T (not (is_screen q))) _ tt (both (λ (q : Request). T (not (is_screen q))) _ tt tt)
+past_no_screen Secant s x p = both (λ (q : Request Float). T (not (is_screen q))) _ tt tt
+past_no_screen Halving s x p = both (λ (q : Request Float). T (not (is_screen q))) _ tt (both (λ (q : Request Float). T (not (is_screen q))) _ tt tt)
 
 past_stays : (st : Stage) (s : Settings) (x : Search) (c : Conditional) → st ≡ x.stage → T (past_grid st) → T (past_grid (advance_at st s x c).stage)
 unfolding advance_at tried
@@ -181,7 +182,7 @@ run_step s n x c h y k e r =
 grid_not_screen : (s : Settings) (x : Search) → x.stage ≡ Grid → x.count < 17 → T (is_screen (request s x)) → ⊥
 unfolding request_at
 grid_not_screen s x e k q =
-    subst (λ (r : Request). T (is_screen r)) (ap (λ (t : Stage). request_at t s x) e ∙ pick_yes (ltb x.count 17) _ _ (lt-ltb x.count 17 k)) q
+    subst (λ (r : Request Float). T (is_screen r)) (ap (λ (t : Stage). request_at t s x) e ∙ pick_yes (ltb x.count 17) _ _ (lt-ltb x.count 17 k)) q
 
 run : (s : Settings) (n : ℕ) (h : List Conditional) (x : Search) → x.stage ≡ Grid → 1 ≤ x.count → x.count + n ≡ 17 → (17 ≤ x.count → Why x) → Rose x
     → T (num? x.latest.score) → FollowsFrom s x h → T (is_screen (request s (after_from s x h))) → Run s n x h (after_from s x h)
@@ -282,12 +283,12 @@ whole s (c ∷ h) f q =
     ]
 
 -- ---- what is told at its end
-told : (s : Settings) (y : Search) (r : Request) → y.stage ≡ Grid → 17 ≤ y.count → request s y ≡ r → pick (le nought y.first) (Refused 13) (pick (is_under y.latest) (Refused 13) (Refused 14)) ≡
+told : (s : Settings) (y : Search) (r : Request Float) → y.stage ≡ Grid → 17 ≤ y.count → request s y ≡ r → pick (le nought y.first) (Refused 13) (pick (is_under y.latest) (Refused 13) (Refused 14)) ≡
     r
 unfolding request_at
 told s y r e k q = sym (ap (λ (t : Stage). request_at t s y) e ∙ pick_no (ltb y.count 17) _ _ (le-ltb y.count 17 k)) ∙ q
 
-number_of : Request → ℕ
+number_of : Request Float → ℕ
 number_of (Point p) = 0
 number_of Mode = 0
 number_of (Refused n) = n
@@ -308,8 +309,8 @@ by_14 true b e = apart e
 by_14 false true e = apart e
 by_14 false false e = (tt, tt)
 
-screen : (q : Request) (n : ℕ) → T (not (eqb n 15)) → q ≡ Refused n → T (is_screen q)
-screen q n k e = subst (λ (r : Request). T (is_screen r)) (sym e) k
+screen : (q : Request Float) (n : ℕ) → T (not (eqb n 15)) → q ≡ Refused n → T (is_screen q)
+screen q n k e = subst (λ (r : Request Float). T (is_screen r)) (sym e) k
 
 pub at_bound : (s : Settings) (h : List Conditional) → Follows s h → request s (after s h) ≡ Refused 13 → AtBound s h
 at_bound s h f e =
@@ -358,7 +359,7 @@ several s h f e =
     }
 
 -- ---- no other number
-abbrev Numbered : ℕ → Request → Type 0
+abbrev Numbered : ℕ → Request Float → Type 0
 Numbered n q = q ≡ Refused n → (n ≡ 13) ⊎ ((n ≡ 14) ⊎ (n ≡ 15))
 
 point_none : (n : ℕ) (p : Float) → Numbered n (Point p)

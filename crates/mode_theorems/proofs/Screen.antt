@@ -1,4 +1,5 @@
 -- The grid: a search that comes to its mode has screened 17 points, with one upward cell. Assumes nothing.
+use Rattle.std.specs.Prelude.{Float}
 use mathlib.Core.Path.{◌≡◌, refl, sym, ap, ◌∙◌, subst}
 use mathlib.Core.Logic.{◌⊎◌, inl, inr}
 use mathlib.Core.Bool.{Bool, true, false, not, true≢false}
@@ -17,8 +18,6 @@ use Rattle.mode.specs.declared.population_focei.Conditional.{Conditional}
 use Rattle.mode.specs.declared.population_focei.Stage.{Stage}
 use Rattle.mode.specs.declared.population_focei.Stage.TheVariants.{Grid, Warm, Secant}
 use Rattle.mode.specs.declared.population_focei.Search.{Search}
-use Rattle.mode.specs.declared.population_focei.Request.{Request}
-use Rattle.mode.specs.declared.population_focei.Request.TheVariants.{Point, Refused}
 use Rattle.mode.specs.Rules.{nought, request_at, request, advance_at, advance, tried, screened, chosen, entered, first_score, fell, first_stage, grid_point, is_above, is_under, is_closer}
 use Rattle.mode_theorems.specs.Histories.{led_from, Answered}
 use Rattle.mode_theorems.specs.Terms.{etas, grid_from, Cell, neighbours_from, filter, is_upward, is_fall, warm_trials}
@@ -27,6 +26,8 @@ use Rattle.mode_theorems.proofs.Words.{cell, cell_in, grid_next, upward_is, fall
 use Rattle.mode_theorems.proofs.Trials.{nought_num, is_end, point_of, point_true, Good, Inside, better_l, better_r, keep, later, Ends, ends_step, trials}
 use Rattle.mode_theorems.proofs.Count.{on_grid_lem, all_tried_lem}
 use Rattle.mode_theorems.proofs.Grid.{grid_fits, grid_mono, grid_low, grid_high}
+use Rattle.mode.specs.declared.Request.{Request}
+use Rattle.mode.specs.declared.Request.TheVariants.{Point, Refused}
 
 -- ---- small things
 pub true_of : (b : Bool) → T b → b ≡ true
@@ -114,7 +115,7 @@ entry s d h y g f m =
     ]
 
 -- ---- on the grid no mode is told
-no_mode : (t : Bool) (q r : Request) → T (not (is_end q)) → T (not (is_end r)) → T (not (is_end (pick t q r)))
+no_mode : (t : Bool) (q r : Request Float) → T (not (is_end q)) → T (not (is_end r)) → T (not (is_end (pick t q r)))
 unfolding pick
 no_mode true q r a b = a
 no_mode false q r a b = b

@@ -1,4 +1,5 @@
 -- The stages after the grid: what holds of a bracket with its best point is kept by each trial. Assumes nothing.
+use Rattle.std.specs.Prelude.{Float}
 use mathlib.Core.Path.{◌≡◌, refl, sym, ap, subst}
 use mathlib.Core.Logic.{◌⊎◌, inl, inr}
 use mathlib.Core.Bool.{Bool, true, false, not, true≢false}
@@ -22,44 +23,44 @@ use Rattle.mode.specs.declared.population_focei.Conditional.{Conditional}
 use Rattle.mode.specs.declared.population_focei.Stage.{Stage}
 use Rattle.mode.specs.declared.population_focei.Stage.TheVariants.{Grid, Warm, Secant, Halving}
 use Rattle.mode.specs.declared.population_focei.Search.{Search}
-use Rattle.mode.specs.declared.population_focei.Request.{Request}
-use Rattle.mode.specs.declared.population_focei.Request.TheVariants.{Point, Mode, Refused}
 use Rattle.mode.specs.Rules.{nought, request_at, request, advance_at, advance, tried, secant_point, midpoint, settled, is_above, is_under, is_closer}
 use Rattle.mode_theorems.specs.Histories.{led_from, Answered}
 use Rattle.mode_theorems.specs.Terms.{Cell, narrowed, bracket_from, InBracket}
 use Rattle.mode_theorems.specs.History.{Domain, Answers, FollowsFrom, after_from}
 use Rattle.mode_theorems.proofs.Words.{cell_in, narrowed_is}
+use Rattle.mode.specs.declared.Request.{Request}
+use Rattle.mode.specs.declared.Request.TheVariants.{Point, Mode, Refused}
 
 -- ---- requests apart
-abbrev pub is_mode : Request → Bool
+abbrev pub is_mode : Request Float → Bool
 is_mode (Point p) = false
 is_mode Mode = true
 is_mode (Refused n) = false
 
 -- a mode, or 15: what is told past the grid
-abbrev pub is_end : Request → Bool
+abbrev pub is_end : Request Float → Bool
 is_end (Point p) = false
 is_end Mode = true
 is_end (Refused n) = eqb n 15
 
-abbrev pub is_point : Request → Bool
+abbrev pub is_point : Request Float → Bool
 is_point (Point p) = true
 is_point Mode = false
 is_point (Refused n) = false
 
-abbrev pub point_of : Request → Float
+abbrev pub point_of : Request Float → Float
 point_of (Point p) = p
 point_of Mode = nan
 point_of (Refused n) = nan
 
-pub mode-end : (q : Request) → q ≡ Mode → T (is_end q)
-mode-end q e = subst (λ (z : Request). T (is_end z)) (sym e) tt
+pub mode-end : (q : Request Float) → q ≡ Mode → T (is_end q)
+mode-end q e = subst (λ (z : Request Float). T (is_end z)) (sym e) tt
 
-pub unsettled_end : (q : Request) → q ≡ Refused 15 → T (is_end q)
-unsettled_end q e = subst (λ (z : Request). T (is_end z)) (sym e) tt
+pub unsettled_end : (q : Request Float) → q ≡ Refused 15 → T (is_end q)
+unsettled_end q e = subst (λ (z : Request Float). T (is_end z)) (sym e) tt
 
-pub point_true : (q : Request) (p : Float) → q ≡ Point p → T (is_point q)
-point_true q p e = subst (λ (z : Request). T (is_point z)) (sym e) tt
+pub point_true : (q : Request Float) (p : Float) → q ≡ Point p → T (is_point q)
+point_true q p e = subst (λ (z : Request Float). T (is_point z)) (sym e) tt
 
 -- ---- floats
 pub nought_num : T (num? nought)
@@ -279,7 +280,7 @@ later Warm = false
 later Secant = true
 later Halving = true
 
-pub point_pick : (t : Bool) (q : Request) (e : Float) → pick t Mode q ≡ Point e → (t ≡ false) × (q ≡ Point e)
+pub point_pick : (t : Bool) (q : Request Float) (e : Float) → pick t Mode q ≡ Point e → (t ≡ false) × (q ≡ Point e)
 unfolding pick
 point_pick true q e h = absurd (point_true Mode e h)
 point_pick false q e h = (refl, h)

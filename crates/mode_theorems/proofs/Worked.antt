@@ -10,11 +10,11 @@ use Rattle.float64.specs.Float64.{abs, clamp}
 use Rattle.float64.specs.Pick.{pick}
 use Rattle.mode.specs.declared.population_focei.Settings.{Settings}
 use Rattle.mode.specs.declared.population_focei.Conditional.{Conditional}
-use Rattle.mode.specs.declared.population_focei.Request.TheVariants.{Point, Mode, Refused}
 use Rattle.mode.specs.Rules.{nought, loosest, grid_point, secant_point, settled, is_above, is_under, is_closer, request_at, request, advance_at, screened, first_score, fell, first_stage, entered, chosen}
 use Rattle.mode.specs.Rules.{tried, start}
 use Rattle.mode_theorems.specs.Histories.{led_from, Answered}
 use Rattle.mode_theorems.specs.History.{Domain, Answers, Follows, after}
+use Rattle.mode.specs.declared.Request.TheVariants.{Point, Mode, Refused}
 
 -- eta_bound 4, omega 1, the loosest tolerance, no warm start inside
 abbrev settings : Settings

@@ -11,12 +11,12 @@ use Rattle.matrix.specs.Matrix.{pair, sum as matrixSum, determinant, product, do
 use Rattle.matrix.specs.declared.Pair.{Pair}
 use Rattle.mode_2d.specs.declared.population_focei_2d.Settings2.{Settings2}
 use Rattle.mode_2d.specs.declared.population_focei_2d.Conditional2.{Conditional2}
-use Rattle.mode_2d.specs.declared.population_focei_2d.Request2.{Request2}
-use Rattle.mode_2d.specs.declared.population_focei_2d.Request2.TheVariants.{Point, Mode, Refused}
 use Rattle.mode_2d.specs.Rules.{nought, of, max_abs, is_same, prior_score, joint, penalised_score, norm, curvature, step_by, scale, reduced, trial_point, decrease, is_passed_over, next_reduction, is_taken}
 use Rattle.mode_2d.specs.Rules.{start_point, is_unresolved, is_far, better, between, trying, finish, try_from, descend_by, descend, begin_round, take, leave, request_at, request, advance_at, start}
 use Rattle.mode_theorems.specs.Histories.{led_from, Answered}
 use Rattle.mode_theorems.specs.History2.{Accepted, Answers, Follows, after}
+use Rattle.mode.specs.declared.Request.{Request}
+use Rattle.mode.specs.declared.Request.TheVariants.{Point, Mode, Refused}
 
 abbrev four : Float
 four = word 0x4010_0000_0000_0000
@@ -54,7 +54,7 @@ ok : {c : Conditional2} → T (le (neg reach) c.eta.first) → T (le c.eta.first
 ok l h m i n = record { asked = refl; within0 = record { low = l; high = h }; within1 = record { low = m; high = i }; nll_finite = n }
 
 -- with this warm start the history h follows the rules, and q is asked after it
-pub record Comes (warm : Pair) (h : List Conditional2) (q : Request2) : Type 0 where
+pub record Comes (warm : Pair) (h : List Conditional2) (q : Request Pair) : Type 0 where
   pub follows : Follows (settings warm) h
   pub asks : request (settings warm) (after (settings warm) h) ≡ q
 

@@ -6,10 +6,10 @@ use Rattle.float64.specs.Arithmetic.{word}
 use Rattle.float64.specs.Float64.{abs}
 use Rattle.mode.specs.declared.population_focei.Settings.{Settings}
 use Rattle.mode.specs.declared.population_focei.Conditional.{Conditional}
-use Rattle.mode.specs.declared.population_focei.Request.TheVariants.{Mode, Refused}
 use Rattle.mode.specs.Rules.{request}
 use Rattle.mode_theorems.specs.Terms.{etas, grid_points, score_at, Cell, upward, falls, bracket_from, InBracket, Settled, warm_trials}
 use Rattle.mode_theorems.specs.History.{Domain, Follows, after, asks}
+use Rattle.mode.specs.declared.Request.TheVariants.{Mode, Refused}
 
 -- the most evaluations that a search asks for: the grid, the warm start, the secant steps and the halvings
 abbrev pub ceiling : ℕ

@@ -4,10 +4,10 @@ use mathlib.Core.List.{List, [], ◌∷◌, ◌++◌, Memᴰ}
 use Rattle.float64.specs.Arithmetic.{word}
 use Rattle.mode_2d.specs.declared.population_focei_2d.Settings2.{Settings2}
 use Rattle.mode_2d.specs.declared.population_focei_2d.Conditional2.{Conditional2}
-use Rattle.mode_2d.specs.declared.population_focei_2d.Request2.TheVariants.{Mode, Refused}
 use Rattle.mode_2d.specs.Rules.{request}
 use Rattle.mode_theorems.specs.Terms2.{etas, point, start_points, NoHigher, IsUnresolved, Resolved, IsFar, better, IsFlat}
 use Rattle.mode_theorems.specs.History2.{Within, Accepted, Follows, after, asks, starts, candidates}
+use Rattle.mode.specs.declared.Request.TheVariants.{Mode, Refused}
 
 -- the most evaluations that a search asks for: zero, and from each of six starts the start and 48 rounds of 22 trials
 abbrev pub ceiling : ℕ

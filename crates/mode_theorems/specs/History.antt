@@ -1,15 +1,15 @@
 -- Histories of the one-effect search: the settings of document 01's domain, and the histories of its rules.
-use Rattle.std.specs.Prelude.{◌≡◌, List, ℕ, T, not}
+use Rattle.std.specs.Prelude.{◌≡◌, List, ℕ, T, not, Float}
 use Rattle.std.specs.Float.{binary64}
 use Rattle.std.specs.Float.Ieee.{is_nan, fits, le}
 use Rattle.float64.specs.Arithmetic.{word, edge}
 use Rattle.mode.specs.declared.population_focei.Settings.{Settings}
 use Rattle.mode.specs.declared.population_focei.Conditional.{Conditional}
 use Rattle.mode.specs.declared.population_focei.Search.{Search}
-use Rattle.mode.specs.declared.population_focei.Request.{Request}
-use Rattle.mode.specs.declared.population_focei.Request.TheVariants.{Point, Mode, Refused}
 use Rattle.mode.specs.Rules.{request, advance, start}
 use Rattle.mode_theorems.specs.Histories.{led_from, Answered}
+use Rattle.mode.specs.declared.Request.{Request}
+use Rattle.mode.specs.declared.Request.TheVariants.{Point, Mode, Refused}
 
 -- ---- document 01's domain: eta_bound 2^-10 to 16, omega 2^-20 to 2^20, the tolerance as clamped, 1e-12 to 1e-8, any warm start.
 -- Each is a float of the format, as every value of the code is.
@@ -25,7 +25,7 @@ pub record Domain (s : Settings) : Type 0 where
 
 -- ---- a history of the rules
 -- c is an evaluation of the point that was asked for. A point that is NaN gets 7 and is never evaluated, and no score of a session is NaN.
-pub record Answers (q : Request) (c : Conditional) : Type 0 where
+pub record Answers (q : Request Float) (c : Conditional) : Type 0 where
   pub asked : q ≡ Point c.eta
   pub eta_number : T (not (is_nan c.eta))
   pub score_number : T (not (is_nan c.score))
@@ -45,7 +45,7 @@ abbrev pub Follows : Settings → List Conditional → Type 0
 Follows s h = FollowsFrom s start h
 
 -- what is asked now: one point, or none
-unfoldable pub asks : Request → ℕ
+unfoldable pub asks : Request Float → ℕ
 asks (Point p) = 1
 asks Mode = 0
 asks (Refused n) = 0

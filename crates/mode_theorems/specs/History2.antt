@@ -11,10 +11,11 @@ use Rattle.mode_2d.specs.declared.population_focei_2d.Conditional2.{Conditional2
 use Rattle.mode_2d.specs.declared.population_focei_2d.Stage2.{Stage2}
 use Rattle.mode_2d.specs.declared.population_focei_2d.Stage2.TheVariants.{Zero, Start, Trial, Found, Halted}
 use Rattle.mode_2d.specs.declared.population_focei_2d.Search2.{Search2}
-use Rattle.mode_2d.specs.declared.population_focei_2d.Request2.{Request2}
-use Rattle.mode_2d.specs.declared.population_focei_2d.Request2.TheVariants.{Point, Mode, Refused}
 use Rattle.mode_2d.specs.Rules.{request, advance, start}
 use Rattle.mode_theorems.specs.Histories.{led_from, Answered}
+use Rattle.mode.specs.declared.Request.{Request}
+use Rattle.matrix.specs.declared.Pair.{Pair}
+use Rattle.mode.specs.declared.Request.TheVariants.{Point, Mode, Refused}
 
 -- from -bound to bound
 pub record Within (bound x : Float) : Type 0 where
@@ -35,7 +36,7 @@ pub record Accepted (omega : List (List Float)) (s : Settings2) : Type 0 where
 -- ---- a history of the rules
 -- c is an evaluation of the point that was asked for. Beyond -16..16 a point gets 7 and is never evaluated, and no nll of a session is
 -- a NaN or an infinity.
-pub record Answers (q : Request2) (c : Conditional2) : Type 0 where
+pub record Answers (q : Request Pair) (c : Conditional2) : Type 0 where
   pub asked : q ≡ Point c.eta
   pub within0 : Within edge c.eta.first
   pub within1 : Within edge c.eta.second
@@ -56,7 +57,7 @@ abbrev pub Follows : Settings2 → List Conditional2 → Type 0
 Follows s h = FollowsFrom s start h
 
 -- what is asked now: one point, or none
-unfoldable pub asks : Request2 → ℕ
+unfoldable pub asks : Request Pair → ℕ
 asks (Point p) = 1
 asks Mode = 0
 asks (Refused n) = 0

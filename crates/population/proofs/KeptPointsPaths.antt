@@ -10,12 +10,12 @@ use Rattle.search.specs.Subjects as B
 use Rattle.search.specs.declared.Fit.{Fit}
 use Rattle.search.specs.declared.Progress.{Progress}
 use Rattle.search.specs.declared.SubjectSearch.{SubjectSearch}
-use Rattle.search.specs.declared.Wanted.{Wanted}
-use Rattle.search.specs.declared.Wanted.TheVariants as Wants
 use Rattle.population.specs.Population.{Worked, worked, take}
 use Rattle.population.specs.Through.{is_over, eta_of, kept_in, kept_at, found_unless, kept_point, recalled, taken, reached, passed, through, through_from, Alike}
 use Rattle.population.specs.declared.kept_points.Reached.{Reached}
 use Rattle.population.specs.declared.kept_points.Evaluated.{Evaluated}
+use Rattle.mode.specs.declared.Request.{Request}
+use Rattle.mode.specs.declared.Request.TheVariants as Wants
 
 -- ---- what is found
 IsNone : Option ℕ → Type 0
@@ -29,25 +29,25 @@ none_is_none e = subst IsNone e tt
 -- what is found of a point: over is whether it is over
 module _ (fit : Fit) (subject : ℕ) (kept : Cache) where
   -- with no request left it is over; with one, what is found says whether the point that is wanted is kept
-  none_left : (x : Wanted) → found_unless (is_over 0 x) fit subject kept (eta_of x) ≡ None
+  none_left : (x : Request Pair) → found_unless (is_over 0 x) fit subject kept (eta_of x) ≡ None
   unfolding found_unless is_over
   none_left (Wants.Point eta) = pick_yes _ _ _ refl
   none_left Wants.Mode = pick_yes _ _ _ refl
   none_left (Wants.Refused number) = pick_yes _ _ _ refl
 
-  found_is_kept : (n : ℕ) (x : Wanted) → kept_at (eta_of x) (found_unless (is_over (suc n) x) fit subject kept (eta_of x)) ≡ kept_point fit subject kept x
+  found_is_kept : (n : ℕ) (x : Request Pair) → kept_at (eta_of x) (found_unless (is_over (suc n) x) fit subject kept (eta_of x)) ≡ kept_point fit subject kept x
   unfolding found_unless is_over eta_of kept_point
   found_is_kept n (Wants.Point eta) = ap (kept_at eta) (pick_no _ _ _ (ne_eqb (suc n) 0 (λ e. omega (arith, e))))
   found_is_kept n Wants.Mode = ap (kept_at (eta_of Wants.Mode)) (pick_yes _ _ _ refl)
   found_is_kept n (Wants.Refused number) = ap (kept_at (eta_of (Wants.Refused number))) (pick_yes _ _ _ refl)
 
   -- a request is left where something is found
-  pub one_left : (n : ℕ) (x : Wanted) {over : Bool} {eta : Pair} {f : Option ℕ} {slot : ℕ} → over ≡ is_over n x → eta ≡ eta_of x → f ≡ found_unless over fit subject kept eta → f ≡ Some slot → 1 ≤ n
+  pub one_left : (n : ℕ) (x : Request Pair) {over : Bool} {eta : Pair} {f : Option ℕ} {slot : ℕ} → over ≡ is_over n x → eta ≡ eta_of x → f ≡ found_unless over fit subject kept eta → f ≡ Some slot → 1 ≤ n
   one_left zero x eo ee ef t = absurd (none_is_none (sym (none_left x) ∙ (λ i. found_unless (sym eo i) fit subject kept (sym ee i)) ∙ sym ef ∙ t))
   one_left (suc n) x eo ee ef t = omega arith
 
 -- ---- the loop, with n requests left: p is the objective and w the work words with what was in hand
-module _ (fit : Fit) (rows : ℕ) (kept : Cache) (n : ℕ) (hand : Option Evaluated) (progress : Progress) (work : List ℕ) {p : Progress} {w : List ℕ} {wanted : Wanted}
+module _ (fit : Fit) (rows : ℕ) (kept : Cache) (n : ℕ) (hand : Option Evaluated) (progress : Progress) (work : List ℕ) {p : Progress} {w : List ℕ} {wanted : Request Pair}
     (et : worked p w ≡ taken fit rows hand progress work) (ew : wanted ≡ B.wanted_by fit p) where
   abbrev Goes : Worked Reached → Type 0
   Goes z = z ≡ through_from fit rows kept n hand progress work
@@ -57,7 +57,7 @@ module _ (fit : Fit) (rows : ℕ) (kept : Cache) (n : ℕ) (hand : Option Evalua
   from_taken q = q ∙ ap (λ (t : Worked Progress). through fit rows kept n t.value t.work) et
 
   told : worked (record { progress = p; left = n; wanted = wanted }) w ≡ worked (reached fit p n) w
-  told = ap (λ (x : Wanted). worked (record { progress = p; left = n; wanted = x }) w) ew
+  told = ap (λ (x : Request Pair). worked (record { progress = p; left = n; wanted = x }) w) ew
 
   module _ {over : Bool} {eta : Pair} {f : Option ℕ} (eo : over ≡ is_over n wanted) (ee : eta ≡ eta_of wanted) (ef : f ≡ found_unless over fit p.subject kept eta) where
     abbrev found_with : ℕ → Option ℕ
@@ -96,12 +96,12 @@ module _ (fit : Fit) (rows : ℕ) (kept : Cache) (n : ℕ) (hand : Option Evalua
 
 -- ---- a search of either kind alone, and the loop with it, by what is alike of both
 module _ {S X : Type 0} {is_of : S → Fit → Progress → Type 0} {own : SubjectSearch → X} {among : X → SubjectSearch} {alone : S → Fit → ℕ → Option Evaluated → X → List ℕ → Worked X}
-    {wants : S → X → Wanted} (a : Alike S X is_of own among alone wants) (fit : Fit) (rows : ℕ) (progress : Progress) {s : S} (of : is_of s fit progress) where
+    {wants : S → X → Request Pair} (a : Alike S X is_of own among alone wants) (fit : Fit) (rows : ℕ) (progress : Progress) {s : S} (of : is_of s fit progress) where
   pub takes_on : (hand : Option Evaluated) (x : X) (work : List ℕ) {y : X} {w : List ℕ} → worked y w ≡ alone s fit rows hand x work
       → worked (B.with_search progress (among y)) w ≡ taken fit rows hand (B.with_search progress (among x)) work
   takes_on hand x work e = ap (λ (t : Worked X). worked (B.with_search progress (among t.value)) t.work) e ∙ a.takes s fit progress of rows hand x work
 
-  pub wants_on : (y : X) {wanted : Wanted} → wanted ≡ wants s y → wanted ≡ B.wanted_by fit (B.with_search progress (among y))
+  pub wants_on : (y : X) {wanted : Request Pair} → wanted ≡ wants s y → wanted ≡ B.wanted_by fit (B.with_search progress (among y))
   wants_on y e = e ∙ a.wants_so s fit progress of y
 
   pub from_own : (kept : Cache) (n : ℕ) (hand : Option Evaluated) (work : List ℕ) {x : X} → x ≡ own progress.search

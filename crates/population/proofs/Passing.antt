@@ -13,8 +13,6 @@ use Rattle.search.specs.declared.Tally.{Tally}
 use Rattle.search.specs.declared.Fit.{Fit}
 use Rattle.search.specs.declared.Progress.{Progress}
 use Rattle.search.specs.declared.Step.{Step}
-use Rattle.search.specs.declared.Wanted.{Wanted}
-use Rattle.search.specs.declared.Wanted.TheVariants as Wants
 use Rattle.population.specs.Kept.{recall_at, words}
 use Rattle.population.specs.Population.{rows_of, Worked, take, answered, at_point, Ended, ended, served_by, served, is_over, turned, Whole, moved, turn, spent, whole}
 use Rattle.population.specs.Through.{KeptPoint, kept_in, not_kept, kept_at, kept_point, recalled, taken, passed, through, through_from}
@@ -23,6 +21,8 @@ use Rattle.population.specs.Steps.{whole_from, unkept, cleared}
 use Rattle.population.proofs.Loops.{loop_on}
 use Rattle.population.specs.declared.kept_points.Evaluated.{Evaluated}
 use Rattle.core.specs.declared.ops.ControlFlow.TheVariants.{Continue}
+use Rattle.mode.specs.declared.Request.{Request}
+use Rattle.mode.specs.declared.Request.TheVariants as Wants
 
 -- ---- the subject stays the same
 take_subject : (fit : Fit) (rows : ℕ) (p : Progress) (eta : Pair) (sums : Sums) (work : List ℕ) → p.subject ≡ (take fit rows p eta sums work).value.subject
@@ -44,7 +44,7 @@ module _ (fit : Fit) (counts : List ℕ) (tally : Tally) (kept : Cache) (p : Pro
   abbrev rows : ℕ
   rows = rows_of counts p.subject
 
-  Serves : Wanted → KeptPoint → Type 0
+  Serves : Request Pair → KeptPoint → Type 0
   Serves x (kept_in eta slot) =
       ended (Continue (next fit rows kept p work eta slot).value) (next fit rows kept p work eta slot).work warm results ≡ served_by words fit counts p tally kept work warm results x
   Serves x not_kept = unkept fit counts p tally work warm results x ≡ served_by words fit counts p tally kept work warm results x
@@ -62,14 +62,14 @@ module _ (fit : Fit) (counts : List ℕ) (tally : Tally) (kept : Cache) (p : Pro
   found_serves eta (Some slot) e = ap (answered_by eta) (sym e)
   found_serves eta None e = ap (answered_by eta) (sym e)
 
-  serves : (x : Wanted) → Serves x (kept_point fit p.subject kept x)
+  serves : (x : Request Pair) → Serves x (kept_point fit p.subject kept x)
   unfolding kept_point FoundServes Serves served_by unkept
   serves (Wants.Point eta) = found_serves eta _ refl
   serves Wants.Mode = refl
   serves (Wants.Refused number) = refl
 
   -- nothing is kept of what is wanted
-  pub unkept_served : {x : Wanted} → x ≡ B.wanted_by fit p → kept_point fit p.subject kept x ≡ not_kept → cleared (unkept fit counts p tally work warm results x) ≡ turned words fit counts p tally kept
+  pub unkept_served : {x : Request Pair} → x ≡ B.wanted_by fit p → kept_point fit p.subject kept x ≡ not_kept → cleared (unkept fit counts p tally work warm results x) ≡ turned words fit counts p tally kept
       work warm results
   unfolding Serves cleared turned served
   unkept_served {x} e t =

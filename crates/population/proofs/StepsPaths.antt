@@ -16,8 +16,6 @@ use Rattle.search.specs.declared.Mode.{Mode}
 use Rattle.search.specs.declared.Progress.{Progress}
 use Rattle.search.specs.declared.SubjectSearch.TheVariants.{One, Two}
 use Rattle.search.specs.declared.Halted.{Halted}
-use Rattle.search.specs.declared.Wanted.{Wanted}
-use Rattle.search.specs.declared.Wanted.TheVariants as Wants
 use Rattle.population.specs.Kept.{words}
 use Rattle.population.specs.Population.{rows_of, Worked, worked, next_subject, Ended, ended, closing, at_mode, moved, turn, spent, whole, ran, raised, Turned}
 use Rattle.population.specs.Through.{as_with, through_from, taken}
@@ -27,6 +25,8 @@ use Rattle.population.proofs.Loops.{loop_spent, loop_on, loop_halt}
 use Rattle.population.proofs.Passing.{unkept_served, same_loop, ends_from}
 use Rattle.core.specs.declared.ops.ControlFlow.TheVariants.{Break, Continue}
 use Rattle.population.specs.declared.kept_points.Evaluated.{Evaluated}
+use Rattle.mode.specs.declared.Request.{Request}
+use Rattle.mode.specs.declared.Request.TheVariants as Wants
 
 -- ---- a subject begins with a search of the objective's effects
 first_by : (b : Bool) (x : Search) (y : Search2) → let s = pick b (Two y) (One x) in s ≡ pick b (Two (B.two_of s)) (One (B.one_of s))
@@ -59,13 +59,13 @@ module _ (fit : Fit) (counts : List ℕ) (progress : Progress) (tally : Tally) (
   closing_begins rows None = refl
   closing_begins rows (Some mode) = both (λ (e : Ended). Begins e.turned) (is_same_grid work rows) (next_begins mode rows _) refl
 
-  begins : (x : Wanted) → Begins (cleared (unkept fit counts progress tally work warm results x)).turned
+  begins : (x : Request Pair) → Begins (cleared (unkept fit counts progress tally work warm results x)).turned
   unfolding Begins cleared unkept at_mode
   begins (Wants.Point eta) = refl
   begins Wants.Mode = closing_begins (rows_of counts progress.subject) (B.closed_by fit progress (rows_of counts progress.subject))
   begins (Wants.Refused number) = refl
 
-  on_begins : (x : Wanted) {t : Turned} {w a r : List ℕ} {next : Progress} → ended t w a r ≡ cleared (unkept fit counts progress tally work warm results x) → t ≡ Continue next → next ≡ own fit next
+  on_begins : (x : Request Pair) {t : Turned} {w a r : List ℕ} {next : Progress} → ended t w a r ≡ cleared (unkept fit counts progress tally work warm results x) → t ≡ Continue next → next ≡ own fit next
   unfolding Begins
   on_begins x e q = subst Begins (sym (ap (λ (y : Ended). y.turned) e) ∙ q) (begins x)
 

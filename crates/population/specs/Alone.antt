@@ -15,11 +15,11 @@ use Rattle.search.specs.declared.Fit.{Fit}
 use Rattle.search.specs.declared.Progress.{Progress}
 use Rattle.search.specs.declared.SubjectSearch.{SubjectSearch}
 use Rattle.search.specs.declared.SubjectSearch.TheVariants.{One, Two}
-use Rattle.search.specs.declared.Wanted.{Wanted}
 use Rattle.search.proofs.PointsPaths.{wanted_one, wanted_two, advance_one, advance_two}
 use Rattle.population.specs.Population.{Worked, worked, take}
 use Rattle.population.specs.Through.{as_with, taken, taken1, taken2, Alike, IsOne, IsTwo}
 use Rattle.population.specs.declared.kept_points.Evaluated.{Evaluated}
+use Rattle.mode.specs.declared.Request.{Request}
 
 -- ---- either search, as that of the objective
 same_take : (fit : Fit) (rows : ℕ) (progress : Progress) (eta : Pair) (sums : Sums) (work : List ℕ) {a : Advanced}
@@ -40,7 +40,7 @@ module _ (fit : Fit) (rows : ℕ) (progress : Progress) (effects : fit.effects �
   one_by (Some e) x work =
       same_take fit rows (with_one x) e.eta e.sums work (advance_one fit (with_one x) e.eta e.sums effects es refl refl refl refl)
 
-  one_wanted : (y : Search) {wanted : Wanted} → wanted ≡ B.wanted1 s y → wanted ≡ B.wanted_by fit (with_one y)
+  one_wanted : (y : Search) {wanted : Request Pair} → wanted ≡ B.wanted1 s y → wanted ≡ B.wanted_by fit (with_one y)
   unfolding B.with_search B.settings
   one_wanted y e = wanted_one fit (with_one y) effects es refl e
 
@@ -57,7 +57,7 @@ module _ (fit : Fit) (rows : ℕ) (progress : Progress) (effects : fit.effects �
   two_by (Some e) x work =
       same_take fit rows (with_two x) e.eta e.sums work (advance_two fit (with_two x) e.eta e.sums effects es refl refl refl refl)
 
-  two_wanted : (y : Search2) {wanted : Wanted} → wanted ≡ B.wanted2 s y → wanted ≡ B.wanted_by fit (with_two y)
+  two_wanted : (y : Search2) {wanted : Request Pair} → wanted ≡ B.wanted2 s y → wanted ≡ B.wanted_by fit (with_two y)
   unfolding B.with_search B.settings2
   two_wanted y e = wanted_two fit (with_two y) effects es refl e
 

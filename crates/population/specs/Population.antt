@@ -17,13 +17,13 @@ use Rattle.search.specs.declared.Place.TheVariants.{Nowhere, Subject}
 use Rattle.search.specs.declared.Step.{Step}
 use Rattle.search.specs.declared.Step.TheVariants.{Refused}
 use Rattle.search.specs.declared.Halted.{Halted}
-use Rattle.search.specs.declared.Wanted.{Wanted}
-use Rattle.search.specs.declared.Wanted.TheVariants as Wants
 use Rattle.search.specs.declared.Mode.{Mode}
 use Rattle.cache.specs.Cache.{Cache}
 use Rattle.population.specs.Kept.{Recalled, Store, words}
 use Rattle.core.specs.declared.ops.ControlFlow.{ControlFlow}
 use Rattle.core.specs.declared.ops.ControlFlow.TheVariants.{Break, Continue}
+use Rattle.mode.specs.declared.Request.{Request}
+use Rattle.mode.specs.declared.Request.TheVariants as Wants
 
 -- ---- lent words
 
@@ -125,7 +125,7 @@ at_mode fit counts progress tally work warm results =
 
 -- ---- a turn
 
-unfoldable pub served_by : (S : Store) → Fit → List ℕ → Progress → Tally → S.Kept → List ℕ → List ℕ → List ℕ → Wanted → Ended
+unfoldable pub served_by : (S : Store) → Fit → List ℕ → Progress → Tally → S.Kept → List ℕ → List ℕ → List ℕ → Request Pair → Ended
 served_by S fit counts progress tally kept work warm results (Wants.Point eta) =
     let p = at_point S fit counts progress tally eta kept work in
     ended p.value p.work warm results

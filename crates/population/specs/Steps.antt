@@ -8,13 +8,14 @@ use Rattle.search.specs.declared.Tally.{Tally}
 use Rattle.search.specs.declared.Fit.{Fit}
 use Rattle.search.specs.declared.Progress.{Progress}
 use Rattle.search.specs.declared.Place.TheVariants.{Subject}
-use Rattle.search.specs.declared.Wanted.{Wanted}
-use Rattle.search.specs.declared.Wanted.TheVariants as Wants
 use Rattle.population.specs.Kept.{words}
 use Rattle.population.specs.Population.{rows_of, Ended, ended, at_mode, is_over, Whole, whole}
 use Rattle.population.specs.Through.{taken}
 use Rattle.population.specs.declared.kept_points.Evaluated.{Evaluated}
 use Rattle.core.specs.declared.ops.ControlFlow.TheVariants.{Break}
+use Rattle.mode.specs.declared.Request.{Request}
+use Rattle.matrix.specs.declared.Pair.{Pair}
+use Rattle.mode.specs.declared.Request.TheVariants as Wants
 
 -- what is in hand is taken first
 abbrev pub whole_from : Fit → List ℕ → Option Evaluated → Progress → Tally → Cache → List ℕ → List ℕ → List ℕ → Whole words
@@ -22,7 +23,7 @@ whole_from fit counts hand progress tally kept work warm results =
     let t = taken fit (rows_of counts progress.subject) hand progress work in
     whole t.value tally kept t.work warm results
 
-unfoldable pub unkept : Fit → List ℕ → Progress → Tally → List ℕ → List ℕ → List ℕ → Wanted → Ended
+unfoldable pub unkept : Fit → List ℕ → Progress → Tally → List ℕ → List ℕ → List ℕ → Request Pair → Ended
 unkept fit counts progress tally work warm results (Wants.Point eta) = ended (Break (B.ask fit progress tally eta)) work warm results
 unkept fit counts progress tally work warm results Wants.Mode = at_mode fit counts progress tally work warm results
 unkept fit counts progress tally work warm results (Wants.Refused number) =

@@ -16,11 +16,11 @@ use Rattle.search.specs.declared.Fit.{Fit}
 use Rattle.search.specs.declared.Progress.{Progress}
 use Rattle.search.specs.declared.SubjectSearch.{SubjectSearch}
 use Rattle.search.specs.declared.SubjectSearch.TheVariants.{One, Two}
-use Rattle.search.specs.declared.Wanted.{Wanted}
-use Rattle.search.specs.declared.Wanted.TheVariants as Wants
 use Rattle.population.specs.Population.{Worked, worked, take}
 use Rattle.population.specs.declared.kept_points.Reached.{Reached}
 use Rattle.population.specs.declared.kept_points.Evaluated.{Evaluated}
+use Rattle.mode.specs.declared.Request.{Request}
+use Rattle.mode.specs.declared.Request.TheVariants as Wants
 
 -- ---- what is kept
 
@@ -36,7 +36,7 @@ kept_at eta None = not_kept
 abbrev pub found_at : Fit → ℕ → Cache → Pair → Option ℕ
 found_at fit subject kept eta = find kept.words fit.k kept.order (B.key_of fit subject eta)
 
-unfoldable pub kept_point : Fit → ℕ → Cache → Wanted → KeptPoint
+unfoldable pub kept_point : Fit → ℕ → Cache → Request Pair → KeptPoint
 kept_point fit subject kept (Wants.Point eta) = kept_at eta (found_at fit subject kept eta)
 kept_point fit subject kept Wants.Mode = not_kept
 kept_point fit subject kept (Wants.Refused number) = not_kept
@@ -72,7 +72,7 @@ taken2 s rows (Some e) x work =
 -- ---- the way
 
 -- no request is left, or no point is wanted
-unfoldable pub is_over : ℕ → Wanted → Bool
+unfoldable pub is_over : ℕ → Request Pair → Bool
 is_over n (Wants.Point eta) = n == 0
 is_over n Wants.Mode = true
 is_over n (Wants.Refused number) = true
@@ -82,7 +82,7 @@ unfoldable pub found_unless : Bool → Fit → ℕ → Cache → Pair → Option
 found_unless over fit subject kept eta = pick over None (found_at fit subject kept eta)
 
 -- the point that is wanted; zero where none is
-unfoldable pub eta_of : Wanted → Pair
+unfoldable pub eta_of : Request Pair → Pair
 eta_of (Wants.Point eta) = eta
 eta_of Wants.Mode = R2.of R2.nought R2.nought
 eta_of (Wants.Refused number) = R2.of R2.nought R2.nought
@@ -115,7 +115,7 @@ through_from fit rows kept n hand progress work =
 
 -- searches X by settings S take what is in hand, and want, what they do as the objective's
 pub record Alike (S X : Type 0) (is_of : S → Fit → Progress → Type 0) (own : SubjectSearch → X)
-    (among : X → SubjectSearch) (alone : S → Fit → ℕ → Option Evaluated → X → List ℕ → Worked X) (wants : S → X → Wanted) : Type 0 where
+    (among : X → SubjectSearch) (alone : S → Fit → ℕ → Option Evaluated → X → List ℕ → Worked X) (wants : S → X → Request Pair) : Type 0 where
   pub takes : (s : S) (fit : Fit) (p : Progress) → is_of s fit p → (rows : ℕ) (hand : Option Evaluated) (x : X) (work : List ℕ)
       → let t = alone s fit rows hand x work in
       worked (B.with_search p (among t.value)) t.work ≡ taken fit rows hand (B.with_search p (among x)) work

@@ -10,7 +10,8 @@ ghost use Rattle.search.specs.declared.Fit.{Fit};
 ghost use Rattle.search.specs.declared.Progress.{Progress};
 ghost use Rattle.search.specs.declared.SubjectSearch.{SubjectSearch};
 ghost use Rattle.search.specs.declared.SubjectSearch.TheVariants.{One, Two};
-ghost use Rattle.search.specs.declared.Wanted.{Wanted};
+ghost use Rattle.mode.specs.declared.Request.{Request};
+ghost use Rattle.matrix.specs.declared.Pair.{Pair};
 ghost use Rattle.population.specs.declared.kept_points.Evaluated.{Evaluated};
 ghost use Rattle.population.specs.Kept.{cache_of};
 ghost use Rattle.population.specs.Population.{rows_of, Worked, worked};
@@ -19,9 +20,10 @@ ghost use Rattle.population.specs.Alone.{one_alike, two_alike};
 
 use cache::CacheOrder;
 use matrix::Pair;
+use mode::Request;
 use mode::population_focei::{Search, Settings};
 use mode_2d::population_focei_2d::{Search2, Settings2};
-use search::{Fit, Progress, SubjectSearch, Wanted};
+use search::{Fit, Progress, SubjectSearch};
 use subject::Sums;
 
 // An evaluation of the point that a search asked for, which the search has not been given yet. Its rows are in
@@ -37,30 +39,30 @@ pub struct Evaluated {
 pub struct Reached {
     pub progress: Progress,
     pub left: usize,
-    pub wanted: Wanted,
+    pub wanted: Request<Pair>,
 }
 
 // ---- what is kept
 
 // No request is left, or no point is wanted.
 #[tactic(auto, unfolding(crate::specs::Through::is_over))]
-fn is_over(left: usize, wanted: Wanted) -> bool
+fn is_over(left: usize, wanted: Request<Pair>) -> bool
     ensures { result ≡ is_over left wanted }
 {
     match wanted {
-        Wanted::Point(_) => left == 0,
-        Wanted::Mode | Wanted::Refused(_) => true,
+        Request::Point(_) => left == 0,
+        Request::Mode | Request::Refused(_) => true,
     }
 }
 
 // The point that is wanted; zero where none is.
 #[tactic(auto, unfolding(crate::specs::Through::eta_of))]
-fn eta_of(wanted: Wanted) -> Pair
+fn eta_of(wanted: Request<Pair>) -> Pair
     ensures { result ≡ eta_of wanted }
 {
     match wanted {
-        Wanted::Point(eta) => eta,
-        Wanted::Mode | Wanted::Refused(_) => Pair {
+        Request::Point(eta) => eta,
+        Request::Mode | Request::Refused(_) => Pair {
             first: 0.0,
             second: 0.0,
         },
@@ -118,7 +120,7 @@ trait Searching: Copy {
 
     ghost alone: { Self → Fit → ℕ → Option Evaluated → Self.Search → List ℕ → Worked Self.Search };
 
-    ghost wants: { Self → Self.Search → Wanted };
+    ghost wants: { Self → Self.Search → Request Pair };
 
     ghost alike: { Alike Self Self.Search is_of own among alone wants };
 
@@ -138,7 +140,7 @@ trait Searching: Copy {
     ) -> Self::Search
         ensures { worked result work.new ≡ alone self fit rows hand search work.old };
 
-    fn wanted(self, search: Self::Search) -> Wanted
+    fn wanted(self, search: Self::Search) -> Request<Pair>
         ensures { result ≡ wants self search };
 }
 
@@ -185,7 +187,7 @@ impl Searching for Settings {
         }
     }
 
-    fn wanted(self, search: Search) -> Wanted {
+    fn wanted(self, search: Search) -> Request<Pair> {
         search::points::wanted_1d(self, search)
     }
 }
@@ -234,7 +236,7 @@ impl Searching for Settings2 {
         }
     }
 
-    fn wanted(self, search: Search2) -> Wanted {
+    fn wanted(self, search: Search2) -> Request<Pair> {
         search::points::wanted_2d(self, search)
     }
 }

@@ -9,7 +9,8 @@ ghost use Rattle.population.specs.Steps.{whole_from, unkept, cleared};
 use super::Turned;
 use super::kept_points::Evaluated;
 use cache::CacheOrder;
-use search::{Fit, Halted, Place, Progress, Step, Tally, Wanted};
+use mode::Request;
+use search::{Fit, Halted, Place, Progress, Step, Tally};
 use std::ops::ControlFlow;
 
 // What is done with a request that no kept evaluation answers.
@@ -19,7 +20,7 @@ fn served(
     counts: &[u64],
     progress: Progress,
     tally: Tally,
-    wanted: Wanted,
+    wanted: Request<Pair>,
     work: &mut [u64],
     warm: &mut [u64],
     results: &mut [u64],
@@ -28,9 +29,11 @@ fn served(
         ≡ unkept fit counts.now progress tally work.old warm.old results.old wanted }
 {
     match wanted {
-        Wanted::Point(eta) => ControlFlow::Break(search::questions::ask(fit, progress, tally, eta)),
-        Wanted::Mode => super::at_mode(fit, counts, progress, tally, work, warm, results),
-        Wanted::Refused(number) => {
+        Request::Point(eta) => ControlFlow::Break(search::questions::ask(
+            fit, progress, tally, eta,
+        )),
+        Request::Mode => super::at_mode(fit, counts, progress, tally, work, warm, results),
+        Request::Refused(number) => {
             let place = Place::Subject(progress.subject);
             ControlFlow::Break(search::refused(progress, tally, number, place))
         }
@@ -55,7 +58,7 @@ fn turn(
     counts: &[u64],
     progress: Progress,
     tally: Tally,
-    wanted: Wanted,
+    wanted: Request<Pair>,
     work: &mut [u64],
     warm: &mut [u64],
     results: &mut [u64],

@@ -16,12 +16,12 @@ use Rattle.subject.specs.declared.Sums.{Sums}
 use Rattle.search.specs.declared.Fit.{Fit}
 use Rattle.search.specs.declared.Progress.{Progress}
 use Rattle.search.specs.declared.SubjectSearch.TheVariants.{One, Two}
-use Rattle.search.specs.declared.Wanted.{Wanted}
 use Rattle.search.specs.Subjects.{settings, settings2, one_of, two_of, wanted1, wanted2, wanted_by, conditional1, conditional2, sources1}
 use Rattle.search.specs.Subjects.{sources2, with_search, advance1, advance2, advance_by}
+use Rattle.mode.specs.declared.Request.{Request}
 
 -- z is what is wanted, x the search
-module _ (fit : Fit) (progress : Progress) {z : Wanted} where
+module _ (fit : Fit) (progress : Progress) {z : Request Pair} where
   pub wanted_two : {s : Settings2} {x : Search2} → fit.effects ≡ 2 → s ≡ settings2 fit progress → x ≡ two_of progress.search → z ≡ wanted2 s x → z ≡ wanted_by fit progress
   unfolding wanted_by
   wanted_two h es ex q = yes _ (eq-eqb _ _ h) (q ∙ (λ i. wanted2 (es i) (ex i)))

@@ -16,16 +16,12 @@ use Rattle.mode.specs.declared.population_focei.Conditional.{Conditional}
 use Rattle.mode.specs.declared.population_focei.Stage.{Stage}
 use Rattle.mode.specs.declared.population_focei.Stage.TheVariants.{Grid, Warm, Secant, Halving}
 use Rattle.mode.specs.declared.population_focei.Search.{Search}
-use Rattle.mode.specs.declared.population_focei.Request.{Request}
-use Rattle.mode.specs.declared.population_focei.Request.TheVariants as One
 use Rattle.mode_2d.specs.Rules as R2
 use Rattle.mode_2d.specs.declared.population_focei_2d.Settings2.{Settings2}
 use Rattle.mode_2d.specs.declared.population_focei_2d.Conditional2.{Conditional2}
 use Rattle.mode_2d.specs.declared.population_focei_2d.Stage2.{Stage2}
 use Rattle.mode_2d.specs.declared.population_focei_2d.Stage2.TheVariants as Two-stage
 use Rattle.mode_2d.specs.declared.population_focei_2d.Search2.{Search2}
-use Rattle.mode_2d.specs.declared.population_focei_2d.Request2.{Request2}
-use Rattle.mode_2d.specs.declared.population_focei_2d.Request2.TheVariants as Two
 use Rattle.cache.specs.declared.CacheKey.{CacheKey}
 use Rattle.cache.specs.declared.CachedTerms.{CachedTerms}
 use Rattle.work.specs.declared.Sources.{Sources}
@@ -44,10 +40,12 @@ use Rattle.search.specs.declared.Place.TheVariants.{Nowhere, Subject}
 use Rattle.search.specs.declared.Step.{Step}
 use Rattle.search.specs.declared.Step.TheVariants.{Asked, Finished, Refused}
 use Rattle.search.specs.declared.Halted.{Halted}
-use Rattle.search.specs.declared.Wanted.{Wanted}
-use Rattle.search.specs.declared.Wanted.TheVariants as Wants
 use Rattle.search.specs.declared.Advanced.{Advanced}
 use Rattle.search.specs.declared.Mode.{Mode}
+use Rattle.mode.specs.declared.Request.{Request}
+use Rattle.mode.specs.declared.Request.TheVariants as One
+use Rattle.mode.specs.declared.Request.TheVariants as Two
+use Rattle.mode.specs.declared.Request.TheVariants as Wants
 
 -- ---- what the searches of an objective have in common
 
@@ -112,23 +110,23 @@ two_of (With.Two x) = x
 
 -- ---- what the search wants
 
-abbrev pub wants1 : Request → Wanted
+abbrev pub wants1 : Request Float → Request Pair
 wants1 (One.Point eta) = Wants.Point (record { first = eta; second = word 0 })
 wants1 One.Mode = Wants.Mode
 wants1 (One.Refused number) = Wants.Refused number
 
-unfoldable pub wanted1 : Settings → Search → Wanted
+unfoldable pub wanted1 : Settings → Search → Request Pair
 wanted1 s x = wants1 (request s x)
 
-abbrev pub wants2 : Request2 → Wanted
+abbrev pub wants2 : Request Pair → Request Pair
 wants2 (Two.Point eta) = Wants.Point eta
 wants2 Two.Mode = Wants.Mode
 wants2 (Two.Refused number) = Wants.Refused number
 
-unfoldable pub wanted2 : Settings2 → Search2 → Wanted
+unfoldable pub wanted2 : Settings2 → Search2 → Request Pair
 wanted2 s x = wants2 (R2.request s x)
 
-unfoldable pub wanted_by : Fit → Progress → Wanted
+unfoldable pub wanted_by : Fit → Progress → Request Pair
 wanted_by fit progress =
     pick (eqb fit.effects 2) (wanted2 (settings2 fit progress) (two_of progress.search))
     (wanted1 (settings fit progress) (one_of progress.search))

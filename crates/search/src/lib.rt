@@ -101,15 +101,6 @@ pub struct Halted {
     pub step: Step,
 }
 
-// What a subject's search wants, with one effect or two: a point, to end in its mode, or to end in a refusal
-// with document 01's number.
-#[derive(Clone, Copy)]
-pub enum Wanted {
-    Point(Pair),
-    Mode,
-    Refused(u32),
-}
-
 // A search with one evaluation more, and the blocks from which the blocks of the work words get their rows.
 #[derive(Clone, Copy)]
 pub struct Advanced {

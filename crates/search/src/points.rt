@@ -5,15 +5,12 @@ ghost use Rattle.std.specs.Prelude.{◌≡◌};
 ghost use Rattle.search.specs.Subjects.{settings, settings2, wanted1, wanted2, wanted_by, conditional1, conditional2, grid_sources};
 ghost use Rattle.search.specs.Subjects.{bracket_sources, sources1, current_source, is_new_best, population_source, sources2, with_search};
 
-use super::{Fit, Progress, SubjectSearch, Wanted};
+use super::{Fit, Progress, SubjectSearch};
 use float64::pick;
 use matrix::Pair;
-use mode::population_focei::{
-    Conditional, Request, Search, Settings, Stage, is_above, is_closer, is_under,
-};
-use mode_2d::population_focei_2d::{
-    Conditional2, Request2, Search2, Settings2, Stage2, is_taken, joint,
-};
+use mode::Request;
+use mode::population_focei::{Conditional, Search, Settings, Stage, is_above, is_closer, is_under};
+use mode_2d::population_focei_2d::{Conditional2, Search2, Settings2, Stage2, is_taken, joint};
 use subject::Sums;
 use work::Sources;
 
@@ -47,34 +44,34 @@ pub fn settings_2d(fit: Fit, progress: Progress) -> Settings2
 // What a search with one effect wants now, as for either number of effects: a point has 0 for its second
 // value.
 #[tactic(auto, unfolding(crate::specs::Subjects::wanted1))]
-pub fn wanted_1d(settings: Settings, search: Search) -> Wanted
+pub fn wanted_1d(settings: Settings, search: Search) -> Request<Pair>
     ensures { result ≡ wanted1 settings search }
 {
     match search.request(settings) {
-        Request::Point(eta) => Wanted::Point(Pair {
+        Request::Point(eta) => Request::Point(Pair {
             first: eta,
             second: 0.0,
         }),
-        Request::Mode => Wanted::Mode,
-        Request::Refused(number) => Wanted::Refused(number),
+        Request::Mode => Request::Mode,
+        Request::Refused(number) => Request::Refused(number),
     }
 }
 
 // What a search with two effects wants now, as for either number of effects.
 #[tactic(auto, unfolding(crate::specs::Subjects::wanted2))]
-pub fn wanted_2d(settings: Settings2, search: Search2) -> Wanted
+pub fn wanted_2d(settings: Settings2, search: Search2) -> Request<Pair>
     ensures { result ≡ wanted2 settings search }
 {
     match search.request(settings) {
-        Request2::Point(eta) => Wanted::Point(eta),
-        Request2::Mode => Wanted::Mode,
-        Request2::Refused(number) => Wanted::Refused(number),
+        Request::Point(eta) => Request::Point(eta),
+        Request::Mode => Request::Mode,
+        Request::Refused(number) => Request::Refused(number),
     }
 }
 
 // What the subject's search wants now, with one effect or two.
 #[tactic(auto, unfolding(crate::specs::Subjects::wanted_by, float64::specs::Pick::pick))]
-pub fn wanted_by(fit: Fit, progress: Progress) -> Wanted
+pub fn wanted_by(fit: Fit, progress: Progress) -> Request<Pair>
     ensures { result ≡ wanted_by fit progress }
 {
     if fit.effects == 2 {

@@ -13,8 +13,6 @@ use Rattle.search.specs.Subjects.{fit_of}
 use Rattle.search.specs.declared.Fit.{Fit}
 use Rattle.search.specs.declared.Step.{Step}
 use Rattle.search.specs.declared.Tally.{Tally}
-use Rattle.search.specs.declared.Wanted.{Wanted}
-use Rattle.search.specs.declared.Wanted.TheVariants as Wants
 use Rattle.machine.specs.Machine.{Moved, on, halt, Ran, ran, onward, loop}
 use Rattle.population.specs.Kept.{words}
 use Rattle.population.specs.Population.{Whole, turn, spent}
@@ -26,6 +24,8 @@ use Rattle.subject.specs.declared.EvaluationError.TheVariants as E
 use Rattle.setup.specs.declared.AdmissionError.TheVariants as A
 use Rattle.subject.specs.Observations.{Check}
 use Rattle.setup.specs.Admission.{Admission}
+use Rattle.mode.specs.declared.Request.{Request}
+use Rattle.mode.specs.declared.Request.TheVariants as Wants
 
 -- ---- the run: the machine's loop is the step's, with the parameters held
 module _ (parameters : Parameters) where
@@ -66,7 +66,7 @@ module _ (setup : Setup) (counts : List ℕ) where
       ap (λ (f : Fit). entered_in f counts (when_admitted words h (replied words counts f a.eta h h.whole.work (finish e)) a.admission)) q
       ∙ entered_own a.eta h h.whole.work (finish e) a.admission
 
-  fit_for : (fit : Fit) (a : Admission) (w : Wanted) → (awaited_for fit a w).fit ≡ fit
+  fit_for : (fit : Fit) (a : Admission) (w : Request Pair) → (awaited_for fit a w).fit ≡ fit
   unfolding awaited_for
   fit_for fit a (Wants.Point eta) = refl
   fit_for fit a Wants.Mode = refl

@@ -12,7 +12,6 @@ use Rattle.search.proofs.Fits.{own_fit}
 use Rattle.search.specs.Subjects.{fit_in, fit_of}
 use Rattle.search.specs.declared.Fit.{Fit}
 use Rattle.search.specs.declared.Tally.{Tally}
-use Rattle.search.specs.declared.Wanted.{Wanted}
 use Rattle.population.specs.Population.{rows_of}
 use Rattle.session.specs.Calls.{awaited_point, awaited_for, admit_awaited, trial_by, admitted_over, admit_reply}
 use Rattle.session.specs.declared.Admitted.{Admitted}
@@ -20,16 +19,18 @@ use Rattle.session.specs.declared.Awaited.{Awaited}
 use Rattle.session.specs.declared.State.{State}
 use Rattle.session.specs.SubjectReply.{subject_awaited, admit_subject_reply}
 use Rattle.subject.specs.Observations.{Check}
+use Rattle.mode.specs.declared.Request.{Request}
+use Rattle.matrix.specs.declared.Pair.{Pair}
 
 -- ---- what is awaited, by the setup of the objective: own is the code's, and judged what its checks are of it
 module _ (setup : Setup) (state : State) {own : Setup} {fit : Fit} (eo : own ≡ with_parameters setup state.parameters) (ef : fit ≡ fit_in own state.parameters.theta) where
-  awaited_own : (wants : Fit → Wanted) (judged : Setup → Admission) {wanted : Wanted} {a : Admission} {r : Awaited} → wanted ≡ wants fit → a ≡ judged own → r ≡ awaited_for fit a wanted
+  awaited_own : (wants : Fit → Request Pair) (judged : Setup → Admission) {wanted : Request Pair} {a : Admission} {r : Awaited} → wanted ≡ wants fit → a ≡ judged own → r ≡ awaited_for fit a wanted
       → r ≡ awaited_for (fit_of setup state.parameters) (judged (with_parameters setup state.parameters)) (wants (fit_of setup state.parameters))
   awaited_own wants judged w d e =
       let f : fit ≡ fit_of setup state.parameters = own_fit setup state.parameters eo ef in
       e ∙ (λ i. awaited_for (f i) ((d ∙ ap judged eo) i) ((w ∙ ap wants f) i))
 
-  module _ (counts : List ℕ) (lent : Lent) (check : Check) (tally : Tally) {wanted : Wanted} {a : Admission} {r : Awaited} where
+  module _ (counts : List ℕ) (lent : Lent) (check : Check) (tally : Tally) {wanted : Request Pair} {a : Admission} {r : Awaited} where
     pub awaited_by : wanted ≡ awaited_point setup counts lent.observations fit state tally → a ≡ checks own counts lent check → r ≡ awaited_for fit a wanted
         → r ≡ admit_awaited setup counts lent check state tally
     unfolding admit_awaited

@@ -23,8 +23,6 @@ use Rattle.search.specs.declared.Place.TheVariants as At
 use Rattle.search.specs.declared.Tally.{Tally}
 use Rattle.search.specs.declared.Step.{Step}
 use Rattle.search.specs.declared.Step.TheVariants.{Refused}
-use Rattle.search.specs.declared.Wanted.{Wanted}
-use Rattle.search.specs.declared.Wanted.TheVariants as Wants
 use Rattle.machine.specs.Machine.{Moved, Ran, ran, onward, loop}
 use Rattle.population.specs.Kept.{cache_of, order_rows, words}
 use Rattle.population.specs.Population.{rows_of, warm_of, whole_of, turn, spent}
@@ -36,6 +34,8 @@ use Rattle.session.specs.declared.Awaited.{Awaited}
 use Rattle.session.specs.declared.Admitted.{Admitted}
 use Rattle.subject.specs.declared.EvaluationError.TheVariants as E
 use Rattle.setup.specs.declared.AdmissionError.TheVariants as A
+use Rattle.mode.specs.declared.Request.{Request}
+use Rattle.mode.specs.declared.Request.TheVariants as Wants
 
 -- a state with the tally and the lent words
 abbrev pub held_of : State → Tally → List ℕ → List ℕ → List ℕ → List ℕ → Held words
@@ -142,7 +142,7 @@ admit_objective setup counts lent check parameters state tally =
 -- ---- a reply, and its failure
 
 -- 19: a reply is awaited, and the positions are within the subjects, n observations and the search's limits; then what the search wants
-unfoldable pub awaited_point : Setup → List ℕ → ℕ → Fit → State → Tally → Wanted
+unfoldable pub awaited_point : Setup → List ℕ → ℕ → Fit → State → Tally → Request Pair
 awaited_point setup counts n fit state tally =
     pick state.progress.awaits
     (pick (stands setup counts n state tally) (wanted_by fit state.progress) (Wants.Refused 19))
@@ -152,7 +152,7 @@ abbrev pub unawaited : Fit → Awaited
 unawaited fit = record { admission = Err (A.Refused 19); eta = record { first = word 0; second = word 0 }; fit = fit }
 
 -- what the checks of what is lent found, where a point is wanted; else 19
-unfoldable pub awaited_for : Fit → Admission → Wanted → Awaited
+unfoldable pub awaited_for : Fit → Admission → Request Pair → Awaited
 awaited_for fit admission (Wants.Point eta) = record { admission = admission; eta = eta; fit = fit }
 awaited_for fit admission Wants.Mode = unawaited fit
 awaited_for fit admission (Wants.Refused number) = unawaited fit

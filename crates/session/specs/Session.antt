@@ -27,12 +27,12 @@ use Rattle.search.specs.declared.Place.{Place}
 use Rattle.search.specs.declared.Place.TheVariants as At
 use Rattle.search.specs.declared.Step.{Step}
 use Rattle.search.specs.declared.Step.TheVariants.{Refused}
-use Rattle.search.specs.declared.Wanted.{Wanted}
-use Rattle.search.specs.declared.Wanted.TheVariants as Wants
 use Rattle.machine.specs.Machine.{Moved, on, halt, Machine}
 use Rattle.population.specs.Kept.{Store}
 use Rattle.population.specs.Population.{rows_of, warm_of, Whole, whole_of, turn, spent, receive}
 use Rattle.subject.specs.declared.EvaluationError.TheVariants as E
+use Rattle.mode.specs.declared.Request.{Request}
+use Rattle.mode.specs.declared.Request.TheVariants as Wants
 
 -- all that a call takes and gives: the objective's parameters, where it stands, the tally, what is kept, and the lent words
 pub record Held (S : Store) : Type 0 where
@@ -184,7 +184,7 @@ module _ (S : Store) (setup : Setup) (counts : List ℕ) (n : ℕ) (check : Chec
       (unaltered S 19 At.Nowhere h))
 
   -- 19: a point is awaited; then 1 to 5; and then what the call does with it
-  unfoldable pub at_wanted : Held S → (Pair → Moved (Held S) Step) → Wanted → Moved (Held S) Step
+  unfoldable pub at_wanted : Held S → (Pair → Moved (Held S) Step) → Request Pair → Moved (Held S) Step
   at_wanted h go (Wants.Point eta) = when_admitted S h (go eta) (admitted h.parameters h.whole)
   at_wanted h go Wants.Mode = unaltered S 19 At.Nowhere h
   at_wanted h go (Wants.Refused number) = unaltered S 19 At.Nowhere h

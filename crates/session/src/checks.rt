@@ -9,9 +9,10 @@ ghost use Rattle.session.specs.Session.{count_within, search_within, search_with
 ghost use Rattle.session.specs.SubjectReply.{admit_subject_reply};
 
 use super::{Admitted, Awaited, State, ZERO};
+use mode::Request;
 use mode::population_focei::{Search, Stage};
 use mode_2d::population_focei_2d::Search2;
-use search::{Fit, Progress, Tally, Wanted};
+use search::{Fit, Progress, Tally};
 use setup::{Admission, AdmissionError, Lent, Parameters, Setup};
 use subject::{Check, EvaluationError, Trial};
 
@@ -105,27 +106,27 @@ fn awaited_point(
     tally: Tally,
     counts: &[u64],
     observations: usize,
-) -> Wanted
+) -> Request<Pair>
     ensures { result ≡ awaited_point setup counts.now observations fit state tally }
 {
     if state.progress.awaits && is_standing(setup, counts, observations, state, tally) {
         return search::points::wanted_by(fit, state.progress);
     }
-    Wanted::Refused(19)
+    Request::Refused(19)
 }
 
 // What the checks of the lent words and observations found, where a point is wanted; else 19.
 #[tactic(auto, unfolding(crate::specs::Calls::awaited_for))]
-fn awaited_for(fit: Fit, wanted: Wanted, admission: Admission) -> Awaited
+fn awaited_for(fit: Fit, wanted: Request<Pair>, admission: Admission) -> Awaited
     ensures { result ≡ awaited_for fit admission wanted }
 {
     match wanted {
-        Wanted::Point(eta) => Awaited {
+        Request::Point(eta) => Awaited {
             admission,
             eta,
             fit,
         },
-        Wanted::Mode | Wanted::Refused(_) => unawaited(fit),
+        Request::Mode | Request::Refused(_) => unawaited(fit),
     }
 }
 

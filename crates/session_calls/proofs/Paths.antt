@@ -23,8 +23,6 @@ use Rattle.search.specs.declared.Progress.{Progress}
 use Rattle.search.specs.declared.Step.{Step}
 use Rattle.search.specs.declared.Step.TheVariants.{Refused}
 use Rattle.search.specs.declared.Tally.{Tally}
-use Rattle.search.specs.declared.Wanted.{Wanted}
-use Rattle.search.specs.declared.Wanted.TheVariants as Wants
 use Rattle.search.proofs.Fits.{fit_effects}
 use Rattle.machine.specs.Machine.{Moved, on, Ran, ran, onward, loop}
 use Rattle.population.specs.Kept.{words, cache_of}
@@ -47,6 +45,8 @@ use Rattle.setup.specs.declared.AdmissionError.TheVariants as A
 use Rattle.session.specs.declared.Refusal.{Refusal}
 use Rattle.session_calls.specs.Refusals.{refusal_of}
 use Rattle.subject.specs.Observations.{Check}
+use Rattle.mode.specs.declared.Request.{Request}
+use Rattle.mode.specs.declared.Request.TheVariants as Wants
 
 -- the loop as the code's step has it
 pub ran_in : (fit : Fit) (counts : List ℕ) (parameters : Parameters) (w : Whole words) {r : Ran (Whole words) Step} → r ≡ loop (turn words fit counts) spent fuel w
@@ -164,10 +164,10 @@ module _ (setup : Setup) (counts : List ℕ) (n : ℕ) (check : Check) (state : 
   abbrev fit : Fit
   fit = fit_of setup state.parameters
 
-  abbrev goes_for : Wanted → Moved (Held words) Step
+  abbrev goes_for : Request Pair → Moved (Held words) Step
   goes_for w = goes (awaited_for fit (checks (with_parameters setup state.parameters) counts lent_here check) w)
 
-  wanted_goes : (w : Wanted) → at_wanted words setup counts n check at go w ≡ goes_for w
+  wanted_goes : (w : Request Pair) → at_wanted words setup counts n check at go w ≡ goes_for w
   unfolding at_wanted awaited_for goes admitted when_admitted
   wanted_goes (Wants.Point eta) = refl
   wanted_goes Wants.Mode = refl

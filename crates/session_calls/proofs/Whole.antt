@@ -31,7 +31,6 @@ use Rattle.search.specs.declared.Progress.{Progress}
 use Rattle.search.specs.declared.Step.{Step}
 use Rattle.search.specs.declared.Step.TheVariants.{Refused}
 use Rattle.search.specs.declared.Tally.{Tally}
-use Rattle.search.specs.declared.Wanted.{Wanted}
 use Rattle.machine.specs.Machine.{Moved, halt, Ran, call}
 use Rattle.population.specs.Kept.{words, cache_of, order_rows}
 use Rattle.population.specs.Population.{rows_of, whole_of}
@@ -45,6 +44,7 @@ use Rattle.session.specs.declared.State.{State}
 use Rattle.session_calls.proofs.Paths.{awaited_enters}
 use Rattle.subject.specs.declared.EvaluationError.TheVariants as E
 use Rattle.setup.specs.declared.AdmissionError.TheVariants as A
+use Rattle.mode.specs.declared.Request.{Request}
 
 -- ---- all of a list, as a loop from its first to its last takes it
 all_of : (l : List Observation) → take (length l - 0) (drop 0 l) ≡ l
@@ -90,7 +90,7 @@ unfolding admit_awaited awaited_point awaited_for
 awaited_within setup counts lent check state tally =
     let fit = fit_of setup state.parameters in
     let judged = checks (with_parameters setup state.parameters) counts lent check in
-    let Fits : Wanted → Type 0 = λ w. (awaited_for fit judged w).admission ≡ (Ok tt) → state.progress.first + rows_of counts state.progress.subject ≤ lent.observations in
+    let Fits : Request Pair → Type 0 = λ w. (awaited_for fit judged w).admission ≡ (Ok tt) → state.progress.first + rows_of counts state.progress.subject ≤ lent.observations in
     cases Fits state.progress.awaits
     (λ _. cases Fits (stands setup counts lent.observations state tally) (λ s _. standing_within setup counts lent.observations tally (order_rows state.order) state.progress s)
     (λ _ e. refused_never 19 e))

@@ -30,8 +30,6 @@ use Rattle.search.specs.declared.Progress.{Progress}
 use Rattle.search.specs.declared.Step.{Step}
 use Rattle.search.specs.declared.Step.TheVariants as Answers
 use Rattle.search.specs.declared.Tally.{Tally}
-use Rattle.search.specs.declared.Wanted.{Wanted}
-use Rattle.search.specs.declared.Wanted.TheVariants as Wants
 use Rattle.search.proofs.Fits.{fit_effects}
 use Rattle.machine.specs.Machine.{Moved, on, halt, Ran, onward, loop, call}
 use Rattle.population.specs.Kept.{Recalled, words}
@@ -42,6 +40,8 @@ use Rattle.session_theorems.specs.Evaluations.{M}
 use Rattle.core.specs.declared.ops.ControlFlow.TheVariants.{Break, Continue}
 use Rattle.search.specs.declared.Mode.{Mode}
 use Rattle.setup.specs.declared.AdmissionError.TheVariants as A
+use Rattle.mode.specs.declared.Request.{Request}
+use Rattle.mode.specs.declared.Request.TheVariants as Wants
 
 -- ---- an objective's fit has its own theta and deviation
 pub record Given (parameters : Parameters) (fit : Fit) : Type 0 where
@@ -150,7 +150,7 @@ module _ (setup : Setup) (counts : List ℕ) (observations : List Observation) w
     by_closed None = refuses w.tally 16 _
     by_closed (Some m) = both (λ (e : Ended). Says e.turned) (is_same_grid w.work rows) (both (λ (x : Worked Turned). Says x.value) _ tt (ends _ _)) (refuses w.tally 17 _)
 
-    by_wanted : (v : Wanted) → Says (served_by words fit counts p w.tally w.kept w.work w.warm w.results v).turned
+    by_wanted : (v : Request Pair) → Says (served_by words fit counts p w.tally w.kept w.work w.warm w.results v).turned
     unfolding served_by at_mode at_point Says
     by_wanted (Wants.Point eta) = by_recall eta _
     by_wanted Wants.Mode = by_closed (B.closed_by fit p rows)
@@ -195,7 +195,7 @@ module _ (setup : Setup) (counts : List ℕ) (observations : List Observation) w
     unfolding N.enter N.enter_objective
     objectives parameters = both (Leaves h.whole.kept) _ (same 19 At.Nowhere) (both (Leaves h.whole.kept) _ (when_admitted_lem _ _ (begun parameters)) (same 19 At.Nowhere))
 
-    at_wanted_lem : (n : ℕ) (go : Pair → Moved (Held words) Step) → ((eta : Pair) → Leaves h.whole.kept (go eta)) → (v : Wanted)
+    at_wanted_lem : (n : ℕ) (go : Pair → Moved (Held words) Step) → ((eta : Pair) → Leaves h.whole.kept (go eta)) → (v : Request Pair)
         → Leaves h.whole.kept (N.at_wanted words setup counts n (N.all_checked setup counts observations) h go v)
     unfolding N.at_wanted
     at_wanted_lem n go f (Wants.Point eta) = when_admitted_lem (go eta) _ (f eta)

@@ -29,8 +29,6 @@ use Rattle.search.specs.declared.Place.TheVariants as At
 use Rattle.search.specs.declared.Progress.{Progress}
 use Rattle.search.specs.declared.Step.{Step}
 use Rattle.search.specs.declared.Step.TheVariants as Answers
-use Rattle.search.specs.declared.Wanted.{Wanted}
-use Rattle.search.specs.declared.Wanted.TheVariants as Wants
 use Rattle.search.proofs.Fits.{fit_effects, fit_most}
 use Rattle.machine.specs.Machine.{Moved, on, halt, Ran, onward, loop}
 use Rattle.population.specs.Kept.{Recalled, words}
@@ -40,6 +38,8 @@ use Rattle.session_theorems.proofs.Lengths.{zeros_length, move_rows_length, reca
 use Rattle.session_theorems.proofs.Remaining.{Goes, Numbered, LeftBy, stands, points, refusals, begins}
 use Rattle.session_theorems.proofs.Standing.{advanced_alike}
 use Rattle.core.specs.declared.ops.ControlFlow.TheVariants.{Break, Continue}
+use Rattle.mode.specs.declared.Request.{Request}
+use Rattle.mode.specs.declared.Request.TheVariants as Wants
 
 -- ---- any loop: `Going n` says that at most n turns are left, this one counted, and `Answered` is what every turn that halts gives
 module _ {State Answer : Type 0} (turn : State → Moved State Answer) (Going : ℕ → State → Type 0) (Answered : Answer → State → Type 0) where
@@ -262,7 +262,7 @@ module _ (N : ℕ → Type 0) (Refuses : ℕ → Place → ℕ → Type 0) (setu
     closed (Some m) = both Ends (is_same_grid w.work rows) (next m _ _) (refused_ends 17 _ _ _ (tells.mode 17 _ (omega arith) (omega arith)))
 
     -- ---- every request
-    serves : (v : Wanted) → Goes a.left Fewer v → Numbered N v
+    serves : (v : Request Pair) → Goes a.left Fewer v → Numbered N v
         → Ends (served_by words fit counts p w.tally w.kept w.work w.warm w.results v)
     unfolding served_by at_point at_mode Numbered
     serves (Wants.Point eta) s i = by_recall eta (advances eta s) _ (λ r q. recalled_length _ _ rows w.work (block rows 3) _ r q)

@@ -33,8 +33,6 @@ use Rattle.search.specs.declared.Place.TheVariants as At
 use Rattle.search.specs.declared.Progress.{Progress}
 use Rattle.search.specs.declared.Step.{Step}
 use Rattle.search.specs.declared.Step.TheVariants as Answers
-use Rattle.search.specs.declared.Wanted.{Wanted}
-use Rattle.search.specs.declared.Wanted.TheVariants as Wants
 use Rattle.search.proofs.Fits.{fit_effects, fit_k}
 use Rattle.machine.specs.Machine.{Moved, on, halt, onward, loop}
 use Rattle.population.specs.Kept.{words, order_rows}
@@ -53,6 +51,8 @@ use Rattle.subject.specs.declared.EvaluationError.TheVariants as E
 use Rattle.setup.specs.declared.AdmissionError.TheVariants as A
 use Rattle.subject.specs.Observations.{Check}
 use Rattle.setup.specs.declared.Counts.{Counts}
+use Rattle.mode.specs.declared.Request.{Request}
+use Rattle.mode.specs.declared.Request.TheVariants as Wants
 
 -- ---- 1 to 5: accepted only with 4,096 subjects at most
 unfoldable pub Judged : ℕ → Admission → Type 0
@@ -146,7 +146,7 @@ endings most c = record {
 abbrev pub Stood : Setup → List ℕ → Progress → Type 0
 Stood setup counts p = (p.subject < length counts) × StandsBy (eqb setup.effects 2) 6343 p
 
-abbrev pub wanted_at : Setup → Held words → Wanted
+abbrev pub wanted_at : Setup → Held words → Request Pair
 wanted_at setup u = B.wanted_by (B.fit_of setup u.parameters) u.whole.progress
 
 -- ---- a call on what is held as h
@@ -309,7 +309,7 @@ module _ (setup : Setup) (counts : List ℕ) (h : Held words) where
     unfolding S.when_awaited
     awaited go f = both Enters _ (cases Enters (standing words setup counts n h.whole) (λ t. at (like n t) (stood n t) _ refl) (λ g. nineteen)) nineteen
       where
-        at : Like h → Stood setup counts h.whole.progress → (v : Wanted) → wanted_at setup h ≡ v → Enters (S.at_wanted words setup counts n check h go v)
+        at : Like h → Stood setup counts h.whole.progress → (v : Request Pair) → wanted_at setup h ≡ v → Enters (S.at_wanted words setup counts n check h go v)
         at l s (Wants.Point eta) e = unfold S.at_wanted in admits _ _ (judged h.parameters) (λ q. f eta l s e)
         at l s Wants.Mode e = unfold S.at_wanted in nineteen
         at l s (Wants.Refused k) e = unfold S.at_wanted in nineteen

@@ -28,8 +28,6 @@ use Rattle.search.specs.declared.Place.{Place}
 use Rattle.search.specs.declared.Place.TheVariants as At
 use Rattle.search.specs.declared.Progress.{Progress}
 use Rattle.search.specs.declared.Step.{Step}
-use Rattle.search.specs.declared.Wanted.{Wanted}
-use Rattle.search.specs.declared.Wanted.TheVariants as Wants
 use Rattle.search.proofs.Fits.{fit_effects, fit_k, fit_bound}
 use Rattle.machine.specs.Lawful.{Enters}
 use Rattle.machine.specs.Lawful.Enters.{same, begins, replied, failed}
@@ -52,6 +50,8 @@ use Rattle.session_theorems.proofs.Stores.{Fine, Trusted}
 use Rattle.session_theorems.proofs.Turns.{key_fine, warm_of_fits}
 use Rattle.subject.specs.declared.EvaluationError.TheVariants as E
 use Rattle.setup.specs.declared.AdmissionError.TheVariants as A
+use Rattle.mode.specs.declared.Request.{Request}
+use Rattle.mode.specs.declared.Request.TheVariants as Wants
 
 -- the trial block is the last of four
 pub block_end : (rows : ℕ) → rows ≤ 100000 → block rows 3 + row_words * rows ≡ 12 * rows
@@ -137,7 +137,7 @@ module _ (S : Store) (setup : Setup) (counts : List ℕ) (observations : List Ob
         (λ t. both (Goes c h) (N.standing S setup counts (length observations) w) (when_admitted_lem _ _ (starts parameters t)) (unaltered 19 At.Nowhere))
 
     -- ---- a reply is awaited
-    at_wanted_lem : (go : Pair → Moved (Held S) Step) (v : Wanted) → ((eta : Pair) → v ≡ Wants.Point eta → Goes c h (go eta)) → Goes c h
+    at_wanted_lem : (go : Pair → Moved (Held S) Step) (v : Request Pair) → ((eta : Pair) → v ≡ Wants.Point eta → Goes c h (go eta)) → Goes c h
         (N.at_wanted S setup counts (length observations) (N.all_checked setup counts observations) h go v)
     unfolding N.at_wanted
     at_wanted_lem go (Wants.Point eta) f = when_admitted_lem (go eta) _ (λ e. f eta refl)
@@ -206,7 +206,7 @@ module _ (S : Store) (setup : Setup) (counts : List ℕ) (observations : List Ob
             record { first = k.0; second = k.1; finite = terms_finite sums (sums_fit trial words setup.width setup.effects setup.output_budget lists v.work sums d) finite }
 
         given_is : (Y.given (reply words) h).point ≡ I.conditional_of own eta sums
-        given_is = ap (λ (x : Wanted). I.conditional_of own (point_wanted x) (running_sums (finish ended.evaluation))) e ∙ ap (λ (x : Evaluation). I.conditional_of own eta (running_sums x)) d
+        given_is = ap (λ (x : Request Pair). I.conditional_of own (point_wanted x) (running_sums (finish ended.evaluation))) e ∙ ap (λ (x : Evaluation). I.conditional_of own eta (running_sums x)) d
 
         abbrev after : Progress
         after = (B.advance_by own r eta sums).progress

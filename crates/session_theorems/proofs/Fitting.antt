@@ -1,4 +1,5 @@
 -- The points that a search asks for are floats of the format, so that their bits tell them: where eta_bound and the warm start are. Assumes nothing.
+use Rattle.std.specs.Prelude.{Float}
 use mathlib.Core.Path.{◌≡◌, subst}
 use Prim.Native.Nat.{ℕ}
 use native.Mathlib.Omega.{arith}
@@ -17,8 +18,6 @@ use Rattle.mode.specs.declared.population_focei.Conditional.{Conditional}
 use Rattle.mode.specs.declared.population_focei.Stage.{Stage}
 use Rattle.mode.specs.declared.population_focei.Stage.TheVariants.{Grid, Warm, Secant, Halving}
 use Rattle.mode.specs.declared.population_focei.Search.{Search}
-use Rattle.mode.specs.declared.population_focei.Request.{Request}
-use Rattle.mode.specs.declared.population_focei.Request.TheVariants as One
 use Rattle.mode_2d.specs.Rules as R2
 use Rattle.mode_2d.specs.declared.population_focei_2d.Settings2.{Settings2}
 use Rattle.mode_2d.specs.declared.population_focei_2d.Conditional2.{Conditional2}
@@ -26,7 +25,9 @@ use Rattle.mode_2d.specs.declared.population_focei_2d.NewtonStep.{NewtonStep}
 use Rattle.mode_2d.specs.declared.population_focei_2d.Stage2.{Stage2}
 use Rattle.mode_2d.specs.declared.population_focei_2d.Stage2.TheVariants.{Zero, Start, Trial, Found, Halted}
 use Rattle.mode_2d.specs.declared.population_focei_2d.Search2.{Search2}
-use Rattle.mode_2d.specs.declared.population_focei_2d.Request2.TheVariants as Two
+use Rattle.mode.specs.declared.Request.{Request}
+use Rattle.mode.specs.declared.Request.TheVariants as One
+use Rattle.mode.specs.declared.Request.TheVariants as Two
 
 abbrev pub Fits : Float → Type 0
 Fits x = T (fits binary64 x)
@@ -43,7 +44,7 @@ pub zero_fits : FitsBoth (record { first = word 0; second = word 0 })
 zero_fits = record { first = of_bits-fits binary64 0; second = of_bits-fits binary64 0 }
 
 -- ---- one effect
-FitsPoint : Request → Type 0
+FitsPoint : Request Float → Type 0
 FitsPoint (One.Point x) = Fits x
 FitsPoint One.Mode = Unit
 FitsPoint (One.Refused n) = Unit

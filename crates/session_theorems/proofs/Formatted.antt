@@ -37,8 +37,6 @@ use Rattle.search.specs.declared.Place.TheVariants as At
 use Rattle.search.specs.declared.Progress.{Progress}
 use Rattle.search.specs.declared.Step.{Step}
 use Rattle.search.specs.declared.Tally.{Tally}
-use Rattle.search.specs.declared.Wanted.{Wanted}
-use Rattle.search.specs.declared.Wanted.TheVariants as Wants
 use Rattle.search.proofs.Fits.{fit_effects, fit_bound}
 use Rattle.machine.specs.Machine.{Moved, on}
 use Rattle.population.specs.Kept.{Recalled, words}
@@ -64,6 +62,8 @@ use Rattle.core.specs.declared.ops.ControlFlow.TheVariants.{Break, Continue}
 use Rattle.subject.specs.declared.EvaluationError.TheVariants as E
 use Rattle.setup.specs.declared.AdmissionError.TheVariants as A
 use Rattle.setup.specs.Admission.{Admission}
+use Rattle.mode.specs.declared.Request.{Request}
+use Rattle.mode.specs.declared.Request.TheVariants as Wants
 
 zero_fits : Fits (word 0)
 zero_fits = of_bits-fits binary64 0
@@ -206,7 +206,7 @@ module _ (setup : Setup) (counts : List ℕ) (observations : List Observation) (
   by_closed None = refuses w.tally 16 _
   by_closed (Some m) = both (λ (e : Ended). FitsTurned e.turned) (is_same_grid w.work rows) (next_ends m _) (refuses w.tally 17 _)
 
-  by_wanted : (v : Wanted) → B.wanted_by fit p ≡ v → FitsTurned (served_by words fit counts p w.tally w.kept w.work w.warm w.results v).turned
+  by_wanted : (v : Request Pair) → B.wanted_by fit p ≡ v → FitsTurned (served_by words fit counts p w.tally w.kept w.work w.warm w.results v).turned
   unfolding served_by at_mode at_point FitsTurned
   by_wanted (Wants.Point eta) e = by_recall eta (point_fits eta e) _
   by_wanted Wants.Mode e = by_closed (B.closed_by fit p rows)
@@ -235,7 +235,7 @@ module _ (setup : Setup) (counts : List ℕ) (observations : List Observation) (
   unfolding N.begun After
   begun_fits parameters f = record { parameters = f; progress = begins _ _ _ _ _ _ zero_fits zero_fits }
 
-  at_wanted_lem : (go : Pair → Moved (Held words) Step) (v : Wanted) → ((eta : Pair) → v ≡ Wants.Point eta → After Formatted (go eta)) → (n : ℕ) → After Formatted
+  at_wanted_lem : (go : Pair → Moved (Held words) Step) (v : Request Pair) → ((eta : Pair) → v ≡ Wants.Point eta → After Formatted (go eta)) → (n : ℕ) → After Formatted
       (N.at_wanted words setup counts n (N.all_checked setup counts observations) h go v)
   unfolding N.at_wanted
   at_wanted_lem go (Wants.Point eta) f n = when_admitted_lem (go eta) _ (f eta refl)

@@ -26,8 +26,6 @@ use Rattle.search.specs.declared.Fit.{Fit}
 use Rattle.search.specs.declared.Place.{Place}
 use Rattle.search.specs.declared.Step.{Step}
 use Rattle.search.specs.declared.Step.TheVariants as Answers
-use Rattle.search.specs.declared.Wanted.{Wanted}
-use Rattle.search.specs.declared.Wanted.TheVariants as Wants
 use Rattle.machine.specs.Machine.{Moved, on, Machine, call, Act, run}
 use Rattle.machine.specs.Observed.{View}
 use Rattle.population.specs.Kept.{words}
@@ -54,6 +52,8 @@ use Rattle.subject.specs.declared.EvaluationError.TheVariants as E
 use Rattle.setup.specs.declared.AdmissionError.TheVariants as A
 use Rattle.subject.specs.Observations.{Check}
 use Rattle.setup.specs.declared.Counts.{Counts}
+use Rattle.mode.specs.declared.Request.{Request}
+use Rattle.mode.specs.declared.Request.TheVariants as Wants
 
 -- ---- the numbers of 1 to 5
 unfoldable pub NumberOther : Admission → Type 0
@@ -166,7 +166,7 @@ module _ (setup : Setup) (counts : List ℕ) (observations : List Observation) (
     unfolding N.when_awaited
     awaited t go = pick_yes _ _ _ t ∙ pick_yes _ _ _ placed ∙ at (B.wanted_by (B.fit_of setup h.parameters) h.whole.progress) (s.waiting t).eta (s.waiting t).wants
       where
-        at : (v : Wanted) (eta : Pair) → v ≡ Wants.Point eta → N.at_wanted words setup counts n check h go v ≡ go (point_wanted v)
+        at : (v : Request Pair) (eta : Pair) → v ≡ Wants.Point eta → N.at_wanted words setup counts n check h go v ≡ go (point_wanted v)
         at (Wants.Point x) eta e = unfold N.at_wanted N.when_admitted in ap (N.when_admitted words h (go x)) accepted
         at Wants.Mode eta e = absurd (let z : ◌≡◌ {A = ℕ} 0 1 = cc in omega arith)
         at (Wants.Refused k) eta e = absurd (let z : ◌≡◌ {A = ℕ} 0 1 = cc in omega arith)

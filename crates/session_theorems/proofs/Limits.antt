@@ -1,4 +1,5 @@
 -- A search stays within the limits that 19 holds a state's search to, whatever evaluations it is given, and the number that it ends with is below 19. Assumes nothing.
+use Rattle.std.specs.Prelude.{Float}
 use mathlib.Core.Path.{◌≡◌, refl, ◌∙◌}
 use mathlib.Core.Bool.{true}
 use mathlib.Core.Logic.{◌⊎◌, inl, inr}
@@ -15,7 +16,6 @@ use Rattle.mode.specs.declared.population_focei.Conditional.{Conditional}
 use Rattle.mode.specs.declared.population_focei.Stage.{Stage}
 use Rattle.mode.specs.declared.population_focei.Stage.TheVariants.{Grid, Warm, Secant, Halving}
 use Rattle.mode.specs.declared.population_focei.Search.{Search}
-use Rattle.mode.specs.declared.population_focei.Request.{Request}
 use Rattle.mode_2d.specs.Rules as R2
 use Rattle.mode_2d.specs.declared.population_focei_2d.Settings2.{Settings2}
 use Rattle.mode_2d.specs.declared.population_focei_2d.Conditional2.{Conditional2}
@@ -26,10 +26,10 @@ use Rattle.mode_2d.specs.declared.population_focei_2d.Search2.{Search2}
 use Rattle.search.specs.Subjects as B
 use Rattle.search.specs.declared.Fit.{Fit}
 use Rattle.search.specs.declared.Progress.{Progress}
-use Rattle.search.specs.declared.Wanted.{Wanted}
-use Rattle.search.specs.declared.Wanted.TheVariants as Wants
 use Rattle.session.specs.Session.{count_within, search_within, search_within2}
 use Rattle.session_theorems.proofs.Plain.{Not19, before_19, one_not_19}
+use Rattle.mode.specs.declared.Request.{Request}
+use Rattle.mode.specs.declared.Request.TheVariants as Wants
 
 -- ---- one effect
 abbrev pub Within : Search → Type 0
@@ -143,12 +143,12 @@ pub advance_within2 : (s : Settings2) (x : Search2) (c : Conditional2) → Withi
 advance_within2 s x c w = advance_at2 x.stage s x c w
 
 -- ---- what a search wants: a refusal's number is not 19
-unfoldable pub Other : Wanted → Type 0
+unfoldable pub Other : Request Pair → Type 0
 Other (Wants.Point eta) = Unit
 Other Wants.Mode = Unit
 Other (Wants.Refused n) = Not19 n
 
-abbrev Other1 : Request → Type 0
+abbrev Other1 : Request Float → Type 0
 Other1 q = Other (B.wants1 q)
 
 other1 : (stage : Stage) (s : Settings) (x : Search) → Other1 (request_at stage s x)

@@ -1,5 +1,5 @@
 -- What a mode's words, settings and trials are in a session, with one effect and with two: what `Tells` asks of a reading. Assumes nothing.
-use Rattle.std.specs.Prelude.{None, Option, Some}
+use Rattle.std.specs.Prelude.{None, Option, Some, Float}
 use mathlib.Core.Path.{◌≡◌, refl, sym, ap, subst, ◌∙◌}
 use mathlib.Core.Bool.{false}
 use mathlib.Core.List.{List, [], ◌∷◌, ◌++◌}
@@ -23,13 +23,9 @@ use Rattle.likelihood.specs.Terms.{log2pi}
 use Rattle.mode.specs.Rules.{eta_tolerance, request, advance}
 use Rattle.mode.specs.declared.population_focei.Settings.{Settings}
 use Rattle.mode.specs.declared.population_focei.Conditional.{Conditional}
-use Rattle.mode.specs.declared.population_focei.Request.{Request}
-use Rattle.mode.specs.declared.population_focei.Request.TheVariants as One
 use Rattle.mode_2d.specs.Rules as R2
 use Rattle.mode_2d.specs.declared.population_focei_2d.Settings2.{Settings2}
 use Rattle.mode_2d.specs.declared.population_focei_2d.Conditional2.{Conditional2}
-use Rattle.mode_2d.specs.declared.population_focei_2d.Request2.{Request2}
-use Rattle.mode_2d.specs.declared.population_focei_2d.Request2.TheVariants as Two
 use Rattle.subject.specs.declared.Sums.{Sums}
 use Rattle.setup.specs.Admission.{is_no_omega, is_none, omega_of, with_parameters}
 use Rattle.setup.specs.declared.Setup.{Setup}
@@ -40,7 +36,6 @@ use Rattle.search.specs.declared.Advanced.{Advanced}
 use Rattle.search.specs.declared.Fit.{Fit}
 use Rattle.search.specs.declared.Mode.{Mode}
 use Rattle.search.specs.declared.Progress.{Progress}
-use Rattle.search.specs.declared.Wanted.TheVariants as Wants
 use Rattle.search.proofs.Fits.{fit_effects}
 use Rattle.machine.specs.Rules.{Trial}
 use Rattle.population.specs.Population.{warm_of, warm_stored}
@@ -55,6 +50,10 @@ use Rattle.session_theorems.proofs.Results.{past_two}
 use Rattle.session_theorems.proofs.Searches.{one_not_two, wanted_one, point_one, is_two, wanted_two, point_two}
 use Rattle.session_theorems.proofs.Trials.{Has, NthHas, nth_so, SameBlocks, Moves, Movable, Trial1, Carried1, begun1, same1, movable1, step1, end1, Trial2, Carried2, begun2, same2, movable2}
 use Rattle.session_theorems.proofs.Trials.{step2, end2}
+use Rattle.mode.specs.declared.Request.{Request}
+use Rattle.mode.specs.declared.Request.TheVariants as One
+use Rattle.mode.specs.declared.Request.TheVariants as Two
+use Rattle.mode.specs.declared.Request.TheVariants as Wants
 
 module _ (I : Inner) (L : Reads I) where
   pub record OfMode (m : Mode) (b : I.rules.Conditional) : Type 0 where
@@ -142,7 +141,7 @@ module _ (fit : Fit) (e : fit.effects ≡ 1) where
   unfolding B.advance_by
   advance_one p eta sums = pick_no _ _ _ (one_not_two fit e)
 
-mode_one_lem : (q : Request) → B.wants1 q ≡ Wants.Mode → q ≡ One.Mode
+mode_one_lem : (q : Request Float) → B.wants1 q ≡ Wants.Mode → q ≡ One.Mode
 mode_one_lem (One.Point x) e = let z : ◌≡◌ {A = ℕ} 0 1 = cc in absurd (omega arith)
 mode_one_lem One.Mode e = refl
 mode_one_lem (One.Refused n) e = let z : ◌≡◌ {A = ℕ} 0 1 = cc in absurd (omega arith)
@@ -272,7 +271,7 @@ module _ (fit : Fit) (e : fit.effects ≡ 2) where
   unfolding B.advance_by
   advance_two p eta sums = pick_yes _ _ _ (is_two fit e)
 
-mode_two_lem : (q : Request2) → B.wants2 q ≡ Wants.Mode → q ≡ Two.Mode
+mode_two_lem : (q : Request Pair) → B.wants2 q ≡ Wants.Mode → q ≡ Two.Mode
 mode_two_lem (Two.Point x) e = let z : ◌≡◌ {A = ℕ} 0 1 = cc in absurd (omega arith)
 mode_two_lem Two.Mode e = refl
 mode_two_lem (Two.Refused n) e = let z : ◌≡◌ {A = ℕ} 0 1 = cc in absurd (omega arith)

@@ -36,8 +36,6 @@ use Rattle.search.specs.declared.Progress.{Progress}
 use Rattle.search.specs.declared.Step.{Step}
 use Rattle.search.specs.declared.Step.TheVariants as Answers
 use Rattle.search.specs.declared.Tally.{Tally}
-use Rattle.search.specs.declared.Wanted.{Wanted}
-use Rattle.search.specs.declared.Wanted.TheVariants as Wants
 use Rattle.machine.specs.Machine.{Moved}
 use Rattle.population.specs.Kept.{Recalled, words, order_rows}
 use Rattle.population.specs.Population.{rows_of, take as takes, answered, at_point, Worked, next_subject, raised, Ended, ended, closing, at_mode, served_by, served, turned, Whole, whole_of, moved, turn, Turned}
@@ -56,6 +54,8 @@ use Rattle.core.specs.declared.ops.ControlFlow.TheVariants.{Break, Continue}
 use Rattle.subject.specs.declared.EvaluationError.TheVariants as E
 use Rattle.setup.specs.declared.AdmissionError.TheVariants as A
 use Rattle.subject.specs.Observations.{Check}
+use Rattle.mode.specs.declared.Request.{Request}
+use Rattle.mode.specs.declared.Request.TheVariants as Wants
 
 -- ---- the observations of the subjects before one
 before_rest : (count : ℕ) (rest : List ℕ) (i : ℕ) → before (count ∷ rest) (suc i) ≡ count + before rest i
@@ -268,7 +268,7 @@ module _ (setup : Setup) (counts : List ℕ) (observations : List Observation) (
         (refused_ends 17 (before_19 (omega arith)) _ _ a)
 
     -- ---- every request
-    by_wanted : (v : Wanted) → Other v → Ends (served_by words fit counts p w.tally w.kept w.work w.warm w.results v)
+    by_wanted : (v : Request Pair) → Other v → Ends (served_by words fit counts p w.tally w.kept w.work w.warm w.results v)
     unfolding served_by at_mode Other
     by_wanted (Wants.Point eta) l = at_point_lem eta
     by_wanted Wants.Mode l = by_closed (B.closed_by fit p rows)
@@ -311,7 +311,7 @@ module _ (setup : Setup) (counts : List ℕ) (observations : List Observation) (
     objective_going n check parameters =
         both (After Going) _ (unaltered_going 19 At.Nowhere) (both (After Going) _ (when_admitted_lem _ _ (begun_going parameters)) (unaltered_going 19 At.Nowhere))
 
-    at_wanted_lem : (n : ℕ) (check : Check) (go : Pair → Moved (Held words) Step) → ((eta : Pair) → After Going (go eta)) → (v : Wanted) → After Going (N.at_wanted words setup counts n check h go v)
+    at_wanted_lem : (n : ℕ) (check : Check) (go : Pair → Moved (Held words) Step) → ((eta : Pair) → After Going (go eta)) → (v : Request Pair) → After Going (N.at_wanted words setup counts n check h go v)
     unfolding N.at_wanted
     at_wanted_lem n check go f (Wants.Point eta) = when_admitted_lem (go eta) _ (f eta)
     at_wanted_lem n check go f Wants.Mode = unaltered_going 19 _

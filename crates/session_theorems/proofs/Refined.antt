@@ -33,8 +33,6 @@ use Rattle.search.specs.declared.Tally.{Tally}
 use Rattle.search.specs.declared.Progress.{Progress}
 use Rattle.search.specs.declared.Step.{Step}
 use Rattle.search.specs.declared.Place.{Place}
-use Rattle.search.specs.declared.Wanted.{Wanted}
-use Rattle.search.specs.declared.Wanted.TheVariants as Wants
 use Rattle.search.proofs.Fits.{fit_k}
 use Rattle.machine.specs.Log.{Every, none as no-entry, more}
 use Rattle.machine.specs.Machine.{Moved, on, halt, Ran, onward, loop, Machine, call, run, set}
@@ -63,6 +61,8 @@ use Rattle.subject.specs.declared.EvaluationError.TheVariants as E
 use Rattle.setup.specs.declared.AdmissionError.TheVariants as A
 use Rattle.subject.specs.Observations.{Check}
 use Rattle.setup.specs.declared.Counts.{Counts}
+use Rattle.mode.specs.declared.Request.{Request}
+use Rattle.mode.specs.declared.Request.TheVariants as Wants
 
 -- ---- one key, one entry
 entry_of_lem : (P : Entry → Type 0) (key : CacheKey) (l : List Entry) (x : Entry) → Every P l → lookup key l ≡ Some x → P x × (x.key ≡ key)
@@ -226,7 +226,7 @@ module _ (setup : Setup) (counts : List ℕ) (observations : List Observation) (
           (sym (fit_k setup parameters))
           (recall_same setup.k counts room c l st own (B.key_of fit p.subject eta) rows work (block rows 3) (ap (rows_of counts) (sym (subject_of fit p.subject eta))) lent_rows)
 
-      served_by_lem : (v : Wanted) → served_by words fit counts p tally c work warm results v ≡ served_by entries fit counts p tally l work warm results v
+      served_by_lem : (v : Request Pair) → served_by words fit counts p tally c work warm results v ≡ served_by entries fit counts p tally l work warm results v
       unfolding served_by at_point
       served_by_lem (Wants.Point eta) = ap (λ (o : Option Recalled). let x = answered fit rows p tally eta work o in ended x.value x.work warm results) (recalls eta)
       served_by_lem Wants.Mode = refl
@@ -289,7 +289,7 @@ module _ (setup : Setup) (counts : List ℕ) (observations : List Observation) (
           pick_both setup.k counts p.awaits (unaltered 19 _)
           (pick_alike setup.k counts stands_alike (admitted_both q _ _ (both_on (record { is = alike q _ tally c l work warm results st; own = own }))) (unaltered 19 _))
 
-      at_wanted_lem : (x : Pair → Moved (Held words) Step) (y : Pair → Moved (Held entries) Step) (v : Wanted) → ((eta : Pair) → v ≡ Wants.Point eta → Pair' (x eta) (y eta)) → Pair'
+      at_wanted_lem : (x : Pair → Moved (Held words) Step) (y : Pair → Moved (Held entries) Step) (v : Request Pair) → ((eta : Pair) → v ≡ Wants.Point eta → Pair' (x eta) (y eta)) → Pair'
           (N.at_wanted words setup counts (length observations) (N.all_checked setup counts observations) h x v) (N.at_wanted entries setup counts (length observations)
           (N.all_checked setup counts observations) g y v)
       unfolding N.at_wanted

@@ -33,8 +33,6 @@ use Rattle.search.specs.declared.Place.TheVariants as At
 use Rattle.search.specs.declared.Step.{Step}
 use Rattle.search.specs.declared.Step.TheVariants as Answers
 use Rattle.search.specs.declared.Tally.{Tally}
-use Rattle.search.specs.declared.Wanted.{Wanted}
-use Rattle.search.specs.declared.Wanted.TheVariants as Wants
 use Rattle.machine.specs.Machine.{Moved, Ran, ran, onward, call}
 use Rattle.population.specs.Kept.{words, order_rows}
 use Rattle.population.specs.Population.{rows_of}
@@ -62,6 +60,8 @@ use Rattle.session_theorems.proofs.Entered.{Answers_with}
 use Rattle.session_theorems.proofs.Evaluated.{work_length}
 use Rattle.session_theorems.proofs.Remaining.{lifts, placed}
 use Rattle.setup.specs.declared.AdmissionError.TheVariants as A
+use Rattle.mode.specs.declared.Request.{Request}
+use Rattle.mode.specs.declared.Request.TheVariants as Wants
 
 -- ---- numbers
 unaltered_yes : (n : ℕ) → AltersNothing n → is_unaltered n ≡ true
@@ -273,7 +273,7 @@ module _ (setup : Setup) (counts : List ℕ) (observations : List Observation) (
       trial = trial_by setup s (rows_of counts s.progress.subject)
 
       -- for what the search wants
-      abbrev wanting : Wanted → Out
+      abbrev wanting : Request Pair → Out
       wanting v = let w = awaited_for (fit_of setup s.parameters) judgement v in ends_as (admitted_over setup trial said w 0 (length observations) w.admission) s
 
       wanting_is : told_to (given s) ≡ wanting (awaited_point setup counts most_rows (fit_of setup s.parameters) s tally)
@@ -338,10 +338,10 @@ module _ (setup : Setup) (counts : List ℕ) (observations : List Observation) (
       point_wanted_lem eta =
           let never : Wants.Refused 19 ≡ Wants.Point eta → ⊥ = λ q. let z : ◌≡◌ {A = ℕ} 0 1 = cc in omega arith in
           let st = stands setup counts most_rows s tally in
-          let P : Wanted → Type 0 = λ (w : Wanted). w ≡ Wants.Point eta → (st ≡ true) × (wanted_at setup (h s) ≡ Wants.Point eta) in
+          let P : Request Pair → Type 0 = λ (w : Request Pair). w ≡ Wants.Point eta → (st ≡ true) × (wanted_at setup (h s) ≡ Wants.Point eta) in
           cases P s.progress.awaits (λ t. cases P st (λ i q. (i, q)) (λ f q. absurd (never q))) (λ f q. absurd (never q))
 
-      wanted_way : W.state_size ≤ length state → (v : Wanted) → awaited_point setup counts most_rows (fit_of setup s.parameters) s tally ≡ v → Way (wanting v)
+      wanted_way : W.state_size ≤ length state → (v : Request Pair) → awaited_point setup counts most_rows (fit_of setup s.parameters) s tally ≡ v → Way (wanting v)
       unfolding awaited_for
       wanted_way long (Wants.Point eta) e = let w = point_wanted_lem eta e in point_way long eta (like setup counts (h s) most_rows w.0) (stood setup counts (h s) most_rows w.0) w.1 judgement refl judged
       wanted_way long Wants.Mode e = refused_way long _ 19 (unheard (length counts))
@@ -397,7 +397,7 @@ module _ (setup : Setup) (counts : List ℕ) (observations : List Observation) (
   -- no reply is awaited, or the positions are not right
   unwanted : (said : List ℕ) (s : State) → awaited_point setup counts most_rows (fit_of setup s.parameters) s tally ≡ Wants.Refused 19 → (told_to said (given s)).told.done.number ≡ 19
   unfolding awaited_for admitted_over finish_reply when_admitted onward H.told H.number_of
-  unwanted said s e = ap (λ (o : Out). o.told.done.number) (wanting_is said s) ∙ ap (λ (v : Wanted). (wanting said s v).told.done.number) e
+  unwanted said s e = ap (λ (o : Out). o.told.done.number) (wanting_is said s) ∙ ap (λ (v : Request Pair). (wanting said s v).told.done.number) e
 
   subject_refused : (said : List ℕ) → ((s : State) → loaded_state state ≡ given s → awaited_point setup counts most_rows (fit_of setup s.parameters) s tally ≡ Wants.Refused 19)
       → (l : Answer State) → loaded_state state ≡ l → (told_to said l).told.done.number ≡ 19
@@ -415,7 +415,7 @@ module _ (setup : Setup) (counts : List ℕ) (observations : List Observation) (
 
     unpointed : (s : State) → loaded_state state ≡ given s → awaited_point setup counts most_rows (fit_of setup s.parameters) s tally ≡ Wants.Refused 19
     unfolding awaited_point
-    unpointed s e = both (λ (v : Wanted). v ≡ Wants.Refused 19) _ (pick_no _ _ _ (wrong _ s e)) refl
+    unpointed s e = both (λ (v : Request Pair). v ≡ Wants.Refused 19) _ (pick_no _ _ _ (wrong _ s e)) refl
 
     nineteen : (x : Exported) → (x ≡ opens → ⊥) → (does all x).told.done.number ≡ 19
     unfolding call_over subject_reply_over finish_with

@@ -1,4 +1,5 @@
 -- How many points a search may still ask for, from any position that 19 lets pass and whatever its floats, and which numbers it may end with. Assumes nothing.
+use Rattle.std.specs.Prelude.{Float}
 use mathlib.Core.Path.{◌≡◌, refl, sym, ◌∙◌}
 use mathlib.Core.Bool.{Bool, true, false}
 use mathlib.Core.List.{List}
@@ -14,8 +15,6 @@ use Rattle.matrix.specs.Matrix.{Inverse, some, none, inverse_positive}
 use Rattle.matrix.specs.declared.Pair.{Pair}
 use Rattle.mode.specs.Rules.{request_at, request, advance, start}
 use Rattle.mode.specs.declared.population_focei.Conditional.{Conditional}
-use Rattle.mode.specs.declared.population_focei.Request.{Request}
-use Rattle.mode.specs.declared.population_focei.Request.TheVariants as One
 use Rattle.mode.specs.declared.population_focei.Search.{Search}
 use Rattle.mode.specs.declared.population_focei.Settings.{Settings}
 use Rattle.mode.specs.declared.population_focei.Stage.{Stage}
@@ -34,26 +33,27 @@ use Rattle.subject.specs.declared.Sums.{Sums}
 use Rattle.search.specs.Subjects as B
 use Rattle.search.specs.declared.Fit.{Fit}
 use Rattle.search.specs.declared.Progress.{Progress}
-use Rattle.search.specs.declared.Wanted.{Wanted}
-use Rattle.search.specs.declared.Wanted.TheVariants as Wants
 use Rattle.population.specs.Population.{rows_of}
 use Rattle.session.specs.Session.{count_within, search_within, search_within2, is_placed}
 use Rattle.setup.proofs.Bounds.{not_first}
 use Rattle.session_theorems.proofs.FirstSearch.{first_one, first_two}
 use Rattle.session_theorems.proofs.Plain.{false_not_true, only_first}
+use Rattle.mode.specs.declared.Request.{Request}
+use Rattle.mode.specs.declared.Request.TheVariants as One
+use Rattle.mode.specs.declared.Request.TheVariants as Wants
 
 -- ---- what a search wants: for a point one of the m that are left goes, and A holds then; N is asked of a refusal's number
-unfoldable pub Goes : ℕ → Type 0 → Wanted → Type 0
+unfoldable pub Goes : ℕ → Type 0 → Request Pair → Type 0
 Goes m A (Wants.Point eta) = (1 ≤ m) × A
 Goes m A Wants.Mode = Unit
 Goes m A (Wants.Refused n) = Unit
 
-unfoldable pub Numbered : (ℕ → Type 0) → Wanted → Type 0
+unfoldable pub Numbered : (ℕ → Type 0) → Request Pair → Type 0
 Numbered N (Wants.Point eta) = Unit
 Numbered N Wants.Mode = Unit
 Numbered N (Wants.Refused n) = N n
 
-goes_map : {A C : Type 0} (m : ℕ) → (A → C) → (v : Wanted) → Goes m A v → Goes m C v
+goes_map : {A C : Type 0} (m : ℕ) → (A → C) → (v : Request Pair) → Goes m A v → Goes m C v
 unfolding Goes
 goes_map m f (Wants.Point eta) g = (g.0, f g.1)
 goes_map m f Wants.Mode g = tt
@@ -70,13 +70,13 @@ one_within Halving i e = omega arith
 goes1 : (s : Settings) (x : Search) (m : ℕ) → RoomOf m x → Goes m ((c : Conditional) → RoomOf (m - 1) (advance s x c)) (B.wants1 (request s x))
 goes1 s x m r = by (request s x) (λ p. (room_pos x.stage s x m r p, λ c. room_step x.stage s x c m r p))
   where
-    by : {A : Type 0} (q : Request) → (T (is_point q) → (1 ≤ m) × A) → Goes m A (B.wants1 q)
+    by : {A : Type 0} (q : Request Float) → (T (is_point q) → (1 ≤ m) × A) → Goes m A (B.wants1 q)
     by (One.Point eta) f = unfold Goes in f tt
     by One.Mode f = unfold Goes in tt
     by (One.Refused n) f = unfold Goes in tt
 
 module _ (N : ℕ → Type 0) (known : (n : ℕ) → 13 ≤ n → n ≤ 16 → N n) where
-  abbrev Known : Request → Type 0
+  abbrev Known : Request Float → Type 0
   Known q = Numbered N (B.wants1 q)
 
   numbered1 : (st : Stage) (s : Settings) (x : Search) → Numbered N (B.wants1 (request_at st s x))

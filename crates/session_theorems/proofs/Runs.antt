@@ -1,5 +1,6 @@
 -- Every search of every session is a run of the source's `mode` (specs/Runs.antt): demand 3 with what the source's run says in the place of
 -- what is claimed of a mode and of a refusal. Assumes nothing.
+use Rattle.std.specs.Prelude.{Float}
 use mathlib.Core.Path.{◌≡◌, refl, sym, ap, ◌∙◌, subst}
 use mathlib.Core.List.{List, [], ◌∷◌, map}
 use Prim.Native.Nat.{ℕ, zero, suc}
@@ -7,13 +8,9 @@ use lib.ListN.{take}
 use Rattle.mode.specs.declared.population_focei.Settings.{Settings}
 use Rattle.mode.specs.declared.population_focei.Conditional as C
 use Rattle.mode.specs.declared.population_focei.Search.{Search}
-use Rattle.mode.specs.declared.population_focei.Request.{Request}
-use Rattle.mode.specs.declared.population_focei.Request.TheVariants as One
 use Rattle.mode.specs.Rules.{request}
 use Rattle.mode_2d.specs.declared.population_focei_2d.Settings2.{Settings2}
 use Rattle.mode_2d.specs.declared.population_focei_2d.Conditional2.{Conditional2}
-use Rattle.mode_2d.specs.declared.population_focei_2d.Request2.{Request2}
-use Rattle.mode_2d.specs.declared.population_focei_2d.Request2.TheVariants as Two
 use Rattle.mode_2d.specs.Rules as R2
 use Rattle.mode_theorems.specs.Histories.{Answered}
 use Rattle.mode_theorems.specs.History as H1
@@ -28,8 +25,6 @@ use Rattle.source.proofs.One.{one_effect}
 use Rattle.source.proofs.Tells.{asked_of}
 use Rattle.source.proofs.Two.{two_effects}
 use Rattle.setup.specs.declared.Setup.{Setup}
-use Rattle.search.specs.declared.Wanted.{Wanted}
-use Rattle.search.specs.declared.Wanted.TheVariants as Wants
 use Rattle.search.specs.Subjects as B
 use Rattle.machine.specs.Log.{Every, none, more, Searched, history, Waits, Holds}
 use Rattle.machine.specs.Rules.{Rules, Claims, Proved, Follows, after, wanted, point, mode, refusal}
@@ -38,6 +33,11 @@ use Rattle.session_theorems.specs.Inner.{Inner, inner1, inner2, wants1, wants2}
 use Rattle.session_theorems.specs.Runs.{Original, lift, original1, original2, IsRun, Waiting, AllRuns, EveryRun}
 use Rattle.session_theorems.proofs.Searches.{Suits, suits1, suits2, wants_of}
 use Rattle.session_theorems.proofs.Session.{for_words}
+use Rattle.mode.specs.declared.Request.{Request}
+use Rattle.matrix.specs.declared.Pair.{Pair}
+use Rattle.mode.specs.declared.Request.TheVariants as One
+use Rattle.mode.specs.declared.Request.TheVariants as Two
+use Rattle.mode.specs.declared.Request.TheVariants as Wants
 
 -- what a run says where the rules want this, and have this best point
 tell : {P A : Type 0} → Rules.Wanted P → A → Said P A
@@ -73,7 +73,7 @@ module _ (I : Inner) (O : Original I.rules) where
     conditional_of = I.conditional_of;
   }
 
-  wants_same : (w : Wanted) → wants_of as_run w ≡ wants_of I w
+  wants_same : (w : Request Pair) → wants_of as_run w ≡ wants_of I w
   wants_same (Wants.Point eta) = refl
   wants_same Wants.Mode = refl
   wants_same (Wants.Refused number) = refl
@@ -149,7 +149,7 @@ numbers zero s x h f = tt
 numbers (suc n) s x [] f = tt
 numbers (suc n) s x (c ∷ h) f = (f.0.score_number, numbers n s _ h f.1)
 
-tells1 : (q : Request) (m : K1.Told) → map_said (λ (m : K1.Told). m.0) (K1.told_by q m) ≡ tell (wants1 q) m.0
+tells1 : (q : Request Float) (m : K1.Told) → map_said (λ (m : K1.Told). m.0) (K1.told_by q m) ≡ tell (wants1 q) m.0
 unfolding map_said K1.told_by tell
 tells1 (One.Point p) m = refl
 tells1 One.Mode m = refl
@@ -177,7 +177,7 @@ speaks1 : Speaks inner1 original1
 speaks1 = record { path = asked1; same = says1 }
 
 -- ---- two effects
-tells2 : (q : Request2) (m : Conditional2 × Conditional2) → map_said (λ (m : Conditional2 × Conditional2). m.0) (K2.told_by q m) ≡ tell (wants2 q) m.0
+tells2 : (q : Request Pair) (m : Conditional2 × Conditional2) → map_said (λ (m : Conditional2 × Conditional2). m.0) (K2.told_by q m) ≡ tell (wants2 q) m.0
 unfolding map_said K2.told_by tell
 tells2 (Two.Point p) m = refl
 tells2 Two.Mode m = refl

@@ -1,4 +1,5 @@
 -- A subject's search within an objective is a search of the rules, with one effect and with two: what `Suits` asks of an `Inner`. Assumes nothing.
+use Rattle.std.specs.Prelude.{Float}
 use mathlib.Core.Path.{◌≡◌, refl, sym, ap, subst, ◌∙◌}
 use mathlib.Core.Bool.{Bool, true, false}
 use Prim.Native.Nat.{ℕ, suc, ◌+◌, ◌*◌, ◌≤◌, ◌<◌}
@@ -13,12 +14,8 @@ use Rattle.float64.specs.Pick.{cases, pick_yes, pick_no}
 use Rattle.matrix.specs.declared.Pair.{Pair}
 use Rattle.mode.specs.Rules.{request, start}
 use Rattle.mode.specs.declared.population_focei.Search.{Search}
-use Rattle.mode.specs.declared.population_focei.Request.{Request}
-use Rattle.mode.specs.declared.population_focei.Request.TheVariants as One
 use Rattle.mode_2d.specs.Rules as R2
-use Rattle.mode_2d.specs.declared.population_focei_2d.Request2.{Request2}
 use Rattle.mode_2d.specs.declared.population_focei_2d.Search2.{Search2}
-use Rattle.mode_2d.specs.declared.population_focei_2d.Request2.TheVariants as Two
 use Rattle.mode_theorems.specs.History as H1
 use Rattle.mode_theorems.specs.History2 as H2
 use Rattle.mode_theorems.proofs.Found.{one_search}
@@ -29,8 +26,6 @@ use Rattle.search.specs.Subjects as B
 use Rattle.search.specs.declared.Advanced.{Advanced}
 use Rattle.search.specs.declared.Fit.{Fit}
 use Rattle.search.specs.declared.Progress.{Progress}
-use Rattle.search.specs.declared.Wanted.{Wanted}
-use Rattle.search.specs.declared.Wanted.TheVariants as Wants
 use Rattle.machine.specs.Rules.{Rules, Proved, point, mode, refusal, wanted, after}
 use Rattle.machine.specs.Rules as Rules
 use Rattle.session_theorems.proofs.FirstSearch.{first_one, first_two}
@@ -42,9 +37,13 @@ use Rattle.setup.specs.declared.Setup.{Setup}
 use Rattle.session_theorems.proofs.Domains.{domain1, domain2}
 use Rattle.session_theorems.proofs.Fitting.{Fits, FitsBoth, zero_fits, point_fits, TrialFits, start_fits, advance_fits, point2_fits}
 use Rattle.session_theorems.proofs.Points.{Passed, prior_number, edge_number}
+use Rattle.mode.specs.declared.Request.{Request}
+use Rattle.mode.specs.declared.Request.TheVariants as One
+use Rattle.mode.specs.declared.Request.TheVariants as Two
+use Rattle.mode.specs.declared.Request.TheVariants as Wants
 
 -- what the session's answer says in the rules' own terms
-abbrev pub wants_of : (I : Inner) → Wanted → Rules.Wanted I.rules.Point
+abbrev pub wants_of : (I : Inner) → Request Pair → Rules.Wanted I.rules.Point
 wants_of I (Wants.Point eta) = point (I.point_of eta)
 wants_of I Wants.Mode = mode
 wants_of I (Wants.Refused number) = refusal number
@@ -98,12 +97,12 @@ module _ (fit : Fit) (e : fit.effects ≡ 1) where
   unfolding B.wanted_by B.wanted1
   wanted_one p = pick_no _ _ _ one_not_two
 
-wants_one : (q : Request) → wants_of inner1 (B.wants1 q) ≡ wants1 q
+wants_one : (q : Request Float) → wants_of inner1 (B.wants1 q) ≡ wants1 q
 wants_one (One.Point eta) = refl
 wants_one One.Mode = refl
 wants_one (One.Refused n) = refl
 
-pub point_one : (q : Request) (eta : Pair) → B.wants1 q ≡ Wants.Point eta → (q ≡ One.Point eta.first) × (record { first = eta.first; second = word 0 } ≡ eta)
+pub point_one : (q : Request Float) (eta : Pair) → B.wants1 q ≡ Wants.Point eta → (q ≡ One.Point eta.first) × (record { first = eta.first; second = word 0 } ≡ eta)
 point_one (One.Point x) eta e = (cc, cc)
 point_one One.Mode eta e = no_number cc
 point_one (One.Refused n) eta e = no_number cc
@@ -121,17 +120,17 @@ proved1 = record {
   };
 }
   where
-    few_by : (q : Request) (p : Float) → wants1 q ≡ point p → {n : ℕ} → n + H1.asks q ≤ 82 → n < 82
+    few_by : (q : Request Float) (p : Float) → wants1 q ≡ point p → {n : ℕ} → n + H1.asks q ≤ 82 → n < 82
     few_by (One.Point x) p w l = omega (arith, l)
     few_by One.Mode p w l = no_number cc
     few_by (One.Refused k) p w l = no_number cc
 
-    refusal_by : (q : Request) (n : ℕ) → wants1 q ≡ refusal n → q ≡ One.Refused n
+    refusal_by : (q : Request Float) (n : ℕ) → wants1 q ≡ refusal n → q ≡ One.Refused n
     refusal_by (One.Point x) n w = no_number cc
     refusal_by One.Mode n w = no_number cc
     refusal_by (One.Refused k) n w = cc
 
-    mode_by : (q : Request) → wants1 q ≡ mode → q ≡ One.Mode
+    mode_by : (q : Request Float) → wants1 q ≡ mode → q ≡ One.Mode
     mode_by (One.Point x) w = no_number cc
     mode_by One.Mode w = refl
     mode_by (One.Refused k) w = no_number cc
@@ -173,12 +172,12 @@ module _ (fit : Fit) (e : fit.effects ≡ 2) where
   unfolding B.wanted_by B.wanted2
   wanted_two p = pick_yes _ _ _ is_two
 
-wants_two : (q : Request2) → wants_of inner2 (B.wants2 q) ≡ wants2 q
+wants_two : (q : Request Pair) → wants_of inner2 (B.wants2 q) ≡ wants2 q
 wants_two (Two.Point eta) = refl
 wants_two Two.Mode = refl
 wants_two (Two.Refused n) = refl
 
-pub point_two : (q : Request2) (eta : Pair) → B.wants2 q ≡ Wants.Point eta → q ≡ Two.Point eta
+pub point_two : (q : Request Pair) (eta : Pair) → B.wants2 q ≡ Wants.Point eta → q ≡ Two.Point eta
 point_two (Two.Point x) eta e = cc
 point_two Two.Mode eta e = no_number cc
 point_two (Two.Refused n) eta e = no_number cc
@@ -196,17 +195,17 @@ proved2 = record {
   };
 }
   where
-    few_by : (q : Request2) (p : Pair) → wants2 q ≡ point p → {n : ℕ} → n + H2.asks q ≤ 6343 → n < 6343
+    few_by : (q : Request Pair) (p : Pair) → wants2 q ≡ point p → {n : ℕ} → n + H2.asks q ≤ 6343 → n < 6343
     few_by (Two.Point x) p w l = omega (arith, l)
     few_by Two.Mode p w l = no_number cc
     few_by (Two.Refused k) p w l = no_number cc
 
-    refusal_by : (q : Request2) (n : ℕ) → wants2 q ≡ refusal n → q ≡ Two.Refused n
+    refusal_by : (q : Request Pair) (n : ℕ) → wants2 q ≡ refusal n → q ≡ Two.Refused n
     refusal_by (Two.Point x) n w = no_number cc
     refusal_by Two.Mode n w = no_number cc
     refusal_by (Two.Refused k) n w = cc
 
-    mode_by : (q : Request2) → wants2 q ≡ mode → q ≡ Two.Mode
+    mode_by : (q : Request Pair) → wants2 q ≡ mode → q ≡ Two.Mode
     mode_by (Two.Point x) w = no_number cc
     mode_by Two.Mode w = refl
     mode_by (Two.Refused k) w = no_number cc

@@ -19,7 +19,6 @@ use Rattle.search.specs.declared.Advanced.{Advanced}
 use Rattle.search.specs.declared.Tally.{Tally}
 use Rattle.search.specs.declared.Fit.{Fit}
 use Rattle.search.specs.declared.Progress.{Progress}
-use Rattle.search.specs.declared.Wanted.TheVariants as Wants
 use Rattle.population.specs.Kept.{Recalled, Store}
 use Rattle.population.specs.Population.{rows_of, whole_of}
 use Rattle.session.specs.Session.{Held, held}
@@ -29,6 +28,7 @@ use Rattle.session_theorems.proofs.Lengths.{AsLong}
 use Rattle.session_theorems.proofs.Points.{Passed}
 use Rattle.session_theorems.proofs.Searches.{Suits}
 use Rattle.session_theorems.proofs.Stores.{Trusted}
+use Rattle.mode.specs.declared.Request.TheVariants as Wants
 
 -- ---- a search that goes on stays with its subject
 pub record Alike (p q : Progress) : Type 0 where

@@ -25,8 +25,6 @@ use Rattle.search.specs.declared.Fit.{Fit}
 use Rattle.search.specs.declared.Progress.{Progress}
 use Rattle.search.specs.declared.Tally.{Tally}
 use Rattle.search.specs.Subjects.{fit_of, wanted_by}
-use Rattle.search.specs.declared.Wanted.{Wanted}
-use Rattle.search.specs.declared.Wanted.TheVariants as Wants
 use Rattle.population.specs.Kept.{words, order_rows}
 use Rattle.population.specs.Population.{rows_of}
 use Rattle.session.specs.Calls.{lent_by, stands, awaited_point, awaited_for, trial_by, admit_awaited, admitted_over, admit_reply}
@@ -46,6 +44,9 @@ use Rattle.session_theorems.proofs.LetIn.{let_in}
 use Rattle.session_theorems.proofs.Plain.{false_not_true, only_first}
 use Rattle.session_theorems.proofs.SubjectChecks.{IsSound, part_sound, Passed, passed, count_in, subject_passes}
 use Rattle.setup.specs.declared.AdmissionError.TheVariants as A
+use Rattle.mode.specs.declared.Request.{Request}
+use Rattle.matrix.specs.declared.Pair.{Pair}
+use Rattle.mode.specs.declared.Request.TheVariants as Wants
 
 -- where the answer is not that of a test that fails, the test held
 -- ---- 19: the positions are right among all observations, and so among the most that there can be
@@ -76,7 +77,7 @@ unfolding awaited_point
 same_point setup counts n m fit s tally a b =
     let wanted = wanted_by fit s.progress in
     let at : (b : Bool) → b ≡ true → pick b wanted (Wants.Refused 19) ≡ wanted = λ b t. pick_yes b wanted (Wants.Refused 19) t in
-    ap (λ (w : Wanted). pick s.progress.awaits w (Wants.Refused 19)) (at _ a ∙ sym (at _ b))
+    ap (λ (w : Request Pair). pick s.progress.awaits w (Wants.Refused 19)) (at _ a ∙ sym (at _ b))
 
 -- ---- the whole of it
 module _ (setup : Setup) (counts : List ℕ) (observations : List Observation) (tally : Tally) (state answer cache work warm results : List ℕ) (said : List ℕ) (s : State)

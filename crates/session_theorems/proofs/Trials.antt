@@ -22,7 +22,6 @@ use Rattle.mode.specs.declared.population_focei.Conditional.{Conditional}
 use Rattle.mode.specs.declared.population_focei.Stage.{Stage}
 use Rattle.mode.specs.declared.population_focei.Stage.TheVariants.{Grid, Warm, Secant, Halving}
 use Rattle.mode.specs.declared.population_focei.Search.{Search}
-use Rattle.mode.specs.declared.population_focei.Request.TheVariants as One
 use Rattle.mode_2d.specs.Rules as R2
 use Rattle.mode_2d.specs.declared.population_focei_2d.Settings2.{Settings2}
 use Rattle.mode_2d.specs.declared.population_focei_2d.Conditional2.{Conditional2}
@@ -30,7 +29,6 @@ use Rattle.mode_2d.specs.declared.population_focei_2d.NewtonStep.{NewtonStep}
 use Rattle.mode_2d.specs.declared.population_focei_2d.Stage2.{Stage2}
 use Rattle.mode_2d.specs.declared.population_focei_2d.Stage2.TheVariants as S2
 use Rattle.mode_2d.specs.declared.population_focei_2d.Search2.{Search2}
-use Rattle.mode_2d.specs.declared.population_focei_2d.Request2.TheVariants as Two
 use Rattle.work.specs.declared.Sources.{Sources}
 use Rattle.search.specs.Subjects as B
 use Rattle.machine.specs.Rules.{Rules, Trial}
@@ -38,6 +36,8 @@ use Rattle.session_theorems.specs.Inner.{rules1, rules2}
 use Rattle.session_theorems.specs.Shown.{Nth}
 use Rattle.session_theorems.proofs.Blocks.{From, stays, later, from_most}
 use Rattle.session_theorems.proofs.Plain.{split}
+use Rattle.mode.specs.declared.Request.TheVariants as One
+use Rattle.mode.specs.declared.Request.TheVariants as Two
 
 -- ---- trials and their rows
 module _ (R : Rules) where

@@ -31,8 +31,6 @@ use Rattle.search.specs.declared.Progress.{Progress}
 use Rattle.search.specs.declared.Step.{Step}
 use Rattle.search.specs.declared.Step.TheVariants as Answers
 use Rattle.search.specs.declared.Halted.{Halted}
-use Rattle.search.specs.declared.Wanted.{Wanted}
-use Rattle.search.specs.declared.Wanted.TheVariants as Wants
 use Rattle.search.specs.declared.Mode.{Mode}
 use Rattle.search.proofs.Fits.{fit_effects, fit_k, fit_most, fit_bound}
 use Rattle.cache.specs.declared.CacheKey.{CacheKey}
@@ -55,6 +53,8 @@ use Rattle.session_theorems.proofs.Searches.{Suits, wants_of}
 use Rattle.session_theorems.proofs.Standing.{Alike, advanced_alike, recall_of, Standing, still}
 use Rattle.session_theorems.proofs.Stores.{Fine, Trusted}
 use Rattle.core.specs.declared.ops.ControlFlow.TheVariants.{Break, Continue}
+use Rattle.mode.specs.declared.Request.{Request}
+use Rattle.mode.specs.declared.Request.TheVariants as Wants
 
 -- ---- the bits of a point tell it
 pub key_fine : (fit : Fit) (subject : ℕ) (eta : Pair) (effects : ℕ) → fit.effects ≡ effects → FitsBoth eta
@@ -139,7 +139,7 @@ module _ (S : Store) (setup : Setup) (counts : List ℕ) (observations : List Ob
     domain : I.claims.Domain (I.settings_of fit p)
     domain = Q.domain setup h.parameters p refl bound s.omega_in s.shape_in s.warm_fits
 
-    wants_is : (v : Wanted) → B.wanted_by fit p ≡ v → wanted_at I.rules M Y h ≡ wants_of I v
+    wants_is : (v : Request Pair) → B.wanted_by fit p ≡ v → wanted_at I.rules M Y h ≡ wants_of I v
     wants_is v e = sym (Q.wants fit p effects_are) ∙ ap (wants_of I) e
 
     -- what a turn makes of the end of a request
@@ -354,7 +354,7 @@ module _ (S : Store) (setup : Setup) (counts : List ℕ) (observations : List Ob
         s.limit refl
 
     -- ---- every request
-    by_wanted : (v : Wanted) → B.wanted_by fit p ≡ v → Goes h (close_turn (served_by S fit counts p w.tally w.kept w.work w.warm w.results v))
+    by_wanted : (v : Request Pair) → B.wanted_by fit p ≡ v → Goes h (close_turn (served_by S fit counts p w.tally w.kept w.work w.warm w.results v))
     by_wanted (Wants.Point eta) e = at_point_lem eta e
     by_wanted Wants.Mode e = at_mode_lem e
     by_wanted (Wants.Refused n) e = at_refusal n e

@@ -31,8 +31,6 @@ use Rattle.search.specs.declared.Progress.{Progress}
 use Rattle.search.specs.declared.Step.{Step}
 use Rattle.search.specs.declared.Step.TheVariants as Answers
 use Rattle.search.specs.declared.Tally.{Tally}
-use Rattle.search.specs.declared.Wanted.{Wanted}
-use Rattle.search.specs.declared.Wanted.TheVariants as Wants
 use Rattle.search.proofs.Fits.{fit_effects}
 use Rattle.machine.specs.Machine.{Moved, on, halt, Ran, onward, loop, call, run}
 use Rattle.population.specs.Kept.{Recalled, words}
@@ -56,6 +54,8 @@ use Rattle.subject.specs.declared.EvaluationError.TheVariants as E
 use Rattle.setup.specs.declared.AdmissionError.TheVariants as A
 use Rattle.subject.specs.Subject.{Evaluation}
 use Rattle.setup.specs.Admission.{Admission}
+use Rattle.mode.specs.declared.Request.{Request}
+use Rattle.mode.specs.declared.Request.TheVariants as Wants
 
 -- ---- the warm start of subject j is stored, and those of the later ones stay
 warm_past : (effects j : ℕ) (eta : Pair) (warm : List ℕ) (x : ℕ) → (effects ≡ 1) ⊎ (effects ≡ 2) → effects * suc j ≤ x → get_or (warm_stored effects j eta warm) x 0 ≡ get_or warm x 0
@@ -245,7 +245,7 @@ module _ (setup : Setup) (counts : List ℕ) where
       by_closed None = refuses w.tally 16
       by_closed (Some m) = both (λ (e : Ended). Ends e.turned e.warm e.results) (is_same_grid w.work rows) (next m) (at_17 m)
 
-      by_wanted : (v : Wanted) → let e = served_by words fit counts p w.tally w.kept w.work w.warm w.results v in Ends e.turned e.warm e.results
+      by_wanted : (v : Request Pair) → let e = served_by words fit counts p w.tally w.kept w.work w.warm w.results v in Ends e.turned e.warm e.results
       unfolding served_by at_mode at_point
       by_wanted (Wants.Point eta) = by_recall eta _
       by_wanted Wants.Mode = by_closed (B.closed_by fit p rows)
@@ -313,7 +313,7 @@ module _ (setup : Setup) (counts : List ℕ) where
     replied f eta work (Err (E.Refused n)) = over n _
     replied f eta work (Err (E.RefusedAt n i)) = over n _
 
-    at_wanted_lem : (n : ℕ) (go : Pair → Moved (Held words) Step) → ((eta : Pair) → Enters (go eta)) → (v : Wanted)
+    at_wanted_lem : (n : ℕ) (go : Pair → Moved (Held words) Step) → ((eta : Pair) → Enters (go eta)) → (v : Request Pair)
         → Enters (N.at_wanted words setup counts n (N.all_checked setup counts observations) h go v)
     unfolding N.at_wanted
     at_wanted_lem n go f (Wants.Point eta) = when_admitted_lem (go eta) _ (f eta)

@@ -44,8 +44,6 @@ use Rattle.search.specs.declared.Progress.{Progress}
 use Rattle.search.specs.declared.Step.{Step}
 use Rattle.session.specs.declared.State.{State}
 use Rattle.search.specs.declared.Tally.{Tally}
-use Rattle.search.specs.declared.Wanted.{Wanted}
-use Rattle.search.specs.declared.Wanted.TheVariants as Wants
 use Rattle.search.proofs.Fits.{fit_effects}
 use Rattle.machine.specs.Log.{Searched}
 use Rattle.machine.specs.Machine.{Moved, on, Machine, Act}
@@ -79,6 +77,8 @@ use Rattle.core.specs.declared.ops.ControlFlow.TheVariants.{Break, Continue}
 use Rattle.subject.specs.declared.EvaluationError.TheVariants as E
 use Rattle.setup.specs.declared.AdmissionError.TheVariants as A
 use Rattle.setup.specs.Admission.{Admission}
+use Rattle.mode.specs.declared.Request.{Request}
+use Rattle.mode.specs.declared.Request.TheVariants as Wants
 
 -- the sums so far
 abbrev value_of : Progress → Summed
@@ -384,7 +384,7 @@ module _ (setup : Setup) (counts : List ℕ) (observations : List Observation) (
         let o = X.modes fit p rows m effects_are q in
         both (λ (e : Ended). Writes e.warm e.results) (is_same_grid w.work rows) (writes_all m o) (writes_warm m o)
 
-    by_wanted : (v : Wanted) → let e = served_by words fit counts p w.tally w.kept w.work w.warm w.results v in Writes e.warm e.results
+    by_wanted : (v : Request Pair) → let e = served_by words fit counts p w.tally w.kept w.work w.warm w.results v in Writes e.warm e.results
     unfolding served_by at_mode
     by_wanted (Wants.Point eta) = nothing
     by_wanted Wants.Mode = by_closed (B.closed_by fit p rows) refl
@@ -456,7 +456,7 @@ module _ (setup : Setup) (counts : List ℕ) (observations : List Observation) (
         cases (λ (x : Ended). Ends h (close_turn x)) (is_same_grid w.work rows) (next_or_end m o wants q)
         (λ e. refuses 17 (At.Subject p.subject) w.work (stored m o) w.results (λ k r x i. inr (inl (r, apart m o wants x i _ _ _ e))))
 
-    turn_ends : (v : Wanted) → B.wanted_by fit p ≡ v → wants_of I v ≡ mode → Ends h (close_turn (served_by words fit counts p w.tally w.kept w.work w.warm w.results v))
+    turn_ends : (v : Request Pair) → B.wanted_by fit p ≡ v → wants_of I v ≡ mode → Ends h (close_turn (served_by words fit counts p w.tally w.kept w.work w.warm w.results v))
     unfolding served_by at_mode
     turn_ends (Wants.Point eta) q e = absurd (let z : ◌≡◌ {A = ℕ} 0 1 = cc in omega arith)
     turn_ends Wants.Mode q e = mode_ends q (B.closed_by fit p rows) refl
@@ -541,7 +541,7 @@ module _ (setup : Setup) (counts : List ℕ) (observations : List Observation) (
         goes_on_carries eta (B.sums_of r.terms) wants r.work (recalled_length w.kept.words fit.k rows w.work (block rows 3) f r q)
         (recalled_behind w.kept.words fit.k rows w.work (block rows 3) f r q) (Y.kept h (I.point_of eta)) is own
 
-    turn_carries : (v : Wanted) → B.wanted_by fit p ≡ v → (y : I.rules.Point) → wants_of I v ≡ point y → Got h (Y.kept h y)
+    turn_carries : (v : Request Pair) → B.wanted_by fit p ≡ v → (y : I.rules.Point) → wants_of I v ≡ point y → Got h (Y.kept h y)
         (close_turn (served_by words fit counts p w.tally w.kept w.work w.warm w.results v))
     unfolding served_by at_point
     turn_carries (Wants.Point eta) q y e =
@@ -579,7 +579,7 @@ module _ (setup : Setup) (counts : List ℕ) (observations : List Observation) (
     replied_kept eta work (Err (E.Refused n)) = over_kept n _
     replied_kept eta work (Err (E.RefusedAt n i)) = over_kept n _
 
-    at_wanted_lem : (n : ℕ) (go : Pair → Moved (Held words) Step) → ((eta : Pair) → After (Kept h) (go eta)) → (v : Wanted) → After (Kept h)
+    at_wanted_lem : (n : ℕ) (go : Pair → Moved (Held words) Step) → ((eta : Pair) → After (Kept h) (go eta)) → (v : Request Pair) → After (Kept h)
         (N.at_wanted words setup counts n (N.all_checked setup counts observations) h go v)
     unfolding N.at_wanted
     at_wanted_lem n go f (Wants.Point eta) = when_admitted_lem (go eta) _ (f eta)
@@ -612,7 +612,7 @@ module _ (setup : Setup) (counts : List ℕ) (observations : List Observation) (
     unfolding Carried N.over B.idle B.with_search
     over_carries u number place t = absurd (subst T (sym t) tt)
 
-    wanted_carries : (u : Trial I.rules) (n : ℕ) (go : Pair → Moved (Held words) Step) (v : Wanted) → ((eta : Pair) → v ≡ Wants.Point eta → Got h u (go eta)) → Got h u
+    wanted_carries : (u : Trial I.rules) (n : ℕ) (go : Pair → Moved (Held words) Step) (v : Request Pair) → ((eta : Pair) → v ≡ Wants.Point eta → Got h u (go eta)) → Got h u
         (N.at_wanted words setup counts n (N.all_checked setup counts observations) h go v)
     unfolding N.at_wanted
     wanted_carries u n go (Wants.Point eta) f = admitted_carries u (go eta) _ (f eta refl)
@@ -650,7 +650,7 @@ module _ (setup : Setup) (counts : List ℕ) (observations : List Observation) (
       unfolding Carried N.replied receive takes
       replied_carries (Ok sums) d =
           let t = Y.given (reply said) h in
-          let is : t.point ≡ I.conditional_of fit eta sums = ap (λ (x : Wanted). I.conditional_of fit (point_wanted x) (running_sums (finish end.evaluation))) wants ∙ ap
+          let is : t.point ≡ I.conditional_of fit eta sums = ap (λ (x : Request Pair). I.conditional_of fit (point_wanted x) (running_sums (finish end.evaluation))) wants ∙ ap
           (λ (x : Evaluation). I.conditional_of fit eta (running_sums x)) d in
           let own : t.rows ≡ rows_in rows end.work 3 = sym (words_are (rows_length rows) (block rows 3) end.work t.rows
           (reply_length setup.width setup.effects said lists ∙ ap (λ (n : ℕ). row_words * n) all_there ∙ sym len_is)

@@ -6,14 +6,10 @@ use Rattle.mode.specs.Rules.{start, request, advance}
 use Rattle.mode.specs.declared.population_focei.Settings.{Settings}
 use Rattle.mode.specs.declared.population_focei.Conditional.{Conditional}
 use Rattle.mode.specs.declared.population_focei.Search.{Search}
-use Rattle.mode.specs.declared.population_focei.Request.{Request}
-use Rattle.mode.specs.declared.population_focei.Request.TheVariants as One
 use Rattle.mode_2d.specs.Rules as R2
 use Rattle.mode_2d.specs.declared.population_focei_2d.Settings2.{Settings2}
 use Rattle.mode_2d.specs.declared.population_focei_2d.Conditional2.{Conditional2}
 use Rattle.mode_2d.specs.declared.population_focei_2d.Search2.{Search2}
-use Rattle.mode_2d.specs.declared.population_focei_2d.Request2.{Request2}
-use Rattle.mode_2d.specs.declared.population_focei_2d.Request2.TheVariants as Two
 use Rattle.mode_theorems.specs.History as H1
 use Rattle.mode_theorems.specs.Claim.{Found, AtBound, Several, Unsettled}
 use Rattle.mode_theorems.specs.Claim as C1
@@ -33,8 +29,6 @@ use Rattle.search.specs.declared.Fit.{Fit}
 use Rattle.search.specs.declared.Progress.{Progress}
 use Rattle.search.specs.declared.Step.{Step}
 use Rattle.search.specs.declared.Step.TheVariants as Answer
-use Rattle.search.specs.declared.Wanted.{Wanted}
-use Rattle.search.specs.declared.Wanted.TheVariants as Wants
 use Rattle.machine.specs.Rules.{Rules, Claims, point, mode, refusal}
 use Rattle.machine.specs.Rules as Rules
 use Rattle.machine.specs.Observed.{Meaning, asked, finished, refused, View}
@@ -42,10 +36,14 @@ use Rattle.population.specs.Kept.{Recalled, Store}
 use Rattle.population.specs.Population.{rows_of}
 use Rattle.session.specs.Session.{Held, Call, objective, reply, failure, evaluated, session}
 use Rattle.subject.specs.declared.EvaluationError.TheVariants as E
+use Rattle.mode.specs.declared.Request.{Request}
+use Rattle.mode.specs.declared.Request.TheVariants as One
+use Rattle.mode.specs.declared.Request.TheVariants as Two
+use Rattle.mode.specs.declared.Request.TheVariants as Wants
 
 -- ---- one effect
 
-abbrev pub wants1 : Request → Rules.Wanted Float
+abbrev pub wants1 : Request Float → Rules.Wanted Float
 wants1 (One.Point eta) = point eta
 wants1 One.Mode = mode
 wants1 (One.Refused number) = refusal number
@@ -54,7 +52,7 @@ abbrev pub rules1 : Rules
 rules1 = record {
   Settings = Settings;
   Search = Search;
-  Request = Request;
+  Request Float = Request Float;
   Point = Float;
   Conditional = Conditional;
   start = start;
@@ -79,7 +77,7 @@ claims1 = record { Domain = H1.Domain; ceiling = C1.ceiling; Good = Found; Means
 
 -- ---- two effects
 
-abbrev pub wants2 : Request2 → Rules.Wanted Pair
+abbrev pub wants2 : Request Pair → Rules.Wanted Pair
 wants2 (Two.Point eta) = point eta
 wants2 Two.Mode = mode
 wants2 (Two.Refused number) = refusal number
@@ -88,7 +86,7 @@ abbrev pub rules2 : Rules
 rules2 = record {
   Settings = Settings2;
   Search = Search2;
-  Request = Request2;
+  Request Float = Request Pair;
   Point = Pair;
   Conditional = Conditional2;
   start = R2.start;
@@ -173,7 +171,7 @@ running_sums (Ok sums) = sums
 running_sums (Err (E.Refused number)) = no_sums
 running_sums (Err (E.RefusedAt number n)) = no_sums
 
-abbrev pub point_wanted : Wanted → Pair
+abbrev pub point_wanted : Request Pair → Pair
 point_wanted (Wants.Point eta) = eta
 point_wanted Wants.Mode = record { first = word 0; second = word 0 }
 point_wanted (Wants.Refused number) = record { first = word 0; second = word 0 }

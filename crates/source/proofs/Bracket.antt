@@ -1,4 +1,5 @@
 -- The stages after the grid. Assumes nothing.
+use Rattle.std.specs.Prelude.{Float}
 use mathlib.Core.Path.{◌≡◌, refl, sym, ap, ◌∙◌, subst}
 use mathlib.Core.Logic.{inl, inr}
 use mathlib.Core.Bool.{Bool, true, false, not, ◌&&◌, ◌||◌}
@@ -14,14 +15,14 @@ use Rattle.mode.specs.declared.population_focei.Settings.{Settings}
 use Rattle.mode.specs.declared.population_focei.Stage.{Stage}
 use Rattle.mode.specs.declared.population_focei.Stage.TheVariants.{Warm, Secant, Halving}
 use Rattle.mode.specs.declared.population_focei.Search.{Search}
-use Rattle.mode.specs.declared.population_focei.Request.{Request}
-use Rattle.mode.specs.declared.population_focei.Request.TheVariants.{Point, Mode, Refused}
 use Rattle.mode.specs.Rules as R
 use Rattle.search.specs.Subjects.{sources1, sources_at, bracket_sources}
 use Rattle.source.specs.Run.{Run, done, ask, stop, ◌>>=◌, ◌>>◌, err, Flow, next, break, turn, rounds, for, asks, found, refused}
 use Rattle.source.specs.Source.{Conditional, «1e-1», Bracket, narrow}
 use Rattle.source.specs.Claim.{bare, Blocks, from, moved, State, step, begin, led, told_by, told_at, told, view}
 use Rattle.source.proofs.Tells.{push, or_not, or_pick, led_push, Tells}
+use Rattle.mode.specs.declared.Request.{Request}
+use Rattle.mode.specs.declared.Request.TheVariants.{Point, Mode, Refused}
 
 -- ---- the source's tests and points
 abbrev pub settled_at : Settings → Bracket → Bool
@@ -117,7 +118,7 @@ module _ (s : Settings) (Fine : List Conditional → Conditional → Type 0) whe
   pub at_push : {g : List Conditional} {x y : State} (c : Conditional) → At g x → step s x c ≡ y → At (push g c) y
   at_push {g = g} c a e = record { leads = led_push (step s) begin g c ∙ ap (λ v. step s v c) a.leads ∙ e }
 
-  pub at_says : {g : List Conditional} {x : State} {q : Request} → At g x → R.request s x.search ≡ q → told s g ≡ told_by q (x.search.best, x.blocks.best, x.blocks.population)
+  pub at_says : {g : List Conditional} {x : State} {q : Request Float} → At g x → R.request s x.search ≡ q → told s g ≡ told_by q (x.search.best, x.blocks.best, x.blocks.population)
   at_says {x = x} a e = ap (told_at s) a.leads ∙ ap (λ v. told_by v (x.search.best, x.blocks.best, x.blocks.population)) e
 
   abbrev pub Ok : Tree → List Conditional → Type 0

@@ -6,7 +6,6 @@ use native.Mathlib.Omega.{arith}
 use lib.ListN.{length, take}
 use lib.Ieee.{Float}
 use Rattle.mode.specs.declared.population_focei.Settings.{Settings}
-use Rattle.mode.specs.declared.population_focei.Request.TheVariants.{Point}
 use Rattle.mode.specs.Rules as R
 use Rattle.mode_theorems.specs.Histories
 use Rattle.mode_theorems.specs.Histories.{Answered}
@@ -16,6 +15,7 @@ use Rattle.source.specs.Source.{Conditional, mode}
 use Rattle.source.specs.Claim.{Numbers, bare, State, step, begin, led, told_by, told, view, OneEffect}
 use Rattle.source.proofs.Tells.{push, led_push, length_push, AllFine, says, trodden}
 use Rattle.source.proofs.Screened.{Fine, tells}
+use Rattle.mode.specs.declared.Request.TheVariants.{Point}
 
 -- past the grid every answer will do
 past : (g h : List Conditional) → 17 ≤ length g → AllFine Fine g h

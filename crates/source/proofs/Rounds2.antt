@@ -21,14 +21,14 @@ use Rattle.mode_2d.specs.declared.population_focei_2d.Conditional2.{Conditional2
 use Rattle.mode_2d.specs.declared.population_focei_2d.NewtonStep.{NewtonStep}
 use Rattle.mode_2d.specs.declared.population_focei_2d.Stage2.TheVariants.{Halted}
 use Rattle.mode_2d.specs.declared.population_focei_2d.Search2.{Search2}
-use Rattle.mode_2d.specs.declared.population_focei_2d.Request2.{Request2}
-use Rattle.mode_2d.specs.declared.population_focei_2d.Request2.TheVariants.{Point, Refused}
 use Rattle.mode_2d.specs.Rules as R
 use Rattle.mode_theorems.specs.History2.{after}
 use Rattle.source.specs.Run.{Run, done, ◌>>=◌, ◌>>◌, err, Flow, next, break, turn, rounds, for, asks}
 use Rattle.source.specs.Source2.{of, vector, precision, ok_or, nowhere, scale_of, joint, subject, mode_from_seed}
 use Rattle.source.specs.Claim2.{told_by, told}
 use Rattle.source.proofs.Tells.{push, or_not, and_pick, or_pick, led_push, length_push, Tells}
+use Rattle.mode.specs.declared.Request.{Request}
+use Rattle.mode.specs.declared.Request.TheVariants.{Point, Refused}
 
 abbrev pub Tree : Type 0
 Tree = Run Pair Conditional2 (Conditional2 × Conditional2)
@@ -148,7 +148,7 @@ module _ (s : Settings2) where
       more : (n : ℕ) → 1 ≤ n → 1 ≤ n + 1
       more n h = omega arith
 
-  pub at_says : {g : List Conditional2} {x : Search2} {p : Conditional2} {q : Request2} → At g x p → R.request s x ≡ q → told s g ≡ told_by q (x.best, p)
+  pub at_says : {g : List Conditional2} {x : Search2} {p : Conditional2} {q : Request Pair} → At g x p → R.request s x ≡ q → told s g ≡ told_by q (x.best, p)
   at_says {g = g} {x = x} {p = p} a e =
       ap (λ v. told_by (R.request s v) (v.best, get_or g 0 nowhere)) a.leads ∙ ap (λ v. told_by (R.request s x) (x.best, v)) a.first ∙ ap (λ v. told_by v (x.best, p)) e
 

@@ -1,4 +1,5 @@
 -- The grid. Assumes nothing.
+use Rattle.std.specs.Prelude.{Float}
 use mathlib.Core.Path.{◌≡◌, refl, sym, ap, ap₂, ◌∙◌, subst}
 use mathlib.Core.Logic.{◌⊎◌, inl, inr}
 use mathlib.Core.Bool.{Bool, true, false, not, ◌&&◌, ◌||◌, true≢false}
@@ -18,8 +19,6 @@ use Rattle.mode.specs.declared.population_focei.Settings.{Settings}
 use Rattle.mode.specs.declared.population_focei.Conditional as C
 use Rattle.mode.specs.declared.population_focei.Stage.TheVariants.{Grid}
 use Rattle.mode.specs.declared.population_focei.Search.{Search}
-use Rattle.mode.specs.declared.population_focei.Request.{Request}
-use Rattle.mode.specs.declared.population_focei.Request.TheVariants.{Point, Refused}
 use Rattle.mode.specs.Rules as R
 use Rattle.mode_theorems.specs.Histories.{led_from}
 use Rattle.search.specs.Subjects.{sources1, sources_at, grid_sources}
@@ -31,6 +30,8 @@ use Rattle.source.specs.Source.{Conditional, at, nowhere, Pair, windows_from, wi
 use Rattle.source.specs.Claim.{bare, from, moved, State, step, begin, led, told_by, told}
 use Rattle.source.proofs.Tells.{push, or_not, led_push, length_push, Tells}
 use Rattle.source.proofs.Bracket.{Tree, warmed, in_stage, bare_pick, state_eq, at_says, Ok, enters}
+use Rattle.mode.specs.declared.Request.{Request}
+use Rattle.mode.specs.declared.Request.TheVariants.{Point, Refused}
 
 -- ---- lists with one more at their end
 last_from : Conditional → List Conditional → Conditional
@@ -320,7 +321,7 @@ module _ (s : Settings) where
   unfolding Tells ◌>>=◌
   passes b n r g e t = subst (λ v. Ok s Fine (v >>= λ u. r) g) (sym (pick_no b (stop n) (done tt) e)) t
 
-  told_at : (g : List Conditional) (y : State) (q : Request) → led s g ≡ y → R.request s y.search ≡ q → told s g ≡ told_by q (y.search.best, y.blocks.best, y.blocks.population)
+  told_at : (g : List Conditional) (y : State) (q : Request Float) → led s g ≡ y → R.request s y.search ≡ q → told s g ≡ told_by q (y.search.best, y.blocks.best, y.blocks.population)
   told_at g y q l e = at_says s Fine {g = g} {x = y} (record { leads = l }) e
 
   abbrev chose : State → State

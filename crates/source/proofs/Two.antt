@@ -18,7 +18,6 @@ use Rattle.mode_2d.specs.declared.population_focei_2d.Settings2.{Settings2}
 use Rattle.mode_2d.specs.declared.population_focei_2d.Conditional2.{Conditional2}
 use Rattle.mode_2d.specs.declared.population_focei_2d.Stage2.TheVariants.{Start, Found, Halted}
 use Rattle.mode_2d.specs.declared.population_focei_2d.Search2.{Search2}
-use Rattle.mode_2d.specs.declared.population_focei_2d.Request2.TheVariants.{Point, Mode, Refused}
 use Rattle.mode_2d.specs.Rules as R
 use Rattle.mode_theorems.specs.Histories.{led_from, Answered}
 use Rattle.mode_theorems.specs.History2.{after, FollowsFrom}
@@ -27,6 +26,7 @@ use Rattle.source.specs.Source2.{of, is_none_or, nowhere, unwrap, joint, subject
 use Rattle.source.specs.Claim2.{told_by, told, TwoEffects}
 use Rattle.source.proofs.Tells.{push, or_not, led_push, AllFine, Tells, says, trodden}
 use Rattle.source.proofs.Rounds2.{Tree, Fine, Ok, At, at_to, at_push, at_says, unresolved, unresolved_is, resolve, begins}
+use Rattle.mode.specs.declared.Request.TheVariants.{Point, Mode, Refused}
 
 abbrev is_far : Conditional2 → Conditional2 → Bool
 is_far c previous = lt (word 0x3f50_624d_d2f1_a9fc) (max (abs (c.eta.first -ᶠ previous.eta.first)) (abs (c.eta.second -ᶠ previous.eta.second)))

@@ -7,8 +7,6 @@ use Rattle.float64.specs.Pick.{pick}
 use Rattle.mode.specs.declared.population_focei.Settings.{Settings}
 use Rattle.mode.specs.declared.population_focei.Conditional as C
 use Rattle.mode.specs.declared.population_focei.Search.{Search}
-use Rattle.mode.specs.declared.population_focei.Request.{Request}
-use Rattle.mode.specs.declared.population_focei.Request.TheVariants.{Point, Mode, Refused}
 use Rattle.mode.specs.Rules.{request, advance, start}
 use Rattle.mode_theorems.specs.Histories.{led_from}
 use Rattle.mode_theorems.specs.History.{after, Follows}
@@ -16,6 +14,8 @@ use Rattle.work.specs.declared.Sources.{Sources}
 use Rattle.search.specs.Subjects.{sources1}
 use Rattle.source.specs.Run.{Said, asks, found, refused, said, play, Asked, AskedAt}
 use Rattle.source.specs.Source.{Conditional, mode}
+use Rattle.mode.specs.declared.Request.{Request}
+use Rattle.mode.specs.declared.Request.TheVariants.{Point, Mode, Refused}
 
 unfoldable pub Numbers : List Conditional → Type 0
 Numbers [] = Unit
@@ -52,7 +52,7 @@ abbrev pub led : Settings → List Conditional → State
 led s h = led_from (step s) begin h
 
 -- what the rules say
-unfoldable pub told_by : {A : Type 0} → Request → A → Said Float A
+unfoldable pub told_by : {A : Type 0} → Request Float → A → Said Float A
 told_by (Point p) m = asks p
 told_by Mode m = found m
 told_by (Refused n) m = refused n

@@ -4,14 +4,14 @@ use Rattle.std.specs.Prelude.{◌≡◌, List, get_or}
 use Rattle.matrix.specs.declared.Pair.{Pair}
 use Rattle.mode_2d.specs.declared.population_focei_2d.Settings2.{Settings2}
 use Rattle.mode_2d.specs.declared.population_focei_2d.Conditional2.{Conditional2}
-use Rattle.mode_2d.specs.declared.population_focei_2d.Request2.{Request2}
-use Rattle.mode_2d.specs.declared.population_focei_2d.Request2.TheVariants.{Point, Mode, Refused}
 use Rattle.mode_2d.specs.Rules.{request}
 use Rattle.mode_theorems.specs.History2.{after, Follows}
 use Rattle.source.specs.Run.{Said, asks, found, refused, said, play, Asked, AskedAt}
 use Rattle.source.specs.Source2.{mode, nowhere}
+use Rattle.mode.specs.declared.Request.{Request}
+use Rattle.mode.specs.declared.Request.TheVariants.{Point, Mode, Refused}
 
-unfoldable pub told_by : {A : Type 0} → Request2 → A → Said Pair A
+unfoldable pub told_by : {A : Type 0} → Request Pair → A → Said Pair A
 told_by (Point p) m = asks p
 told_by Mode m = found m
 told_by (Refused n) m = refused n

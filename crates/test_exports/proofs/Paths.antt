@@ -8,15 +8,16 @@ use Rattle.mode_2d.specs.Rules.{request, advance}
 use Rattle.mode_2d.specs.declared.population_focei_2d.Settings2.{Settings2}
 use Rattle.mode_2d.specs.declared.population_focei_2d.Conditional2.{Conditional2}
 use Rattle.mode_2d.specs.declared.population_focei_2d.Search2.{Search2}
-use Rattle.mode_2d.specs.declared.population_focei_2d.Request2.{Request2}
 use Rattle.state_words.specs.SearchWords2.{loaded, saved, answer}
 use Rattle.test_exports.specs.Mode2d.{requested, next, advanced, request_number, point_or}
+use Rattle.mode.specs.declared.Request.{Request}
+use Rattle.matrix.specs.declared.Pair.{Pair}
 
 -- the answer and the words, or the point, that go with what is loaded
 abbrev pub Told : ℕ → List ℕ → List ℕ → Answer (List ℕ) → Type 0
 Told number old written a = (number ≡ number_of a) × (written ≡ or_old old a)
 
-abbrev pub Asked : ℕ → List Float → List Float → Answer Request2 → Type 0
+abbrev pub Asked : ℕ → List Float → List Float → Answer (Request Pair) → Type 0
 Asked number old written a = (number ≡ request_number a) × (written ≡ point_or old a)
 
 module _ (words : List ℕ) {l : Option Search2} (load : answer l ≡ loaded words) where
@@ -32,7 +33,7 @@ module _ (words : List ℕ) {l : Option Search2} (load : answer l ≡ loaded wor
         let a = ap (through (next s c)) (found e) in
         (ap number_of a, w ∙ ap saved (q ∙ ap (λ (z : Settings2). advance z x d) settings ∙ ap (advance s x) p) ∙ ap (or_old old) a)
 
-    pub request_given : {x : Search2} {q : Request2} (old : List Float) → l ≡ Some x → q ≡ request r x → Asked (request_number (given q)) old (point_or old (given q)) (requested s words)
+    pub request_given : {x : Search2} {q : Request Pair} (old : List Float) → l ≡ Some x → q ≡ request r x → Asked (request_number (given q)) old (point_or old (given q)) (requested s words)
     unfolding requested through
     request_given {x = x} old e q =
         let a = ap given (q ∙ ap (λ (z : Settings2). request z x) settings) ∙ ap (through (request s)) (found e) in

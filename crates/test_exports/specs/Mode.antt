@@ -5,15 +5,15 @@ use Rattle.mode.specs.Rules.{request, advance}
 use Rattle.mode.specs.declared.population_focei.Settings.{Settings}
 use Rattle.mode.specs.declared.population_focei.Conditional.{Conditional}
 use Rattle.mode.specs.declared.population_focei.Search.{Search}
-use Rattle.mode.specs.declared.population_focei.Request.{Request}
-use Rattle.mode.specs.declared.population_focei.Request.TheVariants.{Point, Mode, Refused}
 use Rattle.state_words.specs.SearchWords.{loaded, saved}
+use Rattle.mode.specs.declared.Request.{Request}
+use Rattle.mode.specs.declared.Request.TheVariants.{Point, Mode, Refused}
 
 abbrev pub settings_of : Float → Float → Float → Float → Settings
 settings_of eta_bound omega tolerance warm = record { eta_bound = eta_bound; omega = omega; tolerance = tolerance; warm = warm }
 
 -- what is asked
-unfoldable pub requested : Settings → List ℕ → Answer Request
+unfoldable pub requested : Settings → List ℕ → Answer (Request Float)
 requested s words = through (request s) (loaded words)
 
 -- the words of the search with one more evaluated point
@@ -24,13 +24,13 @@ unfoldable pub advanced : Settings → List ℕ → Conditional → Answer (List
 advanced s words c = through (next s c) (loaded words)
 
 -- ---- what is answered and written
-unfoldable pub request_number : Answer Request → ℕ
+unfoldable pub request_number : Answer (Request Float) → ℕ
 request_number (given (Point p)) = 0
 request_number (given Mode) = 1
 request_number (given (Refused number)) = number
 request_number (refused number) = number
 
-unfoldable pub point_or : Float → Answer Request → Float
+unfoldable pub point_or : Float → Answer (Request Float) → Float
 point_or old (given (Point p)) = p
 point_or old (given Mode) = old
 point_or old (given (Refused number)) = old

@@ -6,9 +6,10 @@ use Rattle.mode_2d.specs.Rules.{vector, pair_of, request, advance}
 use Rattle.mode_2d.specs.declared.population_focei_2d.Settings2.{Settings2}
 use Rattle.mode_2d.specs.declared.population_focei_2d.Conditional2.{Conditional2}
 use Rattle.mode_2d.specs.declared.population_focei_2d.Search2.{Search2}
-use Rattle.mode_2d.specs.declared.population_focei_2d.Request2.{Request2}
-use Rattle.mode_2d.specs.declared.population_focei_2d.Request2.TheVariants.{Point, Mode, Refused}
 use Rattle.state_words.specs.SearchWords2.{loaded, saved}
+use Rattle.mode.specs.declared.Request.{Request}
+use Rattle.matrix.specs.declared.Pair.{Pair}
+use Rattle.mode.specs.declared.Request.TheVariants.{Point, Mode, Refused}
 
 -- ---- arrays as the rules' records
 unfoldable pub settings_of : Float → List (List Float) → List Float → Settings2
@@ -29,7 +30,7 @@ point_of eta nll score information =
     }
 
 -- what is asked
-unfoldable pub requested : Settings2 → List ℕ → Answer Request2
+unfoldable pub requested : Settings2 → List ℕ → Answer (Request Pair)
 requested s words = through (request s) (loaded words)
 
 -- the words of the search with one more evaluated point
@@ -40,13 +41,13 @@ unfoldable pub advanced : Settings2 → List ℕ → Conditional2 → Answer (Li
 advanced s words c = through (next s c) (loaded words)
 
 -- ---- what is answered and written
-unfoldable pub request_number : Answer Request2 → ℕ
+unfoldable pub request_number : Answer (Request Pair) → ℕ
 request_number (given (Point p)) = 0
 request_number (given Mode) = 1
 request_number (given (Refused number)) = number
 request_number (refused number) = number
 
-unfoldable pub point_or : List Float → Answer Request2 → List Float
+unfoldable pub point_or : List Float → Answer (Request Pair) → List Float
 point_or old (given (Point p)) = vector p
 point_or old (given Mode) = old
 point_or old (given (Refused number)) = old

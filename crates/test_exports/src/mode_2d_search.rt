@@ -7,7 +7,8 @@ ghost use Rattle.state_words.specs.SearchWords2.{saved};
 ghost use Rattle.test_exports.specs.Mode2d.{settings_of, point_of, requested, advanced, request_number, point_or};
 
 use super::evaluations::pair_of;
-use mode_2d::population_focei_2d::{Conditional2, Request2, Search2, Settings2};
+use mode::Request;
+use mode_2d::population_focei_2d::{Conditional2, Search2, Settings2};
 
 fn settings_of(eta_bound: f64, precision: [[f64; 2]; 2], warm: [f64; 2]) -> Settings2
     ensures { result ≡ settings_of eta_bound precision warm }
@@ -57,12 +58,12 @@ pub fn curlewstand_mode_2d_request(
         return 19;
     };
     match x.request(settings) {
-        Request2::Point(p) => {
+        Request::Point(p) => {
             *point = [p.first, p.second];
             0
         }
-        Request2::Mode => 1,
-        Request2::Refused(number) => number,
+        Request::Mode => 1,
+        Request::Refused(number) => number,
     }
 }
 
