@@ -111,7 +111,7 @@ pub fn parameters_of(parameters: SessionParameters) -> Parameters
 
 // ---- what a host gets
 
-// The words of an answer that says nothing.
+// Zeros, for the words that an answer has no use for.
 const NO_WORDS: AnswerWords = AnswerWords {
     kind: 0,
     first: 0,
@@ -172,6 +172,7 @@ fn answer_of(step: Step) -> AnswerWords
 fn write_answer(words: AnswerWords, answer: &mut [u64])
     ensures { answer.new ≡ answered words answer.old }
 {
+    // one by one, since a host may lend fewer than five
     words::put(answer, 0, words.kind);
     words::put(answer, 1, words.first);
     words::put(answer, 2, words.second);
