@@ -52,7 +52,7 @@ abbrev pub rules1 : Rules
 rules1 = record {
   Settings = Settings;
   Search = Search;
-  Request Float = Request Float;
+  Request = Request Float;
   Point = Float;
   Conditional = Conditional;
   start = start;
