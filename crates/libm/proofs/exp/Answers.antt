@@ -10,6 +10,6 @@ pub returns-else-x : goal.returns-else-x
 unfolding exp div of_bits
 returns-else-x c =
     elim c.else-x.branch [
-      else-x-via-then-x+else-x-2 w ↦ yes _ w.if-x.true (no _ w.if-x-2.false refl)
-    | else-x-via-else-x w ↦ no _ w.if-x.false refl
+      | else-x-via-then-x+else-x-2 w ↦ yes _ w.if-x.true (no _ w.if-x-2.false refl)
+      | else-x-via-else-x w ↦ no _ w.if-x.false refl
     ]
