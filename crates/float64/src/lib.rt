@@ -7,7 +7,6 @@ ghost use Rattle.std.specs.Float.{binary64};
 ghost use Rattle.std.specs.Float.Ieee.{of_bits, to_bits};
 ghost use Rattle.std.specs.Float.Ieee.Scale.{finite};
 ghost use Rattle.float64.specs.Float64.{abs, max, clamp, nonfinite};
-ghost use Rattle.float64.specs.Pick.{pick};
 
 // The largest finite float: above it is only infinity. A test against infinity itself would be compiled to
 // many tests of bits.
@@ -95,15 +94,4 @@ pub fn clamp(x: f64, low: f64, high: f64) -> f64
         return high;
     }
     x
-}
-
-// The first value where the test holds, and elsewhere the second, of any type. Both are evaluated already: a
-// caller's contract with `pick` in it closes without a case for each branch.
-pub fn pick<T: Copy>(test: bool, yes: T, no: T) -> T
-    ensures { result ≡ pick test yes no }
-{
-    if test {
-        return yes;
-    }
-    no
 }

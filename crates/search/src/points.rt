@@ -6,7 +6,6 @@ ghost use Rattle.search.specs.Subjects.{settings, settings2, wanted1, wanted2, w
 ghost use Rattle.search.specs.Subjects.{bracket_sources, sources1, current_source, is_new_best, population_source, sources2, with_search};
 
 use super::{Fit, Progress, SubjectSearch};
-use float64::pick;
 use matrix::Pair;
 use mode::Request;
 use mode::population_focei::{Conditional, Search, Settings, Stage, is_above, is_closer, is_under};
@@ -111,26 +110,42 @@ pub fn conditional_2d(eta: Pair, sums: Sums) -> Conditional2
 
 // One effect, on the grid: the ninth point is eta zero. The best is the closer end of the latest upward cell,
 // as the search will have it once the grid is whole.
-#[tactic(auto, unfolding(crate::specs::Subjects::grid_sources))]
+#[tactic(auto, using(float64::specs::Pick::picks), unfolding(crate::specs::Subjects::grid_sources))]
 fn grid_sources(search: Search, c: Conditional) -> Sources
     ensures { result ≡ grid_sources search c }
 {
-    let closer = pick(is_closer(search.latest, c), work::LATEST, work::TRIAL);
-    let rising = pick(is_above(c), closer, work::BEST);
+    let best = if is_under(search.latest) && is_above(c) {
+        if is_closer(search.latest, c) {
+            work::LATEST
+        } else {
+            work::TRIAL
+        }
+    } else {
+        work::BEST
+    };
+    let population = if search.count == 8 {
+        work::TRIAL
+    } else {
+        work::POPULATION
+    };
     Sources {
-        population: pick(search.count == 8, work::TRIAL, work::POPULATION),
-        best: pick(is_under(search.latest), rising, work::BEST),
+        population,
+        best,
         latest: work::TRIAL,
     }
 }
 
-#[tactic(auto, unfolding(crate::specs::Subjects::bracket_sources))]
+#[tactic(auto, using(float64::specs::Pick::picks), unfolding(crate::specs::Subjects::bracket_sources))]
 fn bracket_sources(search: Search, c: Conditional) -> Sources
     ensures { result ≡ bracket_sources search c }
 {
     Sources {
         population: work::POPULATION,
-        best: pick(is_closer(c, search.best), work::TRIAL, work::BEST),
+        best: if is_closer(c, search.best) {
+            work::TRIAL
+        } else {
+            work::BEST
+        },
         latest: work::LATEST,
     }
 }
@@ -148,14 +163,14 @@ pub fn sources(search: Search, c: Conditional) -> Sources
 }
 
 // Two effects: the rounds' current point is the trial where it is a start, or is taken.
-#[tactic(auto, unfolding(crate::specs::Subjects::current_source, crate::specs::Subjects::current_at))]
+#[tactic(auto, unfolding(crate::specs::Subjects::current_source, crate::specs::Subjects::current_at, float64::specs::Pick::pick))]
 fn current_source(settings: Settings2, search: Search2, c: Conditional2) -> usize
     ensures { result ≡ current_source settings search c }
 {
     match search.stage {
         Stage2::Start => work::TRIAL,
-        Stage2::Trial => pick(is_taken(settings, search, c), work::TRIAL, work::LATEST),
-        Stage2::Zero | Stage2::Found | Stage2::Halted(_) => work::LATEST,
+        Stage2::Trial if is_taken(settings, search, c) => work::TRIAL,
+        Stage2::Zero | Stage2::Trial | Stage2::Found | Stage2::Halted(_) => work::LATEST,
     }
 }
 
@@ -188,7 +203,11 @@ pub fn sources_2d(settings: Settings2, search: Search2, after: Search2, c: Condi
     let latest = current_source(settings, search, c);
     Sources {
         population: population_source(search),
-        best: pick(is_new_best(settings, search, after), latest, work::BEST),
+        best: if is_new_best(settings, search, after) {
+            latest
+        } else {
+            work::BEST
+        },
         latest,
     }
 }

@@ -86,7 +86,7 @@ abbrev pub rules2 : Rules
 rules2 = record {
   Settings = Settings2;
   Search = Search2;
-  Request Float = Request Pair;
+  Request = Request Pair;
   Point = Pair;
   Conditional = Conditional2;
   start = R2.start;
