@@ -43,9 +43,7 @@ use Rattle.search.specs.declared.Halted.{Halted}
 use Rattle.search.specs.declared.Advanced.{Advanced}
 use Rattle.search.specs.declared.Mode.{Mode}
 use Rattle.mode.specs.declared.Request.{Request}
-use Rattle.mode.specs.declared.Request.TheVariants as One
-use Rattle.mode.specs.declared.Request.TheVariants as Two
-use Rattle.mode.specs.declared.Request.TheVariants as Wants
+use Rattle.mode.specs.declared.Request.TheVariants as Asks
 
 -- ---- what the searches of an objective have in common
 
@@ -111,17 +109,17 @@ two_of (With.Two x) = x
 -- ---- what the search wants
 
 abbrev pub wants1 : Request Float → Request Pair
-wants1 (One.Point eta) = Wants.Point (record { first = eta; second = word 0 })
-wants1 One.Mode = Wants.Mode
-wants1 (One.Refused number) = Wants.Refused number
+wants1 (Asks.Point eta) = Asks.Point (record { first = eta; second = word 0 })
+wants1 Asks.Mode = Asks.Mode
+wants1 (Asks.Refused number) = Asks.Refused number
 
 unfoldable pub wanted1 : Settings → Search → Request Pair
 wanted1 s x = wants1 (request s x)
 
 abbrev pub wants2 : Request Pair → Request Pair
-wants2 (Two.Point eta) = Wants.Point eta
-wants2 Two.Mode = Wants.Mode
-wants2 (Two.Refused number) = Wants.Refused number
+wants2 (Asks.Point eta) = Asks.Point eta
+wants2 Asks.Mode = Asks.Mode
+wants2 (Asks.Refused number) = Asks.Refused number
 
 unfoldable pub wanted2 : Settings2 → Search2 → Request Pair
 wanted2 s x = wants2 (R2.request s x)

@@ -26,8 +26,7 @@ use Rattle.mode_2d.specs.declared.population_focei_2d.Stage2.{Stage2}
 use Rattle.mode_2d.specs.declared.population_focei_2d.Stage2.TheVariants.{Zero, Start, Trial, Found, Halted}
 use Rattle.mode_2d.specs.declared.population_focei_2d.Search2.{Search2}
 use Rattle.mode.specs.declared.Request.{Request}
-use Rattle.mode.specs.declared.Request.TheVariants as One
-use Rattle.mode.specs.declared.Request.TheVariants as Two
+use Rattle.mode.specs.declared.Request.TheVariants as Asks
 
 abbrev pub Fits : Float → Type 0
 Fits x = T (fits binary64 x)
@@ -45,9 +44,9 @@ zero_fits = record { first = of_bits-fits binary64 0; second = of_bits-fits bina
 
 -- ---- one effect
 FitsPoint : Request Float → Type 0
-FitsPoint (One.Point x) = Fits x
-FitsPoint One.Mode = Unit
-FitsPoint (One.Refused n) = Unit
+FitsPoint (Asks.Point x) = Fits x
+FitsPoint Asks.Mode = Unit
+FitsPoint (Asks.Refused n) = Unit
 
 secant_fits : (l r : Conditional) → Fits (secant_point l r)
 unfolding secant_point
@@ -68,7 +67,7 @@ asked_fits Warm s x w = w
 asked_fits Secant s x w = both FitsPoint _ tt (secant_fits _ _)
 asked_fits Halving s x w = both FitsPoint _ tt (both FitsPoint _ (middle_fits _ _) tt)
 
-pub point_fits : (s : Settings) (x : Search) (p : Float) → Fits s.warm → request s x ≡ One.Point p → Fits p
+pub point_fits : (s : Settings) (x : Search) (p : Float) → Fits s.warm → request s x ≡ Asks.Point p → Fits p
 unfolding FitsPoint
 point_fits s x p w e = subst FitsPoint e (asked_fits x.stage s x w)
 
@@ -131,7 +130,7 @@ module _ (s : Settings2) (bound : Fits s.eta_bound) where
       both FitsBoth _ w (both FitsBoth _ zero_fits (both FitsBoth _ (record { first = h; second = z }) (both FitsBoth _ (record { first = n; second = z })
       (both FitsBoth _ (record { first = z; second = h }) (record { first = z; second = n })))))
 
-  request_at_fits : (st : Stage2) (x : Search2) (p : Pair) → TrialFits x → FitsBoth s.warm → R2.request_at st s x ≡ Two.Point p → FitsBoth p
+  request_at_fits : (st : Stage2) (x : Search2) (p : Pair) → TrialFits x → FitsBoth s.warm → R2.request_at st s x ≡ Asks.Point p → FitsBoth p
   unfolding R2.request_at
   request_at_fits Zero x p f w e = let q : record { first = word 0; second = word 0 } ≡ p = cc in subst FitsBoth q zero_fits
   request_at_fits Start x p f w e = let q : R2.start_point s x.seed ≡ p = cc in subst FitsBoth q (start_point_fits x.seed w)
@@ -139,7 +138,7 @@ module _ (s : Settings2) (bound : Fits s.eta_bound) where
   request_at_fits Found x p f w e = absurd (let z : ◌≡◌ {A = ℕ} 0 1 = cc in omega arith)
   request_at_fits (Halted n) x p f w e = absurd (let z : ◌≡◌ {A = ℕ} 0 1 = cc in omega arith)
 
-  pub point2_fits : (x : Search2) (p : Pair) → TrialFits x → FitsBoth s.warm → R2.request s x ≡ Two.Point p → FitsBoth p
+  pub point2_fits : (x : Search2) (p : Pair) → TrialFits x → FitsBoth s.warm → R2.request s x ≡ Asks.Point p → FitsBoth p
   point2_fits x p f w e = request_at_fits x.stage x p f w e
 
 pub start_fits : TrialFits R2.start

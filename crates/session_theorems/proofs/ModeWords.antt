@@ -51,9 +51,7 @@ use Rattle.session_theorems.proofs.Searches.{one_not_two, wanted_one, point_one,
 use Rattle.session_theorems.proofs.Trials.{Has, NthHas, nth_so, SameBlocks, Moves, Movable, Trial1, Carried1, begun1, same1, movable1, step1, end1, Trial2, Carried2, begun2, same2, movable2}
 use Rattle.session_theorems.proofs.Trials.{step2, end2}
 use Rattle.mode.specs.declared.Request.{Request}
-use Rattle.mode.specs.declared.Request.TheVariants as One
-use Rattle.mode.specs.declared.Request.TheVariants as Two
-use Rattle.mode.specs.declared.Request.TheVariants as Wants
+use Rattle.mode.specs.declared.Request.TheVariants as Asks
 
 module _ (I : Inner) (L : Reads I) where
   pub record OfMode (m : Mode) (b : I.rules.Conditional) : Type 0 where
@@ -82,11 +80,11 @@ module _ (I : Inner) (L : Reads I) where
     pub begun : (st : I.rules.Settings) (rows : ℕ → List ℕ) → Carried st [] I.rules.start rows
     pub same : (st : I.rules.Settings) (ts : List (Trial I.rules)) (x : I.rules.Search) (rows other : ℕ → List ℕ) → SameBlocks rows other → Carried st ts x rows → Carried st ts x other
     pub movable : (fit : Fit) (p : Progress) (eta : Pair) (sums : Sums) → fit.effects ≡ effects → Movable (B.advance_by fit p eta sums).sources
-    pub steps : (fit : Fit) (p : Progress) (eta : Pair) (sums : Sums) → fit.effects ≡ effects → B.wanted_by fit p ≡ Wants.Point eta → (ts : List (Trial I.rules)) (rows after : ℕ → List ℕ)
+    pub steps : (fit : Fit) (p : Progress) (eta : Pair) (sums : Sums) → fit.effects ≡ effects → B.wanted_by fit p ≡ Asks.Point eta → (ts : List (Trial I.rules)) (rows after : ℕ → List ℕ)
         (t : Trial I.rules)
         → t.point ≡ I.conditional_of fit eta sums → t.rows ≡ rows 3 → Moves (B.advance_by fit p eta sums).sources rows after → Carried (I.settings_of fit p) ts (I.search_of p) rows
         → Carried (I.settings_of fit p) (ts ++ (t ∷ [])) (I.search_of (B.advance_by fit p eta sums).progress) after
-    pub ends : (fit : Fit) (p : Progress) → fit.effects ≡ effects → I.claims.Domain (I.settings_of fit p) → B.wanted_by fit p ≡ Wants.Mode → (ts : List (Trial I.rules)) (rows : ℕ → List ℕ)
+    pub ends : (fit : Fit) (p : Progress) → fit.effects ≡ effects → I.claims.Domain (I.settings_of fit p) → B.wanted_by fit p ≡ Asks.Mode → (ts : List (Trial I.rules)) (rows : ℕ → List ℕ)
         → Carried (I.settings_of fit p) ts (I.search_of p) rows → NthHas I.rules L.Zero L.zero_at ts (rows 0) × Has I.rules ts (I.rules.best (I.search_of p)) (rows 1)
 
 -- one effect
@@ -141,12 +139,12 @@ module _ (fit : Fit) (e : fit.effects ≡ 1) where
   unfolding B.advance_by
   advance_one p eta sums = pick_no _ _ _ (one_not_two fit e)
 
-mode_one_lem : (q : Request Float) → B.wants1 q ≡ Wants.Mode → q ≡ One.Mode
-mode_one_lem (One.Point x) e = let z : ◌≡◌ {A = ℕ} 0 1 = cc in absurd (omega arith)
-mode_one_lem One.Mode e = refl
-mode_one_lem (One.Refused n) e = let z : ◌≡◌ {A = ℕ} 0 1 = cc in absurd (omega arith)
+mode_one_lem : (q : Request Float) → B.wants1 q ≡ Asks.Mode → q ≡ Asks.Mode
+mode_one_lem (Asks.Point x) e = let z : ◌≡◌ {A = ℕ} 0 1 = cc in absurd (omega arith)
+mode_one_lem Asks.Mode e = refl
+mode_one_lem (Asks.Refused n) e = let z : ◌≡◌ {A = ℕ} 0 1 = cc in absurd (omega arith)
 
-steps_one : (fit : Fit) (p : Progress) (eta : Pair) (sums : Sums) → fit.effects ≡ 1 → B.wanted_by fit p ≡ Wants.Point eta → (ts : List Trial1) (rows after : ℕ → List ℕ) (t : Trial1)
+steps_one : (fit : Fit) (p : Progress) (eta : Pair) (sums : Sums) → fit.effects ≡ 1 → B.wanted_by fit p ≡ Asks.Point eta → (ts : List Trial1) (rows after : ℕ → List ℕ) (t : Trial1)
     → t.point ≡ B.conditional1 fit eta sums → t.rows ≡ rows 3
     → Moves (B.advance_by fit p eta sums).sources rows after → Carried1 (B.settings fit p) ts (B.one_of p.search) rows → Carried1 (B.settings fit p) (ts ++ (t ∷ []))
     (B.one_of (B.advance_by fit p eta sums).progress.search) after
@@ -271,12 +269,12 @@ module _ (fit : Fit) (e : fit.effects ≡ 2) where
   unfolding B.advance_by
   advance_two p eta sums = pick_yes _ _ _ (is_two fit e)
 
-mode_two_lem : (q : Request Pair) → B.wants2 q ≡ Wants.Mode → q ≡ Two.Mode
-mode_two_lem (Two.Point x) e = let z : ◌≡◌ {A = ℕ} 0 1 = cc in absurd (omega arith)
-mode_two_lem Two.Mode e = refl
-mode_two_lem (Two.Refused n) e = let z : ◌≡◌ {A = ℕ} 0 1 = cc in absurd (omega arith)
+mode_two_lem : (q : Request Pair) → B.wants2 q ≡ Asks.Mode → q ≡ Asks.Mode
+mode_two_lem (Asks.Point x) e = let z : ◌≡◌ {A = ℕ} 0 1 = cc in absurd (omega arith)
+mode_two_lem Asks.Mode e = refl
+mode_two_lem (Asks.Refused n) e = let z : ◌≡◌ {A = ℕ} 0 1 = cc in absurd (omega arith)
 
-steps_two : (fit : Fit) (p : Progress) (eta : Pair) (sums : Sums) → fit.effects ≡ 2 → B.wanted_by fit p ≡ Wants.Point eta → (ts : List Trial2) (rows after : ℕ → List ℕ) (t : Trial2)
+steps_two : (fit : Fit) (p : Progress) (eta : Pair) (sums : Sums) → fit.effects ≡ 2 → B.wanted_by fit p ≡ Asks.Point eta → (ts : List Trial2) (rows after : ℕ → List ℕ) (t : Trial2)
     → t.point ≡ B.conditional2 eta sums → t.rows ≡ rows 3
     → Moves (B.advance_by fit p eta sums).sources rows after → Carried2 ts (B.two_of p.search) rows → Carried2 (ts ++ (t ∷ [])) (B.two_of (B.advance_by fit p eta sums).progress.search) after
 unfolding B.advance2 B.with_search B.conditional2

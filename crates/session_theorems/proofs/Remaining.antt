@@ -39,25 +39,24 @@ use Rattle.setup.proofs.Bounds.{not_first}
 use Rattle.session_theorems.proofs.FirstSearch.{first_one, first_two}
 use Rattle.session_theorems.proofs.Plain.{false_not_true, only_first}
 use Rattle.mode.specs.declared.Request.{Request}
-use Rattle.mode.specs.declared.Request.TheVariants as One
-use Rattle.mode.specs.declared.Request.TheVariants as Wants
+use Rattle.mode.specs.declared.Request.TheVariants as Asks
 
 -- ---- what a search wants: for a point one of the m that are left goes, and A holds then; N is asked of a refusal's number
 unfoldable pub Goes : ℕ → Type 0 → Request Pair → Type 0
-Goes m A (Wants.Point eta) = (1 ≤ m) × A
-Goes m A Wants.Mode = Unit
-Goes m A (Wants.Refused n) = Unit
+Goes m A (Asks.Point eta) = (1 ≤ m) × A
+Goes m A Asks.Mode = Unit
+Goes m A (Asks.Refused n) = Unit
 
 unfoldable pub Numbered : (ℕ → Type 0) → Request Pair → Type 0
-Numbered N (Wants.Point eta) = Unit
-Numbered N Wants.Mode = Unit
-Numbered N (Wants.Refused n) = N n
+Numbered N (Asks.Point eta) = Unit
+Numbered N Asks.Mode = Unit
+Numbered N (Asks.Refused n) = N n
 
 goes_map : {A C : Type 0} (m : ℕ) → (A → C) → (v : Request Pair) → Goes m A v → Goes m C v
 unfolding Goes
-goes_map m f (Wants.Point eta) g = (g.0, f g.1)
-goes_map m f Wants.Mode g = tt
-goes_map m f (Wants.Refused n) g = tt
+goes_map m f (Asks.Point eta) g = (g.0, f g.1)
+goes_map m f Asks.Mode g = tt
+goes_map m f (Asks.Refused n) g = tt
 
 -- ---- one effect
 one_within : (st : Stage) (i : ℕ) → count_within st i ≡ true → Room st i 6343
@@ -71,9 +70,9 @@ goes1 : (s : Settings) (x : Search) (m : ℕ) → RoomOf m x → Goes m ((c : Co
 goes1 s x m r = by (request s x) (λ p. (room_pos x.stage s x m r p, λ c. room_step x.stage s x c m r p))
   where
     by : {A : Type 0} (q : Request Float) → (T (is_point q) → (1 ≤ m) × A) → Goes m A (B.wants1 q)
-    by (One.Point eta) f = unfold Goes in f tt
-    by One.Mode f = unfold Goes in tt
-    by (One.Refused n) f = unfold Goes in tt
+    by (Asks.Point eta) f = unfold Goes in f tt
+    by Asks.Mode f = unfold Goes in tt
+    by (Asks.Refused n) f = unfold Goes in tt
 
 module _ (N : ℕ → Type 0) (known : (n : ℕ) → 13 ≤ n → n ≤ 16 → N n) where
   abbrev Known : Request Float → Type 0

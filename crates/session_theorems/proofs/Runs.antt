@@ -35,9 +35,7 @@ use Rattle.session_theorems.proofs.Searches.{Suits, suits1, suits2, wants_of}
 use Rattle.session_theorems.proofs.Session.{for_words}
 use Rattle.mode.specs.declared.Request.{Request}
 use Rattle.matrix.specs.declared.Pair.{Pair}
-use Rattle.mode.specs.declared.Request.TheVariants as One
-use Rattle.mode.specs.declared.Request.TheVariants as Two
-use Rattle.mode.specs.declared.Request.TheVariants as Wants
+use Rattle.mode.specs.declared.Request.TheVariants as Asks
 
 -- what a run says where the rules want this, and have this best point
 tell : {P A : Type 0} → Rules.Wanted P → A → Said P A
@@ -74,9 +72,9 @@ module _ (I : Inner) (O : Original I.rules) where
   }
 
   wants_same : (w : Request Pair) → wants_of as_run w ≡ wants_of I w
-  wants_same (Wants.Point eta) = refl
-  wants_same Wants.Mode = refl
-  wants_same (Wants.Refused number) = refl
+  wants_same (Asks.Point eta) = refl
+  wants_same Asks.Mode = refl
+  wants_same (Asks.Refused number) = refl
 
   module _ (s : Speaks) where
     said_as : (st : R.Settings) (h : List R.Conditional) (w : Rules.Wanted R.Point) → Follows R st h → wanted R st (after R st h) ≡ w → O.says st h ≡ tell w (R.best (after R st h))
@@ -151,9 +149,9 @@ numbers (suc n) s x (c ∷ h) f = (f.0.score_number, numbers n s _ h f.1)
 
 tells1 : (q : Request Float) (m : K1.Told) → map_said (λ (m : K1.Told). m.0) (K1.told_by q m) ≡ tell (wants1 q) m.0
 unfolding map_said K1.told_by tell
-tells1 (One.Point p) m = refl
-tells1 One.Mode m = refl
-tells1 (One.Refused n) m = refl
+tells1 (Asks.Point p) m = refl
+tells1 Asks.Mode m = refl
+tells1 (Asks.Refused n) m = refl
 
 module _ (s : Settings) (h : List C.Conditional) (f : H1.Follows s h) where
   abbrev given : List S1.Conditional
@@ -179,9 +177,9 @@ speaks1 = record { path = asked1; same = says1 }
 -- ---- two effects
 tells2 : (q : Request Pair) (m : Conditional2 × Conditional2) → map_said (λ (m : Conditional2 × Conditional2). m.0) (K2.told_by q m) ≡ tell (wants2 q) m.0
 unfolding map_said K2.told_by tell
-tells2 (Two.Point p) m = refl
-tells2 Two.Mode m = refl
-tells2 (Two.Refused n) m = refl
+tells2 (Asks.Point p) m = refl
+tells2 Asks.Mode m = refl
+tells2 (Asks.Refused n) m = refl
 
 says2 : (s : Settings2) (h : List Conditional2) → H2.Follows s h → original2.says s h ≡ tell (wants2 (R2.request s (H2.after s h))) (H2.after s h).best
 says2 s h f =

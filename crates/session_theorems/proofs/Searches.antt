@@ -38,20 +38,18 @@ use Rattle.session_theorems.proofs.Domains.{domain1, domain2}
 use Rattle.session_theorems.proofs.Fitting.{Fits, FitsBoth, zero_fits, point_fits, TrialFits, start_fits, advance_fits, point2_fits}
 use Rattle.session_theorems.proofs.Points.{Passed, prior_number, edge_number}
 use Rattle.mode.specs.declared.Request.{Request}
-use Rattle.mode.specs.declared.Request.TheVariants as One
-use Rattle.mode.specs.declared.Request.TheVariants as Two
-use Rattle.mode.specs.declared.Request.TheVariants as Wants
+use Rattle.mode.specs.declared.Request.TheVariants as Asks
 
 -- what the session's answer says in the rules' own terms
 abbrev pub wants_of : (I : Inner) → Request Pair → Rules.Wanted I.rules.Point
-wants_of I (Wants.Point eta) = point (I.point_of eta)
-wants_of I Wants.Mode = mode
-wants_of I (Wants.Refused number) = refusal number
+wants_of I (Asks.Point eta) = point (I.point_of eta)
+wants_of I Asks.Mode = mode
+wants_of I (Asks.Refused number) = refusal number
 
 -- an Inner for so many effects
 pub record Suits (I : Inner) (effects : ℕ) : Type 1 where
   pub wants : (fit : Fit) (p : Progress) → fit.effects ≡ effects → wants_of I (B.wanted_by fit p) ≡ wanted I.rules (I.settings_of fit p) (I.search_of p)
-  pub pairs : (fit : Fit) (p : Progress) (eta : Pair) → fit.effects ≡ effects → B.wanted_by fit p ≡ Wants.Point eta → I.pair_of (I.point_of eta) ≡ eta
+  pub pairs : (fit : Fit) (p : Progress) (eta : Pair) → fit.effects ≡ effects → B.wanted_by fit p ≡ Asks.Point eta → I.pair_of (I.point_of eta) ≡ eta
   -- the settings go by the warm start alone
   pub settings : (fit : Fit) (p q : Progress) → q.warm ≡ p.warm → I.settings_of fit q ≡ I.settings_of fit p
   pub starts : (effects subject first : ℕ) (warm : Pair) (ofv squares : Float) → I.search_of (B.begin_subject effects subject first warm ofv squares) ≡ I.rules.start
@@ -60,7 +58,7 @@ pub record Suits (I : Inner) (effects : ℕ) : Type 1 where
       → I.search_of (B.advance_by fit p eta sums).progress ≡ I.rules.advance (I.settings_of fit p) (I.search_of p) (I.conditional_of fit eta sums)
   -- finite sums at a point that passed 7 answer what was asked
   pub answers : (fit : Fit) (p : Progress) (eta : Pair) (sums : Sums) → fit.effects ≡ effects → I.claims.Domain (I.settings_of fit p)
-      → B.wanted_by fit p ≡ Wants.Point eta → Passed eta effects → has_nonfinite_sum sums ≡ false → I.rules.Answers (I.rules.request (I.settings_of fit p) (I.search_of p))
+      → B.wanted_by fit p ≡ Asks.Point eta → Passed eta effects → has_nonfinite_sum sums ≡ false → I.rules.Answers (I.rules.request (I.settings_of fit p) (I.search_of p))
       (I.conditional_of fit eta sums)
   -- parameters that passed the checks give settings of the domain
   pub domain : (setup : Setup) (parameters : Parameters) (p : Progress) → setup.effects ≡ effects → Fits setup.eta_bound → is_no_omega (with_parameters setup parameters) ≡ false
@@ -72,7 +70,7 @@ pub record Suits (I : Inner) (effects : ℕ) : Type 1 where
   pub pointed_idle : (p : Progress) → Pointed p → Pointed (B.idle p)
   pub pointed_end : (p : Progress) (ofv squares : Float) → Pointed p → Pointed (B.finished p ofv squares)
   pub pointed_on : (fit : Fit) (p : Progress) (eta : Pair) (sums : Sums) → fit.effects ≡ effects → Fits fit.eta_bound → Pointed p → Pointed (B.advance_by fit p eta sums).progress
-  pub points : (fit : Fit) (p : Progress) (eta : Pair) → fit.effects ≡ effects → Fits fit.eta_bound → FitsBoth p.warm → Pointed p → B.wanted_by fit p ≡ Wants.Point eta → FitsBoth eta
+  pub points : (fit : Fit) (p : Progress) (eta : Pair) → fit.effects ≡ effects → Fits fit.eta_bound → FitsBoth p.warm → Pointed p → B.wanted_by fit p ≡ Asks.Point eta → FitsBoth eta
   pub proved : Proved I.rules I.claims
   pub enough : (subjects : ℕ) → subjects ≤ 4096 → subjects * suc I.claims.ceiling ≤ 25985024
 
@@ -98,14 +96,14 @@ module _ (fit : Fit) (e : fit.effects ≡ 1) where
   wanted_one p = pick_no _ _ _ one_not_two
 
 wants_one : (q : Request Float) → wants_of inner1 (B.wants1 q) ≡ wants1 q
-wants_one (One.Point eta) = refl
-wants_one One.Mode = refl
-wants_one (One.Refused n) = refl
+wants_one (Asks.Point eta) = refl
+wants_one Asks.Mode = refl
+wants_one (Asks.Refused n) = refl
 
-pub point_one : (q : Request Float) (eta : Pair) → B.wants1 q ≡ Wants.Point eta → (q ≡ One.Point eta.first) × (record { first = eta.first; second = word 0 } ≡ eta)
-point_one (One.Point x) eta e = (cc, cc)
-point_one One.Mode eta e = no_number cc
-point_one (One.Refused n) eta e = no_number cc
+pub point_one : (q : Request Float) (eta : Pair) → B.wants1 q ≡ Asks.Point eta → (q ≡ Asks.Point eta.first) × (record { first = eta.first; second = word 0 } ≡ eta)
+point_one (Asks.Point x) eta e = (cc, cc)
+point_one Asks.Mode eta e = no_number cc
+point_one (Asks.Refused n) eta e = no_number cc
 
 proved1 : Proved rules1 claims1
 unfolding H1.asks
@@ -113,27 +111,27 @@ proved1 = record {
   few = λ st h p d f w. few_by (request st (H1.after st h)) p w (one_search st d h f).at_most;
   good = λ st h d f w. (one_search st d h f).found (mode_by (request st (H1.after st h)) w);
   means = λ st h n d f w. let e = refusal_by (request st (H1.after st h)) n w in let t = one_search st d h f in record {
-    at_bound = λ q. t.at_bound (e ∙ ap One.Refused q);
-    several = λ q. t.several (e ∙ ap One.Refused q);
-    unsettled = λ q. ((H1.after st h).best, t.unsettled (e ∙ ap One.Refused q));
+    at_bound = λ q. t.at_bound (e ∙ ap Asks.Refused q);
+    several = λ q. t.several (e ∙ ap Asks.Refused q);
+    unsettled = λ q. ((H1.after st h).best, t.unsettled (e ∙ ap Asks.Refused q));
     numbers = t.numbers n e;
   };
 }
   where
     few_by : (q : Request Float) (p : Float) → wants1 q ≡ point p → {n : ℕ} → n + H1.asks q ≤ 82 → n < 82
-    few_by (One.Point x) p w l = omega (arith, l)
-    few_by One.Mode p w l = no_number cc
-    few_by (One.Refused k) p w l = no_number cc
+    few_by (Asks.Point x) p w l = omega (arith, l)
+    few_by Asks.Mode p w l = no_number cc
+    few_by (Asks.Refused k) p w l = no_number cc
 
-    refusal_by : (q : Request Float) (n : ℕ) → wants1 q ≡ refusal n → q ≡ One.Refused n
-    refusal_by (One.Point x) n w = no_number cc
-    refusal_by One.Mode n w = no_number cc
-    refusal_by (One.Refused k) n w = cc
+    refusal_by : (q : Request Float) (n : ℕ) → wants1 q ≡ refusal n → q ≡ Asks.Refused n
+    refusal_by (Asks.Point x) n w = no_number cc
+    refusal_by Asks.Mode n w = no_number cc
+    refusal_by (Asks.Refused k) n w = cc
 
-    mode_by : (q : Request Float) → wants1 q ≡ mode → q ≡ One.Mode
-    mode_by (One.Point x) w = no_number cc
-    mode_by One.Mode w = refl
-    mode_by (One.Refused k) w = no_number cc
+    mode_by : (q : Request Float) → wants1 q ≡ mode → q ≡ Asks.Mode
+    mode_by (Asks.Point x) w = no_number cc
+    mode_by Asks.Mode w = refl
+    mode_by (Asks.Refused k) w = no_number cc
 
 pub suits1 : Suits inner1 1
 unfolding B.settings B.begin_subject B.awaiting B.advance_by B.advance1 B.with_search B.conditional1
@@ -173,14 +171,14 @@ module _ (fit : Fit) (e : fit.effects ≡ 2) where
   wanted_two p = pick_yes _ _ _ is_two
 
 wants_two : (q : Request Pair) → wants_of inner2 (B.wants2 q) ≡ wants2 q
-wants_two (Two.Point eta) = refl
-wants_two Two.Mode = refl
-wants_two (Two.Refused n) = refl
+wants_two (Asks.Point eta) = refl
+wants_two Asks.Mode = refl
+wants_two (Asks.Refused n) = refl
 
-pub point_two : (q : Request Pair) (eta : Pair) → B.wants2 q ≡ Wants.Point eta → q ≡ Two.Point eta
-point_two (Two.Point x) eta e = cc
-point_two Two.Mode eta e = no_number cc
-point_two (Two.Refused n) eta e = no_number cc
+pub point_two : (q : Request Pair) (eta : Pair) → B.wants2 q ≡ Asks.Point eta → q ≡ Asks.Point eta
+point_two (Asks.Point x) eta e = cc
+point_two Asks.Mode eta e = no_number cc
+point_two (Asks.Refused n) eta e = no_number cc
 
 proved2 : Proved rules2 claims2
 unfolding H2.asks
@@ -188,27 +186,27 @@ proved2 = record {
   few = λ st h p d f w. few_by (R2.request st (H2.after st h)) p w (two_search d.0 st d.1 h f).at_most;
   good = λ st h d f w. (two_search d.0 st d.1 h f).found (mode_by (R2.request st (H2.after st h)) w);
   means = λ st h n d f w. let e = refusal_by (R2.request st (H2.after st h)) n w in let t = two_search d.0 st d.1 h f in record {
-    unresolved = λ q. t.unresolved (e ∙ ap Two.Refused q);
-    several = λ q. t.several (e ∙ ap Two.Refused q);
-    no_inverse = λ q. t.no_inverse (e ∙ ap Two.Refused q);
+    unresolved = λ q. t.unresolved (e ∙ ap Asks.Refused q);
+    several = λ q. t.several (e ∙ ap Asks.Refused q);
+    no_inverse = λ q. t.no_inverse (e ∙ ap Asks.Refused q);
     numbers = t.numbers n e;
   };
 }
   where
     few_by : (q : Request Pair) (p : Pair) → wants2 q ≡ point p → {n : ℕ} → n + H2.asks q ≤ 6343 → n < 6343
-    few_by (Two.Point x) p w l = omega (arith, l)
-    few_by Two.Mode p w l = no_number cc
-    few_by (Two.Refused k) p w l = no_number cc
+    few_by (Asks.Point x) p w l = omega (arith, l)
+    few_by Asks.Mode p w l = no_number cc
+    few_by (Asks.Refused k) p w l = no_number cc
 
-    refusal_by : (q : Request Pair) (n : ℕ) → wants2 q ≡ refusal n → q ≡ Two.Refused n
-    refusal_by (Two.Point x) n w = no_number cc
-    refusal_by Two.Mode n w = no_number cc
-    refusal_by (Two.Refused k) n w = cc
+    refusal_by : (q : Request Pair) (n : ℕ) → wants2 q ≡ refusal n → q ≡ Asks.Refused n
+    refusal_by (Asks.Point x) n w = no_number cc
+    refusal_by Asks.Mode n w = no_number cc
+    refusal_by (Asks.Refused k) n w = cc
 
-    mode_by : (q : Request Pair) → wants2 q ≡ mode → q ≡ Two.Mode
-    mode_by (Two.Point x) w = no_number cc
-    mode_by Two.Mode w = refl
-    mode_by (Two.Refused k) w = no_number cc
+    mode_by : (q : Request Pair) → wants2 q ≡ mode → q ≡ Asks.Mode
+    mode_by (Asks.Point x) w = no_number cc
+    mode_by Asks.Mode w = refl
+    mode_by (Asks.Refused k) w = no_number cc
 
 pub suits2 : Suits inner2 2
 unfolding B.settings2 B.begin_subject B.idle B.finished B.awaiting B.advance_by B.advance2 B.with_search B.conditional2

@@ -36,8 +36,7 @@ use Rattle.session_theorems.specs.Inner.{rules1, rules2}
 use Rattle.session_theorems.specs.Shown.{Nth}
 use Rattle.session_theorems.proofs.Blocks.{From, stays, later, from_most}
 use Rattle.session_theorems.proofs.Plain.{split}
-use Rattle.mode.specs.declared.Request.TheVariants as One
-use Rattle.mode.specs.declared.Request.TheVariants as Two
+use Rattle.mode.specs.declared.Request.TheVariants as Asks
 
 -- ---- trials and their rows
 module _ (R : Rules) where
@@ -293,41 +292,41 @@ module _ (s : Settings) (ts : List Trial1) (x : Search) (rows after : ℕ → Li
     best = subst (Has rules1 us _) (sym m.best) (has_pick rules1 us (is_closer c x.best) rows 3 1 (λ _. newest c refl) (λ _. has_more rules1 t h.best));
   }
 
-  asked_on : (st : Stage) (p : Float) → c.eta ≡ p → R1.request_at st s x ≡ One.Point p → Moves (B.sources_at st x c) rows after → CarriedAt st s ts x rows → Carried1 s us (R1.advance_at st s x c) after
+  asked_on : (st : Stage) (p : Float) → c.eta ≡ p → R1.request_at st s x ≡ Asks.Point p → Moves (B.sources_at st x c) rows after → CarriedAt st s ts x rows → Carried1 s us (R1.advance_at st s x c) after
   unfolding R1.request_at R1.advance_at B.sources_at R1.tried
   asked_on Grid p e q m h = cases (λ (z : Search). Carried1 s us z after) (ltb x.count 17)
-      (λ l. chooses (R1.screened x c) (unfold R1.screened in refl) (on_grid_lem m (e ∙ same_point (sym (pick_yes (ltb x.count 17) (One.Point (R1.grid_point s.eta_bound x.count)) _ l) ∙ q)) h))
-      (λ l. absurd (no_point (sym (pick_no (ltb x.count 17) (One.Point (R1.grid_point s.eta_bound x.count)) _ l) ∙ q)))
+      (λ l. chooses (R1.screened x c) (unfold R1.screened in refl) (on_grid_lem m (e ∙ same_point (sym (pick_yes (ltb x.count 17) (Asks.Point (R1.grid_point s.eta_bound x.count)) _ l) ∙ q)) h))
+      (λ l. absurd (no_point (sym (pick_no (ltb x.count 17) (Asks.Point (R1.grid_point s.eta_bound x.count)) _ l) ∙ q)))
     where
-      same_point : One.Point (R1.grid_point s.eta_bound x.count) ≡ One.Point p → p ≡ R1.grid_point s.eta_bound x.count
+      same_point : Asks.Point (R1.grid_point s.eta_bound x.count) ≡ Asks.Point p → p ≡ R1.grid_point s.eta_bound x.count
       same_point e = cc
 
-      no_point : pick (le nought x.first) (One.Refused 13) (pick (is_under x.latest) (One.Refused 13) (One.Refused 14)) ≡ One.Point p → ⊥
-      no_point = both (λ (r : _). r ≡ One.Point p → ⊥) _ (λ e. let z : ◌≡◌ {A = ℕ} 0 1 = cc in omega arith)
-          (both (λ (r : _). r ≡ One.Point p → ⊥) _ (λ e. let z : ◌≡◌ {A = ℕ} 0 1 = cc in omega arith) (λ e. let z : ◌≡◌ {A = ℕ} 0 1 = cc in omega arith))
+      no_point : pick (le nought x.first) (Asks.Refused 13) (pick (is_under x.latest) (Asks.Refused 13) (Asks.Refused 14)) ≡ Asks.Point p → ⊥
+      no_point = both (λ (r : _). r ≡ Asks.Point p → ⊥) _ (λ e. let z : ◌≡◌ {A = ℕ} 0 1 = cc in omega arith)
+          (both (λ (r : _). r ≡ Asks.Point p → ⊥) _ (λ e. let z : ◌≡◌ {A = ℕ} 0 1 = cc in omega arith) (λ e. let z : ◌≡◌ {A = ℕ} 0 1 = cc in omega arith))
   asked_on Warm p e q m h = tries m h Secant 0
   asked_on Secant p e q m h = both (λ (z : Search). Carried1 s us z after) (ltb x.count 15) (tries m h Secant (x.count + 1)) (tries m h Halving 0)
   asked_on Halving p e q m h = cases (λ (z : Search). Carried1 s us z after) (ltb x.count 48) (λ _. tries m h Halving (x.count + 1)) (λ l. absurd (no_point l))
     where
       no_point : ltb x.count 48 ≡ false → ⊥
-      no_point l = both (λ (r : _). r ≡ One.Point p → ⊥) _ (λ e. let z : ◌≡◌ {A = ℕ} 0 1 = cc in omega arith) (λ e. let z : ◌≡◌ {A = ℕ} 0 1 = cc in omega arith)
-          (ap (λ (r : _). pick (R1.settled s x.best x.left x.right) One.Mode r) (sym (pick_no (ltb x.count 48) (One.Point (R1.midpoint x.left x.right)) (One.Refused 15) l)) ∙ q)
+      no_point l = both (λ (r : _). r ≡ Asks.Point p → ⊥) _ (λ e. let z : ◌≡◌ {A = ℕ} 0 1 = cc in omega arith) (λ e. let z : ◌≡◌ {A = ℕ} 0 1 = cc in omega arith)
+          (ap (λ (r : _). pick (R1.settled s x.best x.left x.right) Asks.Mode r) (sym (pick_no (ltb x.count 48) (Asks.Point (R1.midpoint x.left x.right)) (Asks.Refused 15) l)) ∙ q)
 
-  pub step1 : (p : Float) → c.eta ≡ p → R1.request s x ≡ One.Point p → Moves (B.sources1 x c) rows after → Carried1 s ts x rows → Carried1 s us (R1.advance s x c) after
+  pub step1 : (p : Float) → c.eta ≡ p → R1.request s x ≡ Asks.Point p → Moves (B.sources1 x c) rows after → Carried1 s ts x rows → Carried1 s us (R1.advance s x c) after
   unfolding B.sources1
   step1 p e q m h = asked_on x.stage p e q m h
 
 -- ---- a mode
-ends_at : (st : Stage) (s : Settings) (ts : List Trial1) (x : Search) (rows : ℕ → List ℕ) → R1.request_at st s x ≡ One.Mode → CarriedAt st s ts x rows → Past s ts x rows
+ends_at : (st : Stage) (s : Settings) (ts : List Trial1) (x : Search) (rows : ℕ → List ℕ) → R1.request_at st s x ≡ Asks.Mode → CarriedAt st s ts x rows → Past s ts x rows
 unfolding R1.request_at
-ends_at Grid s ts x rows q h = absurd (both (λ (r : _). r ≡ One.Mode → ⊥) _ (λ e. let z : ◌≡◌ {A = ℕ} 0 1 = cc in omega arith)
-    (both (λ (r : _). r ≡ One.Mode → ⊥) _ (λ e. let z : ◌≡◌ {A = ℕ} 0 1 = cc in omega arith)
-    (both (λ (r : _). r ≡ One.Mode → ⊥) _ (λ e. let z : ◌≡◌ {A = ℕ} 0 1 = cc in omega arith) (λ e. let z : ◌≡◌ {A = ℕ} 0 1 = cc in omega arith))) q)
+ends_at Grid s ts x rows q h = absurd (both (λ (r : _). r ≡ Asks.Mode → ⊥) _ (λ e. let z : ◌≡◌ {A = ℕ} 0 1 = cc in omega arith)
+    (both (λ (r : _). r ≡ Asks.Mode → ⊥) _ (λ e. let z : ◌≡◌ {A = ℕ} 0 1 = cc in omega arith)
+    (both (λ (r : _). r ≡ Asks.Mode → ⊥) _ (λ e. let z : ◌≡◌ {A = ℕ} 0 1 = cc in omega arith) (λ e. let z : ◌≡◌ {A = ℕ} 0 1 = cc in omega arith))) q)
 ends_at Warm s ts x rows q h = h
 ends_at Secant s ts x rows q h = h
 ends_at Halving s ts x rows q h = h
 
-pub end1 : (s : Settings) (ts : List Trial1) (x : Search) (rows : ℕ → List ℕ) → R1.request s x ≡ One.Mode → Carried1 s ts x rows → NthHas rules1 (Middle s) 8 ts (rows 0) × Has rules1 ts
+pub end1 : (s : Settings) (ts : List Trial1) (x : Search) (rows : ℕ → List ℕ) → R1.request s x ≡ Asks.Mode → Carried1 s ts x rows → NthHas rules1 (Middle s) 8 ts (rows 0) × Has rules1 ts
     x.best (rows 1)
 end1 s ts x rows q h = let p = ends_at x.stage s ts x rows q h in (p.zero, p.best)
 
@@ -497,7 +496,7 @@ module _ (s : Settings2) (ts : List Trial2) (x : Search2) (rows : ℕ → List �
     tried q false = is_left_lem q
 
   -- by the stage: block 0 gets the rows of number z, block 2 those of number k
-  asked_on2 : (st : Stage2) (p : Pair) → c2.eta ≡ p → R2.request_at st s x ≡ Two.Point p → CarriedAt2 st ts x (rows 0) (rows 1) (rows 2)
+  asked_on2 : (st : Stage2) (p : Pair) → c2.eta ≡ p → R2.request_at st s x ≡ Asks.Point p → CarriedAt2 st ts x (rows 0) (rows 1) (rows 2)
       → let y = R2.advance_at st s x c2 in let k = B.current_at st s x c2 in CarriedAt2 y.stage us2 y (rows (B.population_at st)) (pick (B.is_new_best s x y) (rows k) (rows 1)) (rows k)
   unfolding R2.request_at R2.advance_at B.population_at B.current_at
   asked_on2 S2.Zero p e q h = unfold R2.between in record {
@@ -510,7 +509,7 @@ module _ (s : Settings2) (ts : List Trial2) (x : Search2) (rows : ℕ → List �
   asked_on2 S2.Found p e q h = absurd (let z : ◌≡◌ {A = ℕ} 0 1 = cc in omega arith)
   asked_on2 (S2.Halted n) p e q h = absurd (let z : ◌≡◌ {A = ℕ} 0 1 = cc in omega arith)
 
-  pub step2 : (after : ℕ → List ℕ) (p : Pair) → c2.eta ≡ p → R2.request s x ≡ Two.Point p → Moves (B.sources2 s x (R2.advance s x c2) c2) rows after → Carried2 ts x rows → Carried2 us2
+  pub step2 : (after : ℕ → List ℕ) (p : Pair) → c2.eta ≡ p → R2.request s x ≡ Asks.Point p → Moves (B.sources2 s x (R2.advance s x c2) c2) rows after → Carried2 ts x rows → Carried2 us2
       (R2.advance s x c2) after
   unfolding B.sources2 B.current_source B.population_source
   step2 after p is q m h =
@@ -522,7 +521,7 @@ module _ (s : Settings2) (ts : List Trial2) (x : Search2) (rows : ℕ → List �
       (subst (λ (v : List ℕ). CarriedAt2 y.stage us2 y v (pick (B.is_new_best s x y) (rows k) (rows 1)) (rows k)) (sym m.zero) (asked_on2 x.stage p is q h)))
 
 -- ---- a mode
-ends_at2 : (st : Stage2) (s : Settings2) (ts : List Trial2) (x : Search2) (rows : ℕ → List ℕ) → R2.request_at st s x ≡ Two.Mode → CarriedAt2 st ts x (rows 0) (rows 1) (rows 2) → Found2 ts x
+ends_at2 : (st : Stage2) (s : Settings2) (ts : List Trial2) (x : Search2) (rows : ℕ → List ℕ) → R2.request_at st s x ≡ Asks.Mode → CarriedAt2 st ts x (rows 0) (rows 1) (rows 2) → Found2 ts x
     (rows 0) (rows 1)
 unfolding R2.request_at
 ends_at2 S2.Zero s ts x rows q h = absurd (let z : ◌≡◌ {A = ℕ} 0 1 = cc in omega arith)
@@ -531,6 +530,6 @@ ends_at2 S2.Trial s ts x rows q h = absurd (let z : ◌≡◌ {A = ℕ} 0 1 = cc
 ends_at2 S2.Found s ts x rows q h = h
 ends_at2 (S2.Halted n) s ts x rows q h = absurd (let z : ◌≡◌ {A = ℕ} 0 1 = cc in omega arith)
 
-pub end2 : (s : Settings2) (ts : List Trial2) (x : Search2) (rows : ℕ → List ℕ) → R2.request s x ≡ Two.Mode → Carried2 ts x rows → NthHas rules2 Nowhere 0 ts (rows 0) × Has rules2 ts
+pub end2 : (s : Settings2) (ts : List Trial2) (x : Search2) (rows : ℕ → List ℕ) → R2.request s x ≡ Asks.Mode → Carried2 ts x rows → NthHas rules2 Nowhere 0 ts (rows 0) × Has rules2 ts
     x.best (rows 1)
 end2 s ts x rows q h = let p = ends_at2 x.stage s ts x rows q h in (p.zero, p.best)

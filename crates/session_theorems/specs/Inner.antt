@@ -37,16 +37,14 @@ use Rattle.population.specs.Population.{rows_of}
 use Rattle.session.specs.Session.{Held, Call, objective, reply, failure, evaluated, session}
 use Rattle.subject.specs.declared.EvaluationError.TheVariants as E
 use Rattle.mode.specs.declared.Request.{Request}
-use Rattle.mode.specs.declared.Request.TheVariants as One
-use Rattle.mode.specs.declared.Request.TheVariants as Two
-use Rattle.mode.specs.declared.Request.TheVariants as Wants
+use Rattle.mode.specs.declared.Request.TheVariants as Asks
 
 -- ---- one effect
 
 abbrev pub wants1 : Request Float → Rules.Wanted Float
-wants1 (One.Point eta) = point eta
-wants1 One.Mode = mode
-wants1 (One.Refused number) = refusal number
+wants1 (Asks.Point eta) = point eta
+wants1 Asks.Mode = mode
+wants1 (Asks.Refused number) = refusal number
 
 abbrev pub rules1 : Rules
 rules1 = record {
@@ -78,9 +76,9 @@ claims1 = record { Domain = H1.Domain; ceiling = C1.ceiling; Good = Found; Means
 -- ---- two effects
 
 abbrev pub wants2 : Request Pair → Rules.Wanted Pair
-wants2 (Two.Point eta) = point eta
-wants2 Two.Mode = mode
-wants2 (Two.Refused number) = refusal number
+wants2 (Asks.Point eta) = point eta
+wants2 Asks.Mode = mode
+wants2 (Asks.Refused number) = refusal number
 
 abbrev pub rules2 : Rules
 rules2 = record {
@@ -172,9 +170,9 @@ running_sums (Err (E.Refused number)) = no_sums
 running_sums (Err (E.RefusedAt number n)) = no_sums
 
 abbrev pub point_wanted : Request Pair → Pair
-point_wanted (Wants.Point eta) = eta
-point_wanted Wants.Mode = record { first = word 0; second = word 0 }
-point_wanted (Wants.Refused number) = record { first = word 0; second = word 0 }
+point_wanted (Asks.Point eta) = eta
+point_wanted Asks.Mode = record { first = word 0; second = word 0 }
+point_wanted (Asks.Refused number) = record { first = word 0; second = word 0 }
 
 module _ (S : Store) (setup : Setup) (counts : List ℕ) (observations : List Observation) (I : Inner) where
   abbrev pub fit_at : Held S → Fit
