@@ -196,7 +196,7 @@ fn population_source(search: Search2) -> usize
 
 // With two effects: from where the blocks of the work words get their rows, as the point c makes `after` of
 // `search`.
-#[tactic(auto, unfolding(crate::specs::Subjects::sources2))]
+#[tactic(auto, unfolding(crate::specs::Subjects::sources2, float64::specs::Pick::pick))]
 pub fn sources_2d(settings: Settings2, search: Search2, after: Search2, c: Conditional2) -> Sources
     ensures { result ≡ sources2 settings search after c }
 {
