@@ -9,6 +9,7 @@ ghost use Rattle.population.specs.Steps.{whole_from, unkept, cleared};
 use super::Turned;
 use super::kept_points::Evaluated;
 use cache::CacheOrder;
+use matrix::Pair;
 use mode::Request;
 use search::{Fit, Halted, Place, Progress, Step, Tally};
 use std::ops::ControlFlow;

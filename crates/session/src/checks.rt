@@ -9,6 +9,7 @@ ghost use Rattle.session.specs.Session.{count_within, search_within, search_with
 ghost use Rattle.session.specs.SubjectReply.{admit_subject_reply};
 
 use super::{Admitted, Awaited, State, ZERO};
+use matrix::Pair;
 use mode::Request;
 use mode::population_focei::{Search, Stage};
 use mode_2d::population_focei_2d::Search2;
