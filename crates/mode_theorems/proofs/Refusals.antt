@@ -1,5 +1,4 @@
 -- What 13 and 14 say of the history: the whole grid was asked, and nothing more. There is no number but these and 15. Assumes nothing.
-use Rattle.std.specs.Prelude.{Float}
 use mathlib.Core.Path.{◌≡◌, refl, sym, ap, ◌∙◌, subst}
 use mathlib.Core.Logic.{◌⊎◌, inl, inr}
 use mathlib.Core.Bool.{Bool, true, false, not, true≢false}
@@ -293,17 +292,17 @@ number_of (Point p) = 0
 number_of Mode = 0
 number_of (Refused n) = n
 
-apart : {X : Type 0} → Refused 13 ≡ Refused 14 → X
+apart : {X : Type 0} → ◌≡◌ {A = Request Float} (Refused 13) (Refused 14) → X
 unfolding number_of
 apart e = let n : ◌≡◌ {A = ℕ} 13 14 = ap number_of e in absurd (omega arith)
 
-by_13 : (a b : Bool) → pick a (Refused 13) (pick b (Refused 13) (Refused 14)) ≡ Refused 13 → T a ⊎ T b
+by_13 : (a b : Bool) → ◌≡◌ {A = Request Float} (pick a (Refused 13) (pick b (Refused 13) (Refused 14))) (Refused 13) → T a ⊎ T b
 unfolding pick
 by_13 true b e = inl tt
 by_13 false true e = inr tt
 by_13 false false e = apart (sym e)
 
-by_14 : (a b : Bool) → pick a (Refused 13) (pick b (Refused 13) (Refused 14)) ≡ Refused 14 → T (not a) × T (not b)
+by_14 : (a b : Bool) → ◌≡◌ {A = Request Float} (pick a (Refused 13) (pick b (Refused 13) (Refused 14))) (Refused 14) → T (not a) × T (not b)
 unfolding pick
 by_14 true b e = apart e
 by_14 false true e = apart e
@@ -368,7 +367,7 @@ point_none n p e = absurd (true≢false (ap is_point e))
 mode_none : (n : ℕ) → Numbered n Mode
 mode_none n e = absurd (true≢false (ap is_mode e))
 
-numbered : (n k : ℕ) → Refused k ≡ Refused n → n ≡ k
+numbered : (n k : ℕ) → ◌≡◌ {A = Request Float} (Refused k) (Refused n) → n ≡ k
 unfolding number_of
 numbered n k e = sym (ap number_of e)
 

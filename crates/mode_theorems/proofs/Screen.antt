@@ -1,5 +1,4 @@
 -- The grid: a search that comes to its mode has screened 17 points, with one upward cell. Assumes nothing.
-use Rattle.std.specs.Prelude.{Float}
 use mathlib.Core.Path.{◌≡◌, refl, sym, ap, ◌∙◌, subst}
 use mathlib.Core.Logic.{◌⊎◌, inl, inr}
 use mathlib.Core.Bool.{Bool, true, false, not, true≢false}

@@ -1,5 +1,5 @@
 -- An evaluation's sums are floats of the format, so that their bits tell them, and it keeps the number of work words. Assumes nothing.
-use Rattle.std.specs.Prelude.{Err, None, Ok, Option, Some, ℕ}
+use Rattle.std.specs.Prelude.{Err, None, Ok, Option, Some}
 use mathlib.Core.Path.{◌≡◌, refl, subst, ◌∙◌}
 use mathlib.Core.Bool.{false}
 use mathlib.Core.List.{List, [], ◌∷◌}

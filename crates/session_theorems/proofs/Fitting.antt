@@ -1,5 +1,4 @@
 -- The points that a search asks for are floats of the format, so that their bits tell them: where eta_bound and the warm start are. Assumes nothing.
-use Rattle.std.specs.Prelude.{Float}
 use mathlib.Core.Path.{◌≡◌, subst}
 use Prim.Native.Nat.{ℕ}
 use native.Mathlib.Omega.{arith}

@@ -1,5 +1,5 @@
 -- A session's state stays of the format from call to call, so that its words tell it. Assumes nothing.
-use Rattle.std.specs.Prelude.{Err, Float, None, Ok, Option, Some}
+use Rattle.std.specs.Prelude.{Err, None, Ok, Option, Some}
 use mathlib.Core.Path.{◌≡◌, refl, sym, ap, subst}
 use mathlib.Core.Bool.{true, false}
 use mathlib.Core.List.{List}

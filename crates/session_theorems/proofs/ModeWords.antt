@@ -1,5 +1,5 @@
 -- What a mode's words, settings and trials are in a session, with one effect and with two: what `Tells` asks of a reading. Assumes nothing.
-use Rattle.std.specs.Prelude.{None, Option, Some, Float}
+use Rattle.std.specs.Prelude.{None, Option, Some}
 use mathlib.Core.Path.{◌≡◌, refl, sym, ap, subst, ◌∙◌}
 use mathlib.Core.Bool.{false}
 use mathlib.Core.List.{List, [], ◌∷◌, ◌++◌}

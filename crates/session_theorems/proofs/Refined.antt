@@ -1,5 +1,5 @@
 -- A session over the cache's words and one over the list that they stand for go alike, `over_the_list` (specs/Refined.antt). Assumes nothing.
-use Rattle.std.specs.Prelude.{Err, None, Ok, Option, Some, ℕ}
+use Rattle.std.specs.Prelude.{Err, None, Ok, Option, Some}
 use mathlib.Core.Path.{◌≡◌, refl, sym, ap, ap₂, subst, ◌∙◌}
 use mathlib.Core.Bool.{Bool, true, false}
 use mathlib.Core.List.{List, [], ◌∷◌, ◌++◌}

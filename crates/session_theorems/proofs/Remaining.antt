@@ -1,5 +1,4 @@
 -- How many points a search may still ask for, from any position that 19 lets pass and whatever its floats, and which numbers it may end with. Assumes nothing.
-use Rattle.std.specs.Prelude.{Float}
 use mathlib.Core.Path.{◌≡◌, refl, sym, ◌∙◌}
 use mathlib.Core.Bool.{Bool, true, false}
 use mathlib.Core.List.{List}

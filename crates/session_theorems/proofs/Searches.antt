@@ -1,5 +1,4 @@
 -- A subject's search within an objective is a search of the rules, with one effect and with two: what `Suits` asks of an `Inner`. Assumes nothing.
-use Rattle.std.specs.Prelude.{Float}
 use mathlib.Core.Path.{◌≡◌, refl, sym, ap, subst, ◌∙◌}
 use mathlib.Core.Bool.{Bool, true, false}
 use Prim.Native.Nat.{ℕ, suc, ◌+◌, ◌*◌, ◌≤◌, ◌<◌}

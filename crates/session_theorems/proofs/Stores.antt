@@ -1,5 +1,5 @@
 -- What an objective needs of its kept evaluations, and that those in lent words have it: each was made at a point that passed 7, and its sums are finite. Assumes nothing.
-use Rattle.std.specs.Prelude.{None, Option, Some, ℕ}
+use Rattle.std.specs.Prelude.{None, Option, Some}
 use mathlib.Core.Path.{◌≡◌, refl, sym, ap, subst, ◌∙◌}
 use mathlib.Core.Bool.{false}
 use mathlib.Core.List.{List, [], ◌∷◌, ◌++◌}

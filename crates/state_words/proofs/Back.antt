@@ -1,6 +1,6 @@
 -- What was saved is there: where as many words are lent as a state has, the first of them are the state's and those beyond stay (`saved_first`), and loading them gives the state back
 -- (`back`). Floats must be binary64's own, which a state's are, and counts a u32's. Assumes nothing.
-use Rattle.std.specs.Prelude.{Float, None, Option, Some}
+use Rattle.std.specs.Prelude.{None, Option, Some}
 use mathlib.Core.Path.{◌≡◌, refl, sym, ap, ◌∙◌}
 use mathlib.Core.Bool.{Bool, true, false}
 use mathlib.Core.List.{List, [], ◌∷◌, ◌++◌}
