@@ -6,7 +6,8 @@ ghost use Rattle.mode.specs.Rules.{eta_tolerance, start};
 ghost use Rattle.state_words.specs.SearchWords.{point_of, saved};
 ghost use Rattle.test_exports.specs.Mode.{settings_of, requested, advanced, request_number, point_or};
 
-use mode::population_focei::{Conditional, Request, Search, Settings};
+use mode::Request;
+use mode::population_focei::{Conditional, Search, Settings};
 
 // The tolerance of eta within which a mode is settled (`mode::population_focei::eta_tolerance`).
 pub fn curlewstand_eta_tolerance(gradient_tolerance: f64) -> f64
