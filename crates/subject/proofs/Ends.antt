@@ -15,6 +15,7 @@ use Rattle.subject.specs.Subject.{has_nonfinite_sum, finish}
 use Rattle.subject.specs.declared.Trial.{Trial}
 use Rattle.subject.specs.declared.Sums.{Sums}
 use Rattle.subject.specs.declared.PredictionRow.{PredictionRow}
+use Rattle.subject.specs.declared.EvaluationError.{EvaluationError}
 use Rattle.subject.specs.declared.EvaluationError.TheVariants.{Refused, RefusedAt}
 
 -- ---- the numbers
@@ -165,15 +166,10 @@ module _ (trial : Trial) (reply : List ℕ) (n : ℕ) (few : n < 2 ^ 64) where
   Ends os x = (s : Sums) × ((add_observations trial reply os x).evaluation ≡ Ok s)
 
   -- what is refused once stays refused
-  not_refused : (os : List Observation) (m : ℕ) (work : List ℕ) → Ends os (evaluating (Err (Refused m)) work) → ⊥
+  not_refused : (os : List Observation) (error : EvaluationError) (work : List ℕ) → Ends os (evaluating (Err error) work) → ⊥
   unfolding add_observation add_after
-  not_refused [] m work e = let q = e.1 in let z : ◌≡◌ {A = ℕ} 0 1 = cc in omega arith
-  not_refused (o ∷ os) m work e = not_refused os m work e
-
-  not_refused_at : (os : List Observation) (m i : ℕ) (work : List ℕ) → Ends os (evaluating (Err (RefusedAt m i)) work) → ⊥
-  unfolding add_observation add_after
-  not_refused_at [] m i work e = let q = e.1 in let z : ◌≡◌ {A = ℕ} 0 1 = cc in omega arith
-  not_refused_at (o ∷ os) m i work e = not_refused_at os m i work e
+  not_refused [] error work e = let q = e.1 in let z : ◌≡◌ {A = ℕ} 0 1 = cc in omega arith
+  not_refused (o ∷ os) error work e = not_refused os error work e
 
   abbrev Rows : ℕ → List Observation → List ℕ → Type 0
   Rows k os work = (j : ℕ) → j < row_words * length os → get_or work (trial.block + row_words * k + j) 0 ≡ get_or (reply_rows trial.width trial.effects reply os) j 0
@@ -216,7 +212,7 @@ module _ (trial : Trial) (reply : List ℕ) (n : ℕ) (few : n < 2 ^ 64) where
       → (r : Option ℕ) → ((p : ℕ) → r ≡ Some p → p ≡ o.row * row_length trial.width trial.effects) → Ends os (add_at sums o trial reply work r) → Rows k (o ∷ os)
       (add_observations trial reply os (add_at sums o trial reply work r)).work
   unfolding add_at
-  with_one k o os rest sums work at e room None is r = absurd (not_refused_at os 10 sums.observation work r)
+  with_one k o os rest sums work at e room None is r = absurd (not_refused os (RefusedAt 10 sums.observation) work r)
   with_one k o os rest sums work at e room (Some p) is r =
       let row = prediction_row reply p trial.width o.output in
       let v = written trial.block sums.observation row work in
@@ -238,21 +234,18 @@ module _ (trial : Trial) (reply : List ℕ) (n : ℕ) (few : n < 2 ^ 64) where
   has_rows k (o ∷ os) (Ok sums) work g s room r =
       with_one k o os (has_rows (k + 1) os) sums work g s room (row_at reply trial.width trial.effects o.output o.row)
       (λ p q. row_is trial.width trial.effects o.output o.row p q) r
-  has_rows k (o ∷ os) (Err (Refused m)) work g s room r = absurd (not_refused (o ∷ os) m work r)
-  has_rows k (o ∷ os) (Err (RefusedAt m i)) work g s room r = absurd (not_refused_at (o ∷ os) m i work r)
+  has_rows k (o ∷ os) (Err error) work g s room r = absurd (not_refused (o ∷ os) error work r)
 
 -- ---- the end
 pub finite_sums : (e : Evaluation) (s : Sums) → finish e ≡ Ok s → has_nonfinite_sum s ≡ false
 unfolding finish
 finite_sums (Ok t) s q = cases (λ (z : Evaluation). z ≡ Ok s → has_nonfinite_sum s ≡ false) (has_nonfinite_sum t) (λ h w. cc) (λ h w. cc) q
-finite_sums (Err (Refused n)) s q = cc
-finite_sums (Err (RefusedAt n i)) s q = cc
+finite_sums (Err error) s q = cc
 
 still_running : (e : Evaluation) (s : Sums) → finish e ≡ Ok s → (t : Sums) × (e ≡ Ok t)
 unfolding finish
 still_running (Ok t) s q = (t, refl)
-still_running (Err (Refused n)) s q = let z : ◌≡◌ {A = ℕ} 0 1 = cc in absurd (omega arith)
-still_running (Err (RefusedAt n i)) s q = let z : ◌≡◌ {A = ℕ} 0 1 = cc in absurd (omega arith)
+still_running (Err error) s q = let z : ◌≡◌ {A = ℕ} 0 1 = cc in absurd (omega arith)
 
 plain_numbers : (k : ℕ) (e : Evaluation) (n : ℕ) → Good k e → finish e ≡ Err (Refused n) → (n ≡ 8) ⊎ ((n ≡ 9) ⊎ (n ≡ 12))
 unfolding finish Good
