@@ -262,8 +262,5 @@ pub fn refused(progress: Progress, tally: Tally, number: u32, place: Place) -> H
 pub fn is_over(step: Step) -> bool
     ensures { result ≡ is_over step }
 {
-    match step {
-        Step::Asked(_, _) => false,
-        Step::Finished(_) | Step::Refused(_, _) => true,
-    }
+    !matches!(step, Step::Asked(_, _))
 }

@@ -17,10 +17,7 @@ fn closed_1d(fit: Fit, best: Conditional, rows: u32) -> Option<Mode>
 {
     let omega = fit.omega;
     let curvature = 1.0 / omega + best.information;
-    if float64::is_nonfinite(curvature) {
-        return None;
-    }
-    if curvature <= 0.0 {
+    if float64::is_nonfinite(curvature) || curvature <= 0.0 {
         return None;
     }
     let term = 2.0 * best.nll - rows as f64 * likelihood::population_focei::LOG_2PI
