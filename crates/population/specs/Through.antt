@@ -1,5 +1,5 @@
 -- The way of a search through kept evaluations: as long as the point that it wants is kept, it goes on with what is kept of it.
-use Rattle.std.specs.Prelude.{ℕ, zero, suc, Bool, true, List, ◌==◌, None, Option, Some}
+use Rattle.std.specs.Prelude.{◌≡◌, ◌≢◌, ℕ, zero, suc, Bool, true, List, ◌==◌, None, Option, Some}
 use Rattle.float64.specs.Pick.{pick}
 use Rattle.matrix.specs.declared.Pair.{Pair}
 use Rattle.subject.specs.declared.Sums.{Sums}
@@ -110,3 +110,21 @@ unfoldable pub through_from : Fit → ℕ → Cache → ℕ → Option Evaluated
 through_from fit rows kept n hand progress work =
     let t = taken fit rows hand progress work in
     through fit rows kept n t.value t.work
+
+-- ---- a search of either kind alone
+
+-- searches X by settings S take what is in hand, and want, what they do as the objective's
+pub record Alike (S X : Type 0) (is_of : S → Fit → Progress → Type 0) (own : SubjectSearch → X)
+    (among : X → SubjectSearch) (alone : S → Fit → ℕ → Option Evaluated → X → List ℕ → Worked X) (wants : S → X → Wanted) : Type 0 where
+  pub takes : (s : S) (fit : Fit) (p : Progress) → is_of s fit p → (rows : ℕ) (hand : Option Evaluated) (x : X) (work : List ℕ)
+      → let t = alone s fit rows hand x work in
+      worked (B.with_search p (among t.value)) t.work ≡ taken fit rows hand (B.with_search p (among x)) work
+  pub wants_so : (s : S) (fit : Fit) (p : Progress) → is_of s fit p → (x : X) → wants s x ≡ B.wanted_by fit (B.with_search p (among x))
+  pub begins : (s : S) (fit : Fit) (p : Progress) → is_of s fit p → (rows : ℕ) (hand : Option Evaluated) (work : List ℕ)
+      → taken fit rows hand (B.with_search p (among (own p.search))) work ≡ taken fit rows hand p work
+
+abbrev pub IsOne : Settings → Fit → Progress → Type 0
+IsOne s fit progress = (fit.effects ≢ 2) × (s ≡ B.settings fit progress)
+
+abbrev pub IsTwo : Settings2 → Fit → Progress → Type 0
+IsTwo s fit progress = (fit.effects ≡ 2) × (s ≡ B.settings2 fit progress)

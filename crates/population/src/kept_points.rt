@@ -1,14 +1,21 @@
 // The way of a subject's search through kept evaluations: as long as the point that it wants is kept, it goes
-// on with what is kept of it. The loop of each number of effects carries the search alone and not the whole
+// on with what is kept of it. The loop carries the search alone and not the whole
 // objective, since a value is copied wherever it is passed on.
-ghost use Rattle.std.specs.Prelude.{◌≡◌, ◌≢◌};
+ghost use Rattle.std.specs.Prelude.{◌≡◌, ℕ, List, Option};
 ghost use Rattle.mode_2d.specs.Rules.{of};
 ghost use Rattle.work.specs.Work.{block};
 ghost use Rattle.cache.specs.Cache.{terms_of, copied};
-ghost use Rattle.search.specs.Subjects.{sums_of};
+ghost use Rattle.search.specs.Subjects.{sums_of, one_of, two_of, wanted1, wanted2};
+ghost use Rattle.search.specs.declared.Fit.{Fit};
+ghost use Rattle.search.specs.declared.Progress.{Progress};
+ghost use Rattle.search.specs.declared.SubjectSearch.{SubjectSearch};
+ghost use Rattle.search.specs.declared.SubjectSearch.TheVariants.{One, Two};
+ghost use Rattle.search.specs.declared.Wanted.{Wanted};
+ghost use Rattle.population.specs.declared.kept_points.Evaluated.{Evaluated};
 ghost use Rattle.population.specs.Kept.{cache_of};
-ghost use Rattle.population.specs.Population.{rows_of, worked};
-ghost use Rattle.population.specs.Through.{is_over, eta_of, found_unless, taken1, taken2, through_from};
+ghost use Rattle.population.specs.Population.{rows_of, Worked, worked};
+ghost use Rattle.population.specs.Through.{is_over, eta_of, found_unless, taken1, taken2, through_from, Alike, IsOne, IsTwo};
+ghost use Rattle.population.specs.Alone.{one_alike, two_alike};
 
 use cache::CacheOrder;
 use matrix::Pair;
@@ -60,8 +67,8 @@ fn eta_of(wanted: Wanted) -> Pair
     }
 }
 
-// The slot of the kept evaluation of a point, unless it is over. Both loops call it, so that it is compiled
-// once, by itself; two floats are passed faster than a pair.
+// The slot of the kept evaluation of a point, unless it is over. The loop of either kind calls it, so that it is
+// compiled once, by itself; two floats are passed faster than a pair.
 #[tactic(auto, unfolding(crate::specs::Through::found_unless, float64::specs::Pick::pick))]
 fn kept_at(
     over: bool,
@@ -96,99 +103,144 @@ fn recall(k: usize, slot: usize, cache: &[u64]) -> Sums
     search::questions::sums_of(cache::entries::terms_of(cache, k, slot))
 }
 
-// ---- one effect
+// ---- a search alone
 
-// The search with what is in hand; the rows of the trial block go to the blocks where the search has them.
+// A subject's search alone, with one effect or two, by its settings: what it wants, and what it makes of what is
+// in hand. The rows of the trial block go to the blocks where the search has them.
+trait Searching: Copy {
+    type Search: Copy;
+
+    ghost is_of: { Self → Fit → Progress → Type 0 };
+
+    ghost own: { SubjectSearch → Self.Search };
+
+    ghost among: { Self.Search → SubjectSearch };
+
+    ghost alone: { Self → Fit → ℕ → Option Evaluated → Self.Search → List ℕ → Worked Self.Search };
+
+    ghost wants: { Self → Self.Search → Wanted };
+
+    ghost alike: { Alike Self Self.Search is_of own among alone wants };
+
+    fn own(search: SubjectSearch) -> Self::Search
+        ensures { result ≡ own search };
+
+    fn among(search: Self::Search) -> SubjectSearch
+        ensures { result ≡ among search };
+
+    fn take(
+        self,
+        fit: Fit,
+        rows: usize,
+        hand: Option<Evaluated>,
+        search: Self::Search,
+        work: &mut [u64],
+    ) -> Self::Search
+        ensures { worked result work.new ≡ alone self fit rows hand search work.old };
+
+    fn wanted(self, search: Self::Search) -> Wanted
+        ensures { result ≡ wants self search };
+}
+
 #[tactic(auto, unfolding(crate::specs::Through::taken1))]
-fn take_1d(
-    fit: Fit,
-    settings: Settings,
-    rows: usize,
-    hand: Option<Evaluated>,
-    search: Search,
-    work: &mut [u64],
-) -> Search
-    ensures { worked result work.new ≡ taken1 fit settings rows hand search work.old }
-{
-    match hand {
-        None => search,
-        Some(Evaluated { eta, sums }) => {
-            let c = search::points::conditional(fit, eta, sums);
-            let sources = search::points::sources(search, c);
-            work::move_rows(work, rows, sources);
-            search.advance(settings, c)
-        }
-    }
-}
+impl Searching for Settings {
+    type Search = Search;
 
-fn through_kept_1d(
-    fit: Fit,
-    rows: usize,
-    order: CacheOrder,
-    start: Progress,
-    hand: Option<Evaluated>,
-    fuel: usize,
-    cache: &[u64],
-    work: &mut [u64],
-) -> Reached
-    requires { fit.effects ≢ 2 }
-    ensures { worked result work.new
-        ≡ through_from fit rows (cache_of cache.now order) fuel hand start work.old }
-{
-    let settings = search::points::settings(fit, start);
-    let mut search = search::one_of(start.search);
-    let mut left = fuel;
-    let mut given = hand;
-    'kept: loop {
-        search = take_1d(fit, settings, rows, given, search, work);
-        let wanted = search::points::wanted_1d(settings, search);
-        let over = is_over(left, wanted);
-        let at = eta_of(wanted);
-        match kept_at(over, fit, start.subject, order, at.first, at.second, cache) {
-            Some(slot) => {
-                left -= 1;
-                recall_rows(fit.k, slot, rows, cache, work);
-                given = Some(Evaluated {
-                    eta: at,
-                    sums: recall(fit.k, slot, cache),
-                });
-            }
-            None => {
-                break 'kept Reached {
-                    progress: search::points::with_search(start, SubjectSearch::One(search)),
-                    left,
-                    wanted,
-                };
+    ghost is_of = { IsOne };
+
+    ghost own = { one_of };
+
+    ghost among = { One };
+
+    ghost alone = { λ s fit rows hand x work. taken1 fit s rows hand x work };
+
+    ghost wants = { wanted1 };
+
+    ghost alike = { one_alike };
+
+    fn own(search: SubjectSearch) -> Search {
+        search::one_of(search)
+    }
+
+    fn among(search: Search) -> SubjectSearch {
+        SubjectSearch::One(search)
+    }
+
+    fn take(
+        self,
+        fit: Fit,
+        rows: usize,
+        hand: Option<Evaluated>,
+        search: Search,
+        work: &mut [u64],
+    ) -> Search {
+        match hand {
+            None => search,
+            Some(Evaluated { eta, sums }) => {
+                let c = search::points::conditional(fit, eta, sums);
+                let sources = search::points::sources(search, c);
+                work::move_rows(work, rows, sources);
+                search.advance(self, c)
             }
         }
     }
-}
 
-// ---- two effects
+    fn wanted(self, search: Search) -> Wanted {
+        search::points::wanted_1d(self, search)
+    }
+}
 
 #[tactic(auto, unfolding(crate::specs::Through::taken2))]
-fn take_2d(
-    settings: Settings2,
-    rows: usize,
-    hand: Option<Evaluated>,
-    search: Search2,
-    work: &mut [u64],
-) -> Search2
-    ensures { worked result work.new ≡ taken2 settings rows hand search work.old }
-{
-    match hand {
-        None => search,
-        Some(Evaluated { eta, sums }) => {
-            let c = search::points::conditional_2d(eta, sums);
-            let after = search.advance(settings, c);
-            let sources = search::points::sources_2d(settings, search, after, c);
-            work::move_rows(work, rows, sources);
-            after
+impl Searching for Settings2 {
+    type Search = Search2;
+
+    ghost is_of = { IsTwo };
+
+    ghost own = { two_of };
+
+    ghost among = { Two };
+
+    ghost alone = { λ s fit rows hand x work. taken2 s rows hand x work };
+
+    ghost wants = { wanted2 };
+
+    ghost alike = { two_alike };
+
+    fn own(search: SubjectSearch) -> Search2 {
+        search::two_of(search)
+    }
+
+    fn among(search: Search2) -> SubjectSearch {
+        SubjectSearch::Two(search)
+    }
+
+    fn take(
+        self,
+        _fit: Fit,
+        rows: usize,
+        hand: Option<Evaluated>,
+        search: Search2,
+        work: &mut [u64],
+    ) -> Search2 {
+        match hand {
+            None => search,
+            Some(Evaluated { eta, sums }) => {
+                let c = search::points::conditional_2d(eta, sums);
+                let after = search.advance(self, c);
+                let sources = search::points::sources_2d(self, search, after, c);
+                work::move_rows(work, rows, sources);
+                after
+            }
         }
+    }
+
+    fn wanted(self, search: Search2) -> Wanted {
+        search::points::wanted_2d(self, search)
     }
 }
 
-fn through_kept_2d(
+fn through_kept_by<S: Searching>(
+    settings: S,
     fit: Fit,
     rows: usize,
     order: CacheOrder,
@@ -198,17 +250,16 @@ fn through_kept_2d(
     cache: &[u64],
     work: &mut [u64],
 ) -> Reached
-    requires { fit.effects ≡ 2 }
+    requires { S.is_of settings fit start }
     ensures { worked result work.new
         ≡ through_from fit rows (cache_of cache.now order) fuel hand start work.old }
 {
-    let settings = search::points::settings_2d(fit, start);
-    let mut search = search::two_of(start.search);
+    let mut search = S::own(start.search);
     let mut left = fuel;
     let mut given = hand;
     'kept: loop {
-        search = take_2d(settings, rows, given, search, work);
-        let wanted = search::points::wanted_2d(settings, search);
+        search = settings.take(fit, rows, given, search, work);
+        let wanted = settings.wanted(search);
         let over = is_over(left, wanted);
         let at = eta_of(wanted);
         match kept_at(over, fit, start.subject, order, at.first, at.second, cache) {
@@ -222,7 +273,7 @@ fn through_kept_2d(
             }
             None => {
                 break 'kept Reached {
-                    progress: search::points::with_search(start, SubjectSearch::Two(search)),
+                    progress: search::points::with_search(start, S::among(search)),
                     left,
                     wanted,
                 };
@@ -251,7 +302,13 @@ pub fn through_kept(
 {
     let rows = super::rows_of(counts, progress.subject);
     if fit.effects == 2 {
-        return through_kept_2d(fit, rows, order, progress, hand, fuel, cache, work);
+        let settings = search::points::settings_2d(fit, progress);
+        return through_kept_by(
+            settings, fit, rows, order, progress, hand, fuel, cache, work,
+        );
     }
-    through_kept_1d(fit, rows, order, progress, hand, fuel, cache, work)
+    let settings = search::points::settings(fit, progress);
+    through_kept_by(
+        settings, fit, rows, order, progress, hand, fuel, cache, work,
+    )
 }

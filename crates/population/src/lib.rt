@@ -32,6 +32,7 @@ pub fn rows_of(counts: &[u64], subject: usize) -> usize
 
 // A subject's warm start, the source's warm_etas: a word for each subject, or two with two effects. Beyond
 // the end it is zero.
+#[tactic(auto, unfolding(crate::specs::Population::warm_of, float64::specs::Pick::pick))]
 pub fn warm_of(warm: &[u64], effects: u32, subject: usize) -> Pair
     ensures { result ≡ warm_of warm.now effects subject }
 {
@@ -54,6 +55,7 @@ pub fn warm_of(warm: &[u64], effects: u32, subject: usize) -> Pair
 }
 
 // Stores a subject's warm start; nothing is written beyond the end.
+#[tactic(auto, unfolding(crate::specs::Population::warm_stored, float64::specs::Pick::pick))]
 fn store_warm(warm: &mut [u64], effects: u32, subject: usize, eta: Pair)
     ensures { warm.new ≡ warm_stored effects subject eta warm.old }
 {
@@ -72,6 +74,7 @@ fn store_warm(warm: &mut [u64], effects: u32, subject: usize, eta: Pair)
 
 // The mode has passed check 17: it is added to the objective, and the next subject's search begins, with the
 // work words cleared of this one's rows; after the last subject the objective ends.
+#[tactic(auto, unfolding(crate::specs::Population::next_subject, float64::specs::Pick::pick))]
 fn next_subject(
     fit: Fit,
     counts: &[u64],
