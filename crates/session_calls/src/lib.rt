@@ -2,7 +2,8 @@
 // a reply (`finish_reply`) and a failure of the simulator (`fail`). All but setup come to a run of the
 // objective (`run`), to a refusal that ends it (`ended_as`) or to one that alters nothing. The tally goes by
 // value here, and of the observations there is what was found of them: how many there are, and their check.
-// Each function is defined for all values and words.
+// What is lent goes by slices of its own, as the C interface lends it. Each function is defined for all values
+// and words.
 #![tactic(auto)]
 
 ghost use Rattle.std.specs.Prelude.{◌≡◌, length};

@@ -28,6 +28,8 @@ pub const STATE_WORDS: usize = 44;
 
 // ---- the state of words
 
+// The words stay a slice and not an array of 44, since what `load` promises is of all that is lent.
+
 // The pair of the two words from i on.
 #[tactic(auto, unfolding(crate::specs::SearchWords2::pair_at))]
 fn pair_at(words: &[u64], i: usize) -> Pair
