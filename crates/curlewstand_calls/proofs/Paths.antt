@@ -1,5 +1,5 @@
 -- What the parts of a call answered, put together. Assumes nothing.
-use Rattle.std.specs.Prelude.{Err, None, Ok, Option, Some, ℕ}
+use Rattle.std.specs.Prelude.{Err, None, Ok, Option, Some}
 use mathlib.Core.Path.{◌≡◌, refl, ◌∙◌}
 use mathlib.Core.Bool.{false}
 use mathlib.Core.List.{List, [], ◌∷◌}

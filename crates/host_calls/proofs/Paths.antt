@@ -1,26 +1,22 @@
 -- The ways through the code: one law for each, over plain variables. Assumes nothing.
-use Rattle.std.specs.Prelude.{Err, None, Ok, Option, Some}
-use mathlib.Core.Path.{◌≡◌, refl, sym, ap, ◌∙◌}
-use mathlib.Core.Bool.{Bool, true, false}
+use Rattle.std.specs.Prelude.{None, Option, Some}
+use mathlib.Core.Path.{◌≡◌, sym, ap, ◌∙◌}
 use mathlib.Core.List.{List}
 use Prim.Native.Nat.{ℕ, ◌≤◌, ◌<◌, ◌^◌}
 use native.Mathlib.Nat.{mod-eq_of_lt}
-use borrow.Author.Tests.{lt-ltb, le-ltb, eq-eqb, ne_eqb}
-use lib.Dec.{T, eqb}
-use lib.ListN.{length, set}
+use borrow.Author.Tests.{lt-ltb, le-ltb}
+use lib.Dec.{T}
+use lib.ListN.{length}
 use lib.Ieee.{Float, binary64, fits, to_bits}
 use lib.Ieee.Bits.{of_bits-to_bits}
 use Rattle.float64.specs.Answer.{Answer, given, refused}
 use Rattle.float64.specs.Arithmetic.{word}
-use Rattle.float64.specs.Pick.{pick, yes, no}
-use Rattle.matrix.specs.declared.Pair.{Pair}
+use Rattle.float64.specs.Pick.{yes, no}
 use Rattle.subject.specs.Subject.{additive_sd, Evaluation}
 use Rattle.setup.specs.declared.Parameters.{Parameters}
 use Rattle.setup.specs.declared.Setup.{Setup}
-use Rattle.search.specs.declared.Place.{Place}
 use Rattle.search.specs.declared.Place.TheVariants as At
 use Rattle.search.specs.declared.Step.{Step}
-use Rattle.search.specs.declared.Step.TheVariants as Says
 use Rattle.search.specs.declared.Tally.{Tally}
 use Rattle.machine.specs.Machine.{Ran}
 use Rattle.population.specs.Kept.{words}
@@ -31,9 +27,8 @@ use Rattle.session.specs.declared.Begun.{Begun}
 use Rattle.session.specs.declared.Called.{Called}
 use Rattle.session.specs.declared.State.{State}
 use Rattle.state_words.specs.SessionWords as W
-use Rattle.host_calls.specs.Hosting.{setup_of, parameters_of, setup_from, setup_bits, parameters_from, parameter_bits, answer_words, place_words, answer_of, answered, number_of, is_unaltered}
-use Rattle.host_calls.specs.Hosting.{told_as, told, no_state, opened_to, opened, Out, out_of, out, did, unknown, with_state, open_with, objective_with, failure_with, finish_with}
-use Rattle.host_calls.specs.declared.AnswerWords.{AnswerWords}
+use Rattle.host_calls.specs.Hosting.{setup_of, parameters_of, setup_from, setup_bits, parameters_from, parameter_bits, place_words, answered}
+use Rattle.host_calls.specs.Hosting.{told_as, told, no_state, opened, Out, out_of, out, did, unknown, with_state, open_with, objective_with, failure_with, finish_with}
 use Rattle.host_calls.specs.declared.Done.{Done}
 use Rattle.host_calls.specs.declared.SessionParameters.{SessionParameters}
 use Rattle.host_calls.specs.declared.SessionSetup.{SessionSetup}
@@ -119,99 +114,6 @@ parameters_handed p a b c d = λ i. record {
   omega = back p.omega c i;
   additive_sd = additive_sd p.has_additive (back p.additive d i);
 }
-
--- ---- the words of an answer
-module _ (number : ℕ) {place : Place} where
-  pub nowhere_words : place ≡ At.Nowhere → answer_words 2 number 0 0 0 ≡ place_words number place
-  unfolding place_words
-  nowhere_words t = ap (place_words number) (sym t)
-
-  pub subject_words : {subject : ℕ} → place ≡ At.Subject subject → answer_words 2 number 1 subject 0 ≡ place_words number place
-  unfolding place_words
-  subject_words t = ap (place_words number) (sym t)
-
-  pub observation_words_lem : {subject observation : ℕ} → place ≡ At.Observation subject observation → answer_words 2 number 2 subject observation ≡ place_words number place
-  unfolding place_words
-  observation_words_lem t = ap (place_words number) (sym t)
-
-module _ {step : Step} where
-  pub asked_words : {eta individual : Pair} {a b c d : ℕ} → step ≡ Says.Asked eta individual → a ≡ to_bits binary64 eta.first → b ≡ to_bits binary64 eta.second → c ≡ to_bits binary64
-      individual.first → d ≡ to_bits binary64 individual.second
-      → answer_words 0 a b c d ≡ answer_of step
-  unfolding answer_of
-  asked_words t ea eb ec ed = (λ i. answer_words 0 (ea i) (eb i) (ec i) (ed i)) ∙ ap answer_of (sym t)
-
-  pub finished_words : {objective : Float} {a : ℕ} → step ≡ Says.Finished objective → a ≡ to_bits binary64 objective → answer_words 1 a 0 0 0 ≡ answer_of step
-  unfolding answer_of
-  finished_words t ea = (λ i. answer_words 1 (ea i) 0 0 0) ∙ ap answer_of (sym t)
-
-  pub refused_words : {number : ℕ} {place : Place} {r : AnswerWords} → step ≡ Says.Refused number place → r ≡ place_words number place → r ≡ answer_of step
-  unfolding answer_of
-  refused_words t e = e ∙ ap answer_of (sym t)
-
-  pub asked_number : {eta individual : Pair} → step ≡ Says.Asked eta individual → 0 ≡ number_of step
-  unfolding number_of
-  asked_number t = ap number_of (sym t)
-
-  pub finished_number : {objective : Float} → step ≡ Says.Finished objective → 0 ≡ number_of step
-  unfolding number_of
-  finished_number t = ap number_of (sym t)
-
-  pub refused_number : {number : ℕ} {place : Place} → step ≡ Says.Refused number place → number ≡ number_of step
-  unfolding number_of
-  refused_number t = ap number_of (sym t)
-
--- v to z are the words after each store
-pub answer_written : (a : AnswerWords) (w : List ℕ) {v x y z r : List ℕ} → v ≡ set w 0 a.kind → x ≡ set v 1 a.first → y ≡ set x 2 a.second → z ≡ set y 3 a.third → r ≡ set z 4 a.fourth →
-    r ≡ answered a w
-unfolding answered
-answer_written a w ev ex ey ez er =
-    er ∙ ap (λ (u : List ℕ). set u 4 a.fourth) (ez ∙ ap (λ (u : List ℕ). set u 3 a.third) (ey ∙ ap (λ (u : List ℕ). set u 2 a.second) (ex ∙ ap (λ (u : List ℕ). set u 1 a.first) ev)))
-
--- ---- the number of a refusal that alters nothing
-module _ (n : ℕ) where
-  pub none_altered : n ≡ 0 → false ≡ is_unaltered n
-  unfolding is_unaltered
-  none_altered e = yes _ (eq-eqb _ _ e) refl
-
-  pub early_unaltered : (n ≡ 0 → ⊥) → n < 6 → true ≡ is_unaltered n
-  unfolding is_unaltered
-  early_unaltered e l = no _ (ne_eqb _ _ e) (yes _ (lt-ltb _ _ l) refl)
-
-  pub later_unaltered : {r : Bool} → (n ≡ 0 → ⊥) → 6 ≤ n → r ≡ eqb n 19 → r ≡ is_unaltered n
-  unfolding is_unaltered
-  later_unaltered e l q = no _ (ne_eqb _ _ e) (no _ (le-ltb _ _ l) q)
-
--- ---- the state and the answer as they are told; n is the number, a the answer's words, w the words afterwards
-module _ (c : Called) (state answer : List ℕ) {n : ℕ} {a : AnswerWords} {w : List ℕ} {b : Bool} (en : n ≡ number_of c.step) (ea : a ≡ answer_of c.step) (ew : w ≡ answered a answer)
-    (eb : b ≡ is_unaltered n) where
-  by_number : {v : Bool} → b ≡ v → is_unaltered (number_of c.step) ≡ v
-  by_number t = ap is_unaltered (sym en) ∙ sym eb ∙ t
-
-  pub told_unaltered : b ≡ true → told_as (record { number = n; tally = c.tally }) state w ≡ told c state answer
-  unfolding told
-  told_unaltered t =
-      let stays : state ≡ pick (is_unaltered (number_of c.step)) state (W.saved_state c.state state) = yes _ (by_number t) refl in
-      λ i. told_as (record { number = en i; tally = c.tally }) (stays i) ((ew ∙ ap (λ (x : AnswerWords). answered x answer) ea) i)
-
-  pub told_altered : {s : List ℕ} → b ≡ false → s ≡ W.saved_state c.state state → told_as (record { number = n; tally = c.tally }) s w ≡ told c state answer
-  unfolding told
-  told_altered {s} t es =
-      let saves : s ≡ pick (is_unaltered (number_of c.step)) state (W.saved_state c.state state) = no _ (by_number t) es in
-      λ i. told_as (record { number = en i; tally = c.tally }) (saves i) ((ew ∙ ap (λ (x : AnswerWords). answered x answer) ea) i)
-
--- ---- a setup; w is the answer's words afterwards
-module _ (b : Begun) (state answer : List ℕ) {w : List ℕ} where
-  pub opens_told : {next : State} {s : List ℕ} → b.opening ≡ Ok next → w ≡ answered (answer_words 1 0 0 0 0) answer → s ≡ W.saved_state next state → told_as
-      (record { number = 0; tally = b.tally }) s w ≡ opened b state answer
-  unfolding opened opened_to
-  opens_told t ew es = (λ i. told_as (record { number = 0; tally = b.tally }) (es i) (ew i)) ∙ ap (opened_to b.tally state answer) (sym t)
-
-  pub refused_told : {number : ℕ} {place : Place} {a : AnswerWords} → b.opening ≡ Err (record { number = number; place = place }) → a ≡ place_words number place → w ≡ answered a answer → told_as
-      (record { number = number; tally = b.tally }) state w ≡ opened b state answer
-  unfolding opened opened_to
-  refused_told {number} t ea ew =
-      (λ i. told_as (record { number = number; tally = b.tally }) state ((ew ∙ ap (λ (x : AnswerWords). answered x answer) ea) i)) ∙ ap (opened_to b.tally state answer) (sym t)
 
 -- ---- words that are no state; r and w are what `no_state` answered and wrote
 pub unknown_out : (tally : Tally) (state answer cache work warm results : List ℕ) {r : Done} {w : List ℕ} → (r ≡ no_state tally) × (w ≡ answered (place_words 19 At.Nowhere) answer) → out r state w cache

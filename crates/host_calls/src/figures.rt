@@ -7,6 +7,7 @@ use session::State;
 use work::MOST_SUBJECTS;
 
 // The shrinkage that a state tells of an objective of so many subjects.
+#[tactic(auto, unfolding(crate::specs::Figures::shrinkage_in, crate::specs::Figures::told, float64::specs::Pick::pick))]
 fn shrinkage_in(at: State, subjects: usize) -> Option<f64>
     ensures { told result ≡ shrinkage_in subjects at }
 {

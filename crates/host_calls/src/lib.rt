@@ -111,7 +111,7 @@ pub fn parameters_of(parameters: SessionParameters) -> Parameters
 
 // ---- what a host gets
 
-// The words of an answer that says nothing.
+// Zeros, for the words that an answer has no use for.
 const NO_WORDS: AnswerWords = AnswerWords {
     kind: 0,
     first: 0,
@@ -120,6 +120,7 @@ const NO_WORDS: AnswerWords = AnswerWords {
     fourth: 0,
 };
 
+#[tactic(auto, unfolding(crate::specs::Hosting::place_words))]
 fn place_words(number: u32, place: Place) -> AnswerWords
     ensures { result ≡ place_words number place }
 {
@@ -146,6 +147,7 @@ fn place_words(number: u32, place: Place) -> AnswerWords
     }
 }
 
+#[tactic(auto, unfolding(crate::specs::Hosting::answer_of))]
 fn answer_of(step: Step) -> AnswerWords
     ensures { result ≡ answer_of step }
 {
@@ -166,9 +168,11 @@ fn answer_of(step: Step) -> AnswerWords
     }
 }
 
+#[tactic(auto, unfolding(crate::specs::Hosting::answered))]
 fn write_answer(words: AnswerWords, answer: &mut [u64])
     ensures { answer.new ≡ answered words answer.old }
 {
+    // one by one, since a host may lend fewer than five
     words::put(answer, 0, words.kind);
     words::put(answer, 1, words.first);
     words::put(answer, 2, words.second);
@@ -176,6 +180,7 @@ fn write_answer(words: AnswerWords, answer: &mut [u64])
     words::put(answer, 4, words.fourth);
 }
 
+#[tactic(auto, unfolding(crate::specs::Hosting::number_of))]
 fn number_of(step: Step) -> u32
     ensures { result ≡ number_of step }
 {
@@ -195,6 +200,7 @@ fn is_unaltered(number: u32) -> bool
 
 // Hands a call's answer to the host: writes the answer's words, and the state's unless the call was refused
 // and alters nothing.
+#[tactic(auto, unfolding(crate::specs::Hosting::told, float64::specs::Pick::pick))]
 pub fn told(called: Called, state: &mut [u64], answer: &mut [u64]) -> Done
     ensures { told_as result state.new answer.new ≡ told called state.old answer.old }
 {
@@ -219,6 +225,7 @@ pub fn no_state(tally: Tally, answer: &mut [u64]) -> Done
 
 // Hands the answer of setup to the host: writes the answer's words, and the state's where a session was
 // opened.
+#[tactic(auto, unfolding(crate::specs::Hosting::opened, crate::specs::Hosting::opened_to))]
 pub fn opened(begun: Begun, state: &mut [u64], answer: &mut [u64]) -> Done
     ensures { told_as result state.new answer.new ≡ opened begun state.old answer.old }
 {

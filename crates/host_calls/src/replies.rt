@@ -14,6 +14,7 @@ use subject::{Check, Evaluation, Position};
 
 // Where the check of the observations begins, if those of the awaited subject alone are lent: at the first of
 // the subject that the state's words name. The state is only read.
+#[tactic(auto, unfolding(crate::specs::SubjectReplies::subject_first))]
 pub fn subject_first(state: &mut [u64]) -> Check
     ensures { (result ≡ subject_first state.old) × (state.new ≡ state.old) }
 {

@@ -1,6 +1,3 @@
--- Paths, KeptPaths, EvaluationsPaths: the ways through the exported functions of the two-effect search, of the kept evaluations and of
--- the evaluations, for their proofs. Whole: those that take lent observations, put together.
-pub mod Paths
-pub mod KeptPaths
+-- EvaluationsPaths: the ways through the end of an evaluation. Whole: the exported function that takes lent observations, put together.
 pub mod EvaluationsPaths
 pub mod Whole

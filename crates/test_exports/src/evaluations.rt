@@ -59,6 +59,7 @@ pub fn curlewstand_individual_values(
     }
 }
 
+#[tactic(auto, unfolding(crate::specs::Evaluations::pair_of))]
 pub(crate) fn pair_of(floats: [f64; 2]) -> Pair
     ensures { result ≡ pair_of floats }
 {
@@ -66,6 +67,7 @@ pub(crate) fn pair_of(floats: [f64; 2]) -> Pair
     Pair { first, second }
 }
 
+#[tactic(auto, unfolding(crate::specs::Evaluations::beginning))]
 fn beginning(question: Question, reply: &[u64]) -> Begun
     ensures { result ≡ beginning question reply.now }
 {
@@ -91,6 +93,7 @@ fn beginning(question: Question, reply: &[u64]) -> Begun
     }
 }
 
+#[tactic(auto, unfolding(crate::specs::Evaluations::sums_written))]
 fn write_sums(sums: Sums, out: &mut [u64])
     ensures { out.new ≡ sums_written sums out.old }
 {
@@ -151,6 +154,7 @@ pub fn curlewstand_evaluate(
 }
 
 // Answers 0; or 4, with the two words of the place written.
+#[tactic(auto, unfolding(crate::specs::Evaluations::told_check, subject::specs::Observations::verdict))]
 fn told_check(check: Check, place: &mut [u64]) -> u32
     ensures { answered result place.new ≡ told_check check place.old }
 {
@@ -166,6 +170,7 @@ fn told_check(check: Check, place: &mut [u64]) -> u32
 
 // Document 01's check 4 of every observation; `counts` are the subjects' numbers of observations. Answers 0;
 // or 4, with the subject and the observation's number within it written to `place`.
+#[tactic(auto, unfolding(crate::specs::Evaluations::check_all))]
 pub fn curlewstand_check_observations(
     observations: &[Observation],
     width: u32,

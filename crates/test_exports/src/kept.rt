@@ -6,6 +6,7 @@ ghost use Rattle.test_exports.specs.Words.{key_of, order_of, order_words, terms_
 
 use cache::{CacheKey, CacheOrder, CachedTerms};
 
+#[tactic(auto, unfolding(crate::specs::Words::key_of))]
 fn key_of(words: [u64; 7]) -> CacheKey
     ensures { result ≡ key_of words }
 {
@@ -21,6 +22,7 @@ fn key_of(words: [u64; 7]) -> CacheKey
     }
 }
 
+#[tactic(auto, unfolding(crate::specs::Words::terms_from))]
 fn terms_from(words: [u64; 7]) -> CachedTerms
     ensures { result ≡ terms_from words }
 {
@@ -36,6 +38,7 @@ fn terms_from(words: [u64; 7]) -> CachedTerms
     }
 }
 
+#[tactic(auto, unfolding(crate::specs::Words::order_of))]
 fn order_of(words: [u64; 4]) -> CacheOrder
     ensures { result ≡ order_of words }
 {
@@ -48,6 +51,7 @@ fn order_of(words: [u64; 4]) -> CacheOrder
 }
 
 // Whether an evaluation with this key is kept; if so its slot is written (`cache::find`).
+#[tactic(auto, unfolding(crate::specs::Words::is_found, crate::specs::Words::slot_or))]
 pub fn curlewstand_cache_find(
     words: &[u64],
     k: usize,
@@ -70,6 +74,7 @@ pub fn curlewstand_cache_find(
 
 // Writes the terms of the kept evaluation in a slot; all 0 where K is out of range
 // (`cache::entries::terms_of`).
+#[tactic(auto, unfolding(crate::specs::Words::term_words))]
 pub fn curlewstand_cache_terms(words: &[u64], k: usize, slot: usize, terms: &mut [u64; 7])
     ensures { terms.new ≡ term_words (terms_of words.now k slot) }
 {
@@ -94,6 +99,7 @@ pub fn curlewstand_cache_copy_rows(
 
 // Keeps an evaluation with its n rows, which stand in `rows` from word `from` on, and moves the positions; or
 // leaves words and positions as they are (`cache::keeping::insert`).
+#[tactic(auto, unfolding(crate::specs::Words::order_words))]
 pub fn curlewstand_cache_insert(
     words: &mut [u64],
     k: usize,

@@ -50,6 +50,20 @@ pub fn curlewstand_dot(left: &[f64; 2], right: &[f64; 2]) -> f64
     matrix::dot(*left, *right)
 }
 
+// The observation of a row; the leaves look at neither its output nor its place.
+#[tactic(auto, unfolding(crate::specs::Leaves::observation_of))]
+fn observation_of(value: f64, additive: f64, proportional: f64) -> Observation
+    ensures { result ≡ observation_of value additive proportional }
+{
+    Observation {
+        output: 0,
+        row: 0,
+        value,
+        additive,
+        proportional,
+    }
+}
+
 // Writes nll, score and information of a row of a fit with one effect to `terms` and answers 0; or answers
 // document 01's number, 11 or 12, and nothing is written (`likelihood::population_focei::row_terms`).
 pub fn curlewstand_row_terms(
@@ -64,13 +78,7 @@ pub fn curlewstand_row_terms(
     ensures terms_after { terms.new
         ≡ terms_or terms.old (row_terms (observation_of value additive proportional) prediction f_eta additive) }
 {
-    let observation = Observation {
-        output: 0,
-        row: 0,
-        value,
-        additive,
-        proportional,
-    };
+    let observation = observation_of(value, additive, proportional);
     match likelihood::population_focei::row_terms(observation, prediction, f_eta, additive) {
         Ok(t) => {
             *terms = [t.nll, t.score, t.information];
@@ -97,13 +105,7 @@ pub fn curlewstand_add_row(
         ≡ add_row (observation_of value additive proportional) prediction f_eta.now
         (sums nll.old score.old information.old) }
 {
-    let observation = Observation {
-        output: 0,
-        row: 0,
-        value,
-        additive,
-        proportional,
-    };
+    let observation = observation_of(value, additive, proportional);
     let f = *f_eta;
     match likelihood::population_focei_2d::row_variance(observation, prediction, f) {
         Ok(variance) => {

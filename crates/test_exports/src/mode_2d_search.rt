@@ -9,6 +9,7 @@ ghost use Rattle.test_exports.specs.Mode2d.{settings_of, point_of, requested, ad
 use super::evaluations::pair_of;
 use mode_2d::population_focei_2d::{Conditional2, Request2, Search2, Settings2};
 
+#[tactic(auto, unfolding(crate::specs::Mode2d::settings_of, crate::specs::Evaluations::pair_of))]
 fn settings_of(eta_bound: f64, precision: [[f64; 2]; 2], warm: [f64; 2]) -> Settings2
     ensures { result ≡ settings_of eta_bound precision warm }
 {
@@ -19,6 +20,7 @@ fn settings_of(eta_bound: f64, precision: [[f64; 2]; 2], warm: [f64; 2]) -> Sett
     }
 }
 
+#[tactic(auto, unfolding(crate::specs::Mode2d::point_of, crate::specs::Evaluations::pair_of))]
 fn point_of(eta: [f64; 2], nll: f64, score: [f64; 2], information: [[f64; 2]; 2]) -> Conditional2
     ensures { result ≡ point_of eta nll score information }
 {

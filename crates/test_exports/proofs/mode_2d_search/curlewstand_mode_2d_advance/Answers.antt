@@ -1,15 +1,19 @@
--- `curlewstand_mode_2d_advance` meets its contract: each exit by its law. Assumes nothing.
-use Rattle.test_exports.specs.Mode2d.{settings_of, point_of}
-use Rattle.test_exports.proofs.Paths.{advance_given, advance_none}
+-- `curlewstand_mode_2d_advance` meets its contract: the case of what is loaded is the case of the definition. Assumes nothing.
+use Rattle.std.proofs.Common.{sym, ap, ◌∙◌}
+use Rattle.float64.specs.Answer.{number_of, through, or_old}
+use Rattle.state_words.specs.SearchWords2.{saved, answer}
+use Rattle.test_exports.specs.Mode2d.{next, advanced}
 use Rattle.test_exports.proofs.mode_2d_search.curlewstand_mode_2d_advance.Goals as goal
 
 pub returns : goal.returns
+unfolding answer through advanced number_of or_old
 returns c =
-    let e = advance_given _ c.load.ensures c.settings_of-settings.ensures c.args.search.now c.point_of-c.ensures c.in-Some.is c.advance.ensures c.save.ensures in
-    record { value = e.0; search_after = e.1 }
+    let found = ap (through (next _ _)) (sym (ap answer c.in-Some.is) ∙ c.load.ensures) in
+    rw (← c.settings_of-settings.ensures, ← c.point_of-c.ensures)
+    record { value = ap number_of found; search_after = c.save.ensures ∙ ap saved c.advance.ensures ∙ ap (or_old _) found }
 
 pub returns-in_default : goal.returns-in_default
+unfolding answer through advanced number_of or_old
 returns-in_default c =
-    let e = advance_none _ c.load.ensures c.in_default.is (settings_of c.args.eta_bound c.args.precision.now c.args.warm.now)
-    (point_of c.args.eta.now c.args.nll c.args.score.now c.args.information.now) c.args.search.now in
-    record { value = e.0; search_after = e.1 }
+    let found = ap (through (next _ _)) (sym (ap answer c.in_default.is) ∙ c.load.ensures) in
+    record { value = ap number_of found; search_after = ap (or_old _) found }
