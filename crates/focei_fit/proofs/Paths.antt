@@ -1,8 +1,8 @@
 -- The ways through the code: one law for each, over plain variables. Assumes nothing.
 use Rattle.std.specs.Prelude.{Err, None, Ok, Option, Result, Some}
-use mathlib.Core.Path.{◌≡◌, refl, sym, ap, subst, ◌∙◌}
-use mathlib.Core.List.{List, [], ◌∷◌}
-use Prim.Native.Nat.{ℕ, zero, suc, ◌+◌, ◌-◌, ◌*◌, ◌/◌, ◌≤◌, ◌<◌}
+use mathlib.Core.Path.{◌≡◌, refl, sym, ap, ◌∙◌}
+use mathlib.Core.List.{List}
+use Prim.Native.Nat.{ℕ, zero, suc, ◌≤◌}
 use native.Mathlib.Omega.{arith}
 use lib.Ieee.{Float}
 use lib.ListN.{length, take, replicate}
@@ -19,7 +19,7 @@ use Rattle.machine.specs.Machine.{Ran}
 use Rattle.population.specs.Kept.{words}
 use Rattle.population.specs.Population.{rows_of}
 use Rattle.session.specs.Session.{Held, objective, reply as rows, no_tally}
-use Rattle.session.specs.Calls.{called, held_of, state_of, Setting, begun_with, shrinkage}
+use Rattle.session.specs.Calls.{called, held_of, Setting, begun_with, shrinkage}
 use Rattle.session.specs.declared.State.{State}
 use Rattle.session.specs.declared.Called.{Called}
 use Rattle.session.specs.declared.Begun.{Begun}
@@ -28,7 +28,7 @@ use Rattle.focei_records.specs.Records.{answer, cohort, counts as countsIn, obse
 use Rattle.focei_records.proofs.Bounds.{counts_length, observations_length, reply_length}
 use Rattle.focei_text.specs.Report.{finished, refusal_line}
 use Rattle.words.specs.Written.{Written, written, write}
-use Rattle.words.proofs.Front.{front, within}
+use Rattle.words.proofs.Front.{front}
 use Rattle.focei_fit.specs.Output.{most_evaluations, settings, first_parameters, begun, replied, when_asked, play, ended, end_of, when_opened, fitted, lent, when_records, output}
 use Rattle.session.specs.declared.Refusal.{Refusal}
 

@@ -2,8 +2,8 @@
 use Rattle.std.specs.Prelude.{Err, Ok, Result}
 use mathlib.Core.Path.{◌≡◌, refl, sym, ap, subst, ◌∙◌}
 use mathlib.Core.Bool.{Bool, true, false}
-use mathlib.Core.List.{List, [], ◌∷◌}
-use Prim.Native.Nat.{ℕ, zero, suc, ◌+◌, ◌*◌, ◌/◌, ◌≤◌, ◌<◌}
+use mathlib.Core.List.{List}
+use Prim.Native.Nat.{ℕ, zero, suc, ◌+◌, ◌≤◌, ◌<◌}
 use native.Mathlib.Numerals.{add-one}
 use native.Mathlib.Omega.{arith}
 use borrow.Author.Tests.{ltb-true, ltb-false}
@@ -11,9 +11,6 @@ use lib.Dec.{ltb}
 use lib.ListN.{get_or, length, take, drop, length-append, get_or-eq_default, drop_of_length-le}
 use lib.Seq.{drop-cons, take_all}
 use Rattle.float64.specs.Answer.{Answer, given, refused}
-use Rattle.population.specs.Kept.{words}
-use Rattle.population.specs.Population.{rows_of}
-use Rattle.search.specs.declared.Place.{Place}
 use Rattle.search.specs.declared.Place.TheVariants.{Nowhere}
 use Rattle.search.specs.declared.Step.{Step}
 use Rattle.search.specs.declared.Step.TheVariants.{Asked, Finished, Refused}

@@ -24,6 +24,16 @@ pub const INPUT_BYTES: usize = focei_records::MOST_RECORDS * focei_records::RECO
 // line for each of 256 records.
 pub const LONGEST_TEXT: usize = 30267;
 
+// The words of a session and of a reply, enough for 256 records.
+#[derive(Clone, Copy)]
+struct Memory {
+    reply: [u64; 1024],
+    cache: [u64; 1536],
+    work: [u64; 3072],
+    warm: [u64; 256],
+    results: [u64; 1280],
+}
+
 fn settings() -> Setup
     ensures { result ≡ settings }
 {
@@ -63,31 +73,34 @@ fn answer(
     individual: Pair,
     observations: &[u64],
     counts: &[u64],
-    reply: &mut [u64],
-    cache: &mut [u64],
-    work: &mut [u64],
-    warm: &mut [u64],
-    results: &mut [u64],
+    memory: &mut Memory,
 ) -> Called
-    requires { (length input.now ≤ 12288) × (1024 ≤ length reply.old) }
-    ensures { called result cache.new work.new warm.new results.new
+    requires { length input.now ≤ 12288 }
+    ensures { called result memory.new.cache memory.new.work memory.new.warm memory.new.results
         ≡ replied input.now counts.now observations.now
-        (held_of at.state at.tally cache.old work.old warm.old results.old) individual }
+        (held_of at.state at.tally memory.old.cache memory.old.work memory.old.warm
+        memory.old.results) individual }
 {
     let progress = at.state.progress;
     let rows = population::rows_of(counts, progress.subject);
-    let n = focei_records::reply(input, progress.first, rows, individual.first, reply);
+    let n = focei_records::reply(
+        input,
+        progress.first,
+        rows,
+        individual.first,
+        &mut memory.reply,
+    );
     program_calls::reply(
         settings(),
         at.state,
         at.tally,
         observations,
         counts,
-        &reply[..n],
-        cache,
-        work,
-        warm,
-        results,
+        &memory.reply[..n],
+        &mut memory.cache,
+        &mut memory.work,
+        &mut memory.warm,
+        &mut memory.results,
     )
 }
 
@@ -97,34 +110,19 @@ fn play(
     first: Called,
     observations: &[u64],
     counts: &[u64],
-    reply: &mut [u64],
-    cache: &mut [u64],
-    work: &mut [u64],
-    warm: &mut [u64],
-    results: &mut [u64],
+    memory: &mut Memory,
 ) -> Called
-    requires { (length input.now ≤ 12288) × (1024 ≤ length reply.old) }
-    ensures { called result cache.new work.new warm.new results.new
+    requires { length input.now ≤ 12288 }
+    ensures { called result memory.new.cache memory.new.work memory.new.warm memory.new.results
         ≡ play input.now counts.now observations.now most_evaluations
-        (called first cache.old work.old warm.old results.old) }
+        (called first memory.old.cache memory.old.work memory.old.warm memory.old.results) }
 {
     let mut at = first;
     for _turn in 0..MOST_EVALUATIONS {
         let Step::Asked(_, individual) = at.step else {
             return at;
         };
-        at = answer(
-            input,
-            at,
-            individual,
-            observations,
-            counts,
-            reply,
-            cache,
-            work,
-            warm,
-            results,
-        );
+        at = answer(input, at, individual, observations, counts, memory);
     }
     at
 }
@@ -161,17 +159,14 @@ fn run(
     tally: Tally,
     observations: &[u64],
     counts: &[u64],
-    reply: &mut [u64],
-    cache: &mut [u64],
-    work: &mut [u64],
-    warm: &mut [u64],
-    results: &mut [u64],
+    memory: &mut Memory,
 ) -> Called
-    requires { (length input.now ≤ 12288) × (1024 ≤ length reply.old) }
-    ensures { called result cache.new work.new warm.new results.new
+    requires { length input.now ≤ 12288 }
+    ensures { called result memory.new.cache memory.new.work memory.new.warm memory.new.results
         ≡ play input.now counts.now observations.now most_evaluations
         (begun counts.now observations.now
-        (held_of state tally cache.old work.old warm.old results.old)) }
+        (held_of state tally memory.old.cache memory.old.work memory.old.warm
+        memory.old.results)) }
 {
     let first = program_calls::objective(
         settings(),
@@ -180,22 +175,12 @@ fn run(
         tally,
         observations,
         counts,
-        cache,
-        work,
-        warm,
-        results,
+        &mut memory.cache,
+        &mut memory.work,
+        &mut memory.warm,
+        &mut memory.results,
     );
-    play(
-        input,
-        first,
-        observations,
-        counts,
-        reply,
-        cache,
-        work,
-        warm,
-        results,
-    )
+    play(input, first, observations, counts, memory)
 }
 
 // Sets up the session of the records, runs its objective, and writes the text.
@@ -203,17 +188,13 @@ fn fit(
     input: &[u8],
     observations: &[u64],
     counts: &[u64],
-    reply: &mut [u64],
-    cache: &mut [u64],
-    work: &mut [u64],
-    warm: &mut [u64],
-    results: &mut [u64],
+    memory: &mut Memory,
     out: &mut [u8],
 ) -> usize
-    requires { (length input.now ≤ 12288) × (1024 ≤ length reply.old) × (length counts.now ≤ 256) }
+    requires { (length input.now ≤ 12288) × (length counts.now ≤ 256) }
     ensures { written result out.new
-        ≡ write (fitted input.now counts.now observations.now cache.old work.old
-        warm.old results.old) (written 0 out.old) }
+        ≡ write (fitted input.now counts.now observations.now memory.old.cache memory.old.work
+        memory.old.warm memory.old.results) (written 0 out.old) }
 {
     let none = Tally {
         calls: Calls(0),
@@ -224,26 +205,15 @@ fn fit(
         none,
         observations,
         counts,
-        cache,
-        work,
-        warm,
-        results,
+        &mut memory.cache,
+        &mut memory.work,
+        &mut memory.warm,
+        &mut memory.results,
     );
     match opened.opening {
         Ok(state) => {
-            let last = run(
-                input,
-                state,
-                opened.tally,
-                observations,
-                counts,
-                reply,
-                cache,
-                work,
-                warm,
-                results,
-            );
-            told(last, counts, results, out)
+            let last = run(input, state, opened.tally, observations, counts, memory);
+            told(last, counts, &memory.results, out)
         }
         Err(refusal) => focei_text::refused(out, 0, refusal.number, refusal.place),
     }
@@ -256,24 +226,16 @@ fn lend(input: &[u8], subjects: usize, out: &mut [u8]) -> usize
 {
     let mut counts = [0u64; 256];
     let mut observations = [0u64; 1280];
-    let mut reply = [0u64; 1024];
-    let mut cache = [0u64; 1536];
-    let mut work = [0u64; 3072];
-    let mut warm = [0u64; 256];
-    let mut results = [0u64; 1280];
+    let mut memory = Memory {
+        reply: [0; 1024],
+        cache: [0; 1536],
+        work: [0; 3072],
+        warm: [0; 256],
+        results: [0; 1280],
+    };
     let n = focei_records::counts(input, subjects, &mut counts);
     let m = focei_records::observations(input, &mut observations);
-    fit(
-        input,
-        &observations[..m],
-        &counts[..n],
-        &mut reply,
-        &mut cache,
-        &mut work,
-        &mut warm,
-        &mut results,
-        out,
-    )
+    fit(input, &observations[..m], &counts[..n], &mut memory, out)
 }
 
 // Writes what the program prints of its input, as much of it as `out` has room for, and gives the length of

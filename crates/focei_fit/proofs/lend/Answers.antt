@@ -5,7 +5,7 @@ use Rattle.words.proofs.Front.{within}
 use Rattle.words.specs.Written.{written}
 use lib.Seq.{length-take-le}
 use lib.ListN.{replicate, length-replicate}
-use Rattle.std.proofs.Common.{arith, sym}
+use Rattle.std.proofs.Common.{sym}
 use Prim.Native.Nat.{ℕ}
 use Rattle.focei_fit.proofs.lend.Goals as goal
 
@@ -32,7 +32,6 @@ slice_bounds-fit-end-2 c =
 pub fit-requires : goal.fit-requires
 fit-requires c = (
   c.requires.0,
-  omega arith,
   few_counts c.args.input.now c.args.subjects (whole_counts c.args.input.now (replicate 256 0) c.args.subjects c.requires.1 (length-replicate {A = ℕ} 256 0)
       c.counts-n.ensures) c.requires.1,
 )

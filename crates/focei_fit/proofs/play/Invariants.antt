@@ -6,5 +6,5 @@ use Rattle.std.proofs.Common.{◌≡◌}
 use Rattle.focei_fit.proofs.play.Given as goal
 
 abbrev pub invariant-loop-turn : goal.invariant-loop-turn
-invariant-loop-turn l = Output.play l.input l.counts l.observations (10000 - l._turn) (called l.at l.cache l.work l.warm l.results)
-    ≡ Output.play l.input l.counts l.observations Output.most_evaluations (called l.initial.at l.initial.cache l.initial.work l.initial.warm l.initial.results)
+invariant-loop-turn l = Output.play l.input l.counts l.observations (10000 - l._turn) (called l.at l.memory.cache l.memory.work l.memory.warm l.memory.results)
+    ≡ Output.play l.input l.counts l.observations Output.most_evaluations (called l.initial.at l.initial.memory.cache l.initial.memory.work l.initial.memory.warm l.initial.memory.results)
