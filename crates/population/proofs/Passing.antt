@@ -20,7 +20,7 @@ use Rattle.population.specs.declared.kept_points.Reached.{Reached}
 use Rattle.population.specs.Steps.{whole_from, unkept, cleared}
 use Rattle.population.proofs.Loops.{loop_on}
 use Rattle.population.specs.declared.kept_points.Evaluated.{Evaluated}
-use Rattle.core.specs.declared.ops.ControlFlow.TheVariants.{Continue}
+use Rattle.std.specs.declared.ops.ControlFlow.TheVariants.{Continue}
 use Rattle.mode.specs.declared.Request.{Request}
 use Rattle.mode.specs.declared.Request.TheVariants as Wants
 

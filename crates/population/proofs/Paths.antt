@@ -11,7 +11,7 @@ use Rattle.search.specs.declared.Place.TheVariants.{Subject}
 use Rattle.search.specs.declared.Halted.{Halted}
 use Rattle.search.specs.declared.Mode.{Mode}
 use Rattle.population.specs.Population.{rows_of, warm_stored, worked, next_subject, Ended, ended, closing, at_mode, Turned}
-use Rattle.core.specs.declared.ops.ControlFlow.TheVariants.{Break}
+use Rattle.std.specs.declared.ops.ControlFlow.TheVariants.{Break}
 
 -- ---- a subject's number of observations
 module _ (counts : List ℕ) (subject : ℕ) where

@@ -23,7 +23,7 @@ use Rattle.population.specs.declared.kept_points.Reached.{Reached}
 use Rattle.population.specs.Steps.{whole_from, unkept, cleared}
 use Rattle.population.proofs.Loops.{loop_spent, loop_on, loop_halt}
 use Rattle.population.proofs.Passing.{unkept_served, same_loop, ends_from}
-use Rattle.core.specs.declared.ops.ControlFlow.TheVariants.{Break, Continue}
+use Rattle.std.specs.declared.ops.ControlFlow.TheVariants.{Break, Continue}
 use Rattle.population.specs.declared.kept_points.Evaluated.{Evaluated}
 use Rattle.mode.specs.declared.Request.{Request}
 use Rattle.mode.specs.declared.Request.TheVariants as Wants

@@ -20,8 +20,8 @@ use Rattle.search.specs.declared.Halted.{Halted}
 use Rattle.search.specs.declared.Mode.{Mode}
 use Rattle.cache.specs.Cache.{Cache}
 use Rattle.population.specs.Kept.{Recalled, Store, words}
-use Rattle.core.specs.declared.ops.ControlFlow.{ControlFlow}
-use Rattle.core.specs.declared.ops.ControlFlow.TheVariants.{Break, Continue}
+use Rattle.std.specs.declared.ops.ControlFlow.{ControlFlow}
+use Rattle.std.specs.declared.ops.ControlFlow.TheVariants.{Break, Continue}
 use Rattle.mode.specs.declared.Request.{Request}
 use Rattle.mode.specs.declared.Request.TheVariants as Wants
 

@@ -12,7 +12,7 @@ use Rattle.population.specs.Kept.{words}
 use Rattle.population.specs.Population.{rows_of, Ended, ended, at_mode, is_over, Whole, whole}
 use Rattle.population.specs.Through.{taken}
 use Rattle.population.specs.declared.kept_points.Evaluated.{Evaluated}
-use Rattle.core.specs.declared.ops.ControlFlow.TheVariants.{Break}
+use Rattle.std.specs.declared.ops.ControlFlow.TheVariants.{Break}
 use Rattle.mode.specs.declared.Request.{Request}
 use Rattle.matrix.specs.declared.Pair.{Pair}
 use Rattle.mode.specs.declared.Request.TheVariants as Wants

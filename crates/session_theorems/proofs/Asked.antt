@@ -37,7 +37,7 @@ use Rattle.population.specs.Population.{rows_of, Worked, answered, at_point, nex
 use Rattle.session.specs.Session as N
 use Rattle.session.specs.Session.{Held, Call, objective, reply, failure}
 use Rattle.session_theorems.specs.Evaluations.{M}
-use Rattle.core.specs.declared.ops.ControlFlow.TheVariants.{Break, Continue}
+use Rattle.std.specs.declared.ops.ControlFlow.TheVariants.{Break, Continue}
 use Rattle.search.specs.declared.Mode.{Mode}
 use Rattle.setup.specs.declared.AdmissionError.TheVariants as A
 use Rattle.mode.specs.declared.Request.{Request}

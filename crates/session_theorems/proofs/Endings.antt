@@ -37,7 +37,7 @@ use Rattle.session.specs.Session.{Held, held_by, turn_held, fuel}
 use Rattle.session_theorems.proofs.Lengths.{zeros_length, move_rows_length, recalled_length}
 use Rattle.session_theorems.proofs.Remaining.{Goes, Numbered, LeftBy, stands, points, refusals, begins}
 use Rattle.session_theorems.proofs.Standing.{advanced_alike}
-use Rattle.core.specs.declared.ops.ControlFlow.TheVariants.{Break, Continue}
+use Rattle.std.specs.declared.ops.ControlFlow.TheVariants.{Break, Continue}
 use Rattle.mode.specs.declared.Request.{Request}
 use Rattle.mode.specs.declared.Request.TheVariants as Wants
 

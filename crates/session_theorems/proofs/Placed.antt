@@ -50,7 +50,7 @@ use Rattle.session_theorems.proofs.Evaluated.{work_length}
 use Rattle.session_theorems.proofs.Lengths.{AsLong, zeros_length, move_rows_length, recalled_length, warm_stored_length, results_length}
 use Rattle.session_theorems.proofs.Limits.{Within, start_within, advance_within, Within2, start_within2, advance_within2, Other, wanted_other}
 use Rattle.session_theorems.proofs.Plain.{split, Not19, before_19}
-use Rattle.core.specs.declared.ops.ControlFlow.TheVariants.{Break, Continue}
+use Rattle.std.specs.declared.ops.ControlFlow.TheVariants.{Break, Continue}
 use Rattle.subject.specs.declared.EvaluationError.TheVariants as E
 use Rattle.setup.specs.declared.AdmissionError.TheVariants as A
 use Rattle.subject.specs.Observations.{Check}

@@ -56,7 +56,7 @@ use Rattle.setup.proofs.Bounds.{shape_low}
 use Rattle.session_theorems.proofs.Standing.{Standing, Waiting}
 use Rattle.session_theorems.proofs.Stores.{every_append, every_drop, Trusted, words_trusted, kept_few, not_found, cleared_words}
 use Rattle.session_theorems.proofs.Turns.{turns}
-use Rattle.core.specs.declared.ops.ControlFlow.TheVariants.{Break, Continue}
+use Rattle.std.specs.declared.ops.ControlFlow.TheVariants.{Break, Continue}
 use Rattle.subject.specs.declared.EvaluationError.TheVariants as E
 use Rattle.setup.specs.declared.AdmissionError.TheVariants as A
 use Rattle.subject.specs.Observations.{Check}

@@ -52,7 +52,7 @@ use Rattle.session_theorems.proofs.Points.{WithinEdge, zero_in_16, Passed, value
 use Rattle.session_theorems.proofs.Searches.{Suits, wants_of}
 use Rattle.session_theorems.proofs.Standing.{Alike, advanced_alike, recall_of, Standing, still}
 use Rattle.session_theorems.proofs.Stores.{Fine, Trusted}
-use Rattle.core.specs.declared.ops.ControlFlow.TheVariants.{Break, Continue}
+use Rattle.std.specs.declared.ops.ControlFlow.TheVariants.{Break, Continue}
 use Rattle.mode.specs.declared.Request.{Request}
 use Rattle.mode.specs.declared.Request.TheVariants as Wants
 

@@ -49,7 +49,7 @@ use Rattle.session_theorems.proofs.Results.{past_two, result_kept, result_past}
 use Rattle.session_theorems.proofs.Searches.{Suits, suits1, suits2}
 use Rattle.session_theorems.proofs.Session.{some_room}
 use Rattle.session_theorems.proofs.Standing.{advanced_alike}
-use Rattle.core.specs.declared.ops.ControlFlow.TheVariants.{Break, Continue}
+use Rattle.std.specs.declared.ops.ControlFlow.TheVariants.{Break, Continue}
 use Rattle.subject.specs.declared.EvaluationError.TheVariants as E
 use Rattle.setup.specs.declared.AdmissionError.TheVariants as A
 use Rattle.subject.specs.Subject.{Evaluation}

@@ -73,7 +73,7 @@ use Rattle.session_theorems.proofs.Stores.{Trusted, words_trusted}
 use Rattle.session_theorems.proofs.Trials.{Has, NthHas, SameBlocks}
 use Rattle.session_theorems.proofs.Turns.{turns}
 use Rattle.session_theorems.proofs.Words.{Keeps, Of, Opens, Carried, Closes, shown}
-use Rattle.core.specs.declared.ops.ControlFlow.TheVariants.{Break, Continue}
+use Rattle.std.specs.declared.ops.ControlFlow.TheVariants.{Break, Continue}
 use Rattle.subject.specs.declared.EvaluationError.TheVariants as E
 use Rattle.setup.specs.declared.AdmissionError.TheVariants as A
 use Rattle.setup.specs.Admission.{Admission}
