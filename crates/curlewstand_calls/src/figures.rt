@@ -6,7 +6,6 @@ ghost use Rattle.float64.specs.Answer.{number_of, or_old};
 ghost use Rattle.session.specs.Figures.{ceiling_of};
 ghost use Rattle.host_calls.specs.Figures.{shrinkage_from};
 
-
 // The number of the C interface. The header and the Rust crate refer to this function by its name, which ends
 // with that number: so a host that was written for another interface does not link with this library, and the
 // linker's message has the name that is missing.
