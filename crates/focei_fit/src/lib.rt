@@ -244,7 +244,7 @@ fn lend(input: &[u8], subjects: usize, out: &mut [u8]) -> usize
 
 // Writes what the program prints of its input, as much of it as `out` has room for, and gives the length of
 // what was written. With room for `LONGEST_TEXT` bytes that is the whole text.
-#[tactic(auto, using(focei_records::proofs::Bounds::few_records), unfolding(crate::specs::Output::output, crate::specs::Output::when_records, focei_records::specs::Records::answer))]
+#[tactic(auto, unfolding(crate::specs::Output::output, crate::specs::Output::when_records, focei_records::specs::Records::answer))]
 pub fn write_text(input: &[u8], out: &mut [u8]) -> usize
     ensures { written result out.new ≡ write (output input.now) (written 0 out.old) }
 {

@@ -1,6 +1,6 @@
 -- The ways through the code: one law for each, over plain variables. Assumes nothing.
-use mathlib.Core.Path.{◌≡◌, sym, ap, ◌∙◌}
-use mathlib.Core.List.{List, ◌++◌}
+use mathlib.Core.Path.{◌≡◌, refl, sym, ap, ◌∙◌}
+use mathlib.Core.List.{List, [], ◌∷◌, ◌++◌}
 use Prim.Native.Nat.{ℕ, suc, ◌+◌, ◌-◌, ◌*◌, ◌≤◌, ◌<◌}
 use native.Mathlib.Omega.{arith}
 use borrow.Author.Tests.{ltb-true}
@@ -12,7 +12,7 @@ use Rattle.words.specs.Written.{Written, write}
 use Rattle.words.proofs.Front.{write_append}
 use Rattle.work.specs.Work.{most_rows, most_subjects}
 use Rattle.population.specs.Population.{rows_of}
-use Rattle.focei_text.specs.Report.{objective_line, subject_line, fitted_line, shrinkage_line, subject_lines, fitted_lines, all_fitted}
+use Rattle.focei_text.specs.Report.{line, fields, objective_line, subject_line, fitted_line, shrinkage_line, subject_lines, fitted_lines, all_fitted}
 use Rattle.focei_text.specs.Report.{subjects_of, finished}
 
 -- ---- what is left of n turns after i
@@ -25,6 +25,20 @@ one_more n i h = omega arith
 -- ---- one text after another
 pub after : {t₁ t₂ : Written} (a b : List ℕ) (t : Written) → t₁ ≡ write a t → t₂ ≡ write b t₁ → t₂ ≡ write (a ++ b) t
 after a b t e f = f ∙ ap (write b) e ∙ sym (write_append a b t)
+
+-- ---- a line is its letter, then each field after its space, then its end
+abbrev fields_told : List (List ℕ) → Written → Written
+fields_told [] t = write (10 ∷ []) t
+fields_told (f ∷ fs) t = fields_told fs (write (32 ∷ f) t)
+
+each_told : (fs : List (List ℕ)) (t : Written) → write (fields fs) t ≡ fields_told fs t
+unfolding fields
+each_told [] t = refl
+each_told (f ∷ fs) t = write_append (32 ∷ f) (fields fs) t ∙ each_told fs (write (32 ∷ f) t)
+
+pub line_told : (x : ℕ) (fs : List (List ℕ)) (t : Written) → write (line x fs) t ≡ fields_told fs (write (x ∷ []) t)
+unfolding line
+line_told x fs t = write_append (x ∷ []) (fields fs) t ∙ each_told fs (write (x ∷ []) t)
 
 -- ---- n subjects, at subject s; eta is its word
 module _ (n s : ℕ) (results : List ℕ) (t : Written) where

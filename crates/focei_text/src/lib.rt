@@ -116,7 +116,7 @@ fn observation_field(out: &mut [u8], at: usize, place: Place) -> usize
 
 // Writes the `R` line of a refusal: document 01's number, the subject and the observation, with a hyphen for
 // what it has not.
-#[tactic(auto, using(words::proofs::Front::write_append), unfolding(crate::specs::Report::refusal_line, crate::specs::Report::line, crate::specs::Report::fields, words::specs::Written::write))]
+#[tactic(auto, using(crate::proofs::ReportPaths::line_told), unfolding(crate::specs::Report::refusal_line))]
 pub fn refused(out: &mut [u8], at: usize, number: u32, place: Place) -> usize
     ensures { written result out.new ≡ write (refusal_line number place) (written at out.old) }
 {
@@ -129,7 +129,7 @@ pub fn refused(out: &mut [u8], at: usize, number: u32, place: Place) -> usize
 
 // ---- a finished objective
 
-#[tactic(auto, using(words::proofs::Front::write_append), unfolding(crate::specs::Report::objective_line, crate::specs::Report::line, crate::specs::Report::fields, words::specs::Written::write))]
+#[tactic(auto, using(crate::proofs::ReportPaths::line_told), unfolding(crate::specs::Report::objective_line))]
 fn objective_line(out: &mut [u8], at: usize, objective: f64, evaluations: u32) -> usize
     ensures { written result out.new ≡ write (objective_line objective evaluations) (written at out.old) }
 {
@@ -139,7 +139,7 @@ fn objective_line(out: &mut [u8], at: usize, objective: f64, evaluations: u32) -
     words::byte(out, counted, b'\n')
 }
 
-#[tactic(auto, using(words::proofs::Front::write_append), unfolding(crate::specs::Report::subject_line, crate::specs::Report::line, crate::specs::Report::fields, words::specs::Written::write))]
+#[tactic(auto, using(crate::proofs::ReportPaths::line_told), unfolding(crate::specs::Report::subject_line))]
 fn subject_line(out: &mut [u8], at: usize, subject: usize, eta: u64) -> usize
     ensures { written result out.new ≡ write (subject_line subject eta) (written at out.old) }
 {
@@ -149,7 +149,7 @@ fn subject_line(out: &mut [u8], at: usize, subject: usize, eta: u64) -> usize
     words::byte(out, value, b'\n')
 }
 
-#[tactic(auto, using(words::proofs::Front::write_append), unfolding(crate::specs::Report::fitted_line, crate::specs::Report::line, crate::specs::Report::fields, words::specs::Written::write))]
+#[tactic(auto, using(crate::proofs::ReportPaths::line_told), unfolding(crate::specs::Report::fitted_line))]
 fn fitted_line(
     out: &mut [u8],
     at: usize,
@@ -169,7 +169,7 @@ fn fitted_line(
     words::byte(out, second, b'\n')
 }
 
-#[tactic(auto, using(words::proofs::Front::write_append), unfolding(crate::specs::Report::shrinkage_line, crate::specs::Report::line, crate::specs::Report::fields, words::specs::Written::write))]
+#[tactic(auto, using(crate::proofs::ReportPaths::line_told), unfolding(crate::specs::Report::shrinkage_line))]
 fn shrinkage_line(out: &mut [u8], at: usize, shrinkage: f64) -> usize
     ensures { written result out.new ≡ write (shrinkage_line shrinkage) (written at out.old) }
 {
