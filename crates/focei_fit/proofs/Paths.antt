@@ -1,44 +1,34 @@
 -- The ways through the code: one law for each, over plain variables. Assumes nothing.
-use Rattle.std.specs.Prelude.{Err, None, Ok, Option, Result, Some}
+use Rattle.std.specs.Prelude.{Err, Ok, Result}
 use mathlib.Core.Path.{◌≡◌, refl, sym, ap, ◌∙◌}
 use mathlib.Core.List.{List}
 use Prim.Native.Nat.{ℕ, zero, suc, ◌≤◌}
 use native.Mathlib.Omega.{arith}
 use lib.Ieee.{Float}
 use lib.ListN.{length, take, replicate}
-use Rattle.float64.specs.Answer.{Answer, given}
 use Rattle.matrix.specs.declared.Pair.{Pair}
 use Rattle.setup.specs.declared.Setup.{Setup}
-use Rattle.setup.specs.declared.Parameters.{Parameters}
-use Rattle.search.specs.declared.Tally.{Tally}
-use Rattle.search.specs.declared.Place.{Place}
-use Rattle.search.specs.declared.Place.TheVariants.{Nowhere}
 use Rattle.search.specs.declared.Step.{Step}
 use Rattle.search.specs.declared.Step.TheVariants.{Asked, Finished, Refused}
 use Rattle.machine.specs.Machine.{Ran}
 use Rattle.population.specs.Kept.{words}
 use Rattle.population.specs.Population.{rows_of}
-use Rattle.session.specs.Session.{Held, objective, reply as rows, no_tally}
-use Rattle.session.specs.Calls.{called, held_of, Setting, begun_with, shrinkage}
+use Rattle.session.specs.Session.{Held, reply as rows, no_tally}
+use Rattle.session.specs.Calls.{called, held_of, Setting, begun_with}
 use Rattle.session.specs.declared.State.{State}
 use Rattle.session.specs.declared.Called.{Called}
 use Rattle.session.specs.declared.Begun.{Begun}
 use Rattle.program_calls.specs.Recorded.{call_of, open_of}
-use Rattle.focei_records.specs.Records.{answer, cohort, counts as countsIn, observations as observationsIn, reply}
+use Rattle.focei_records.specs.Records.{counts as countsIn, observations as observationsIn, reply}
 use Rattle.focei_records.proofs.Bounds.{counts_length, observations_length, reply_length}
-use Rattle.focei_text.specs.Report.{finished, refusal_line}
+use Rattle.focei_text.specs.Report.{refusal_line}
 use Rattle.words.specs.Written.{Written, written, write}
 use Rattle.words.proofs.Front.{front}
-use Rattle.focei_fit.specs.Output.{most_evaluations, settings, first_parameters, begun, replied, when_asked, play, ended, end_of, when_opened, fitted, lent, when_records, output}
+use Rattle.focei_fit.specs.Output.{most_evaluations, settings, begun, replied, when_asked, play, ended, end_of, when_opened, fitted, lent}
 use Rattle.session.specs.declared.Refusal.{Refusal}
 
 -- ---- the calls; `taken` are the words of the reply
 module _ (counts observations : List ℕ) (h : Held words) where
-  pub begins : {setup : Setup} {p : Parameters} {r : Ran (Held words) Step} → setup ≡ settings → p ≡ first_parameters → r ≡ call_of setup counts observations (objective p) h → r ≡ begun counts
-      observations h
-  unfolding begun
-  begins e f q = q ∙ (λ i. call_of (e i) counts observations (objective (f i)) h)
-
   pub answers : {setup : Setup} {n : ℕ} {taken : List ℕ} {r : Ran (Held words) Step} (input : List ℕ) (individual : Pair) → setup ≡ settings → n ≡ rows_of counts h.whole.progress.subject
       → taken ≡ reply input h.whole.progress.first n individual.first → r ≡ call_of setup counts observations (rows taken) h → r ≡ replied input counts observations h individual
   unfolding replied
@@ -78,30 +68,6 @@ module _ (input counts observations : List ℕ) (r : Ran (Held words) Step) wher
   play_over zero f = refl
   play_over (suc left) f = stays _ r.answer f
 
--- the objective to its end, from where it begins
-pub plays : {setup : Setup} {p : Parameters} {first r : Ran (Held words) Step} (input counts observations : List ℕ) (h : Held words) → setup ≡ settings → p ≡ first_parameters → first ≡ call_of setup
-    counts observations (objective p) h
-    → r ≡ play input counts observations most_evaluations first → r ≡ play input counts observations most_evaluations (begun counts observations h)
-plays input counts observations h e f g q = q ∙ ap (play input counts observations most_evaluations) (begins counts observations h e f g)
-
--- ---- what is printed of the end
-module _ (counts : List ℕ) (state : State) (tally : Tally) (results : List ℕ) (step : Step) (t : Written) where
-  pub told_asked : {eta individual : Pair} {t' : Written} → step ≡ Asked eta individual → t' ≡ write (refusal_line 19 Nowhere) t → t' ≡ write (ended counts state tally results step) t
-  unfolding ended
-  told_asked e q = q ∙ ap (λ (s : Step). write (ended counts state tally results s) t) (sym e)
-
-  pub told_refused : {number : ℕ} {place : Place} {t' : Written} → step ≡ Refused number place → t' ≡ write (refusal_line number place) t → t' ≡ write (ended counts state tally results step) t
-  unfolding ended
-  told_refused e q = q ∙ ap (λ (s : Step). write (ended counts state tally results s) t) (sym e)
-
-  pub told_finished : {x shrunk : Float} {t' : Written} → step ≡ Finished x → shrunk ≡ shrinkage state (length counts) → t' ≡ write (finished x tally.calls.0 shrunk counts results) t → t' ≡ write
-      (ended counts state tally results step) t
-  unfolding ended
-  told_finished {x} e f q =
-      q
-      ∙ ap (λ (y : Float). write (finished x tally.calls.0 y counts results) t) f
-      ∙ ap (λ (s : Step). write (ended counts state tally results s) t) (sym e)
-
 -- ---- from setup to the text; b is what setup gave back
 module _ (input counts observations cache work warm results : List ℕ) (t : Written) {setup : Setup} {b : Begun} {cache₁ work₁ warm₁ : List ℕ}
     (e : setup ≡ settings) (q : begun_with b cache₁ work₁ warm₁ ≡ open_of setup counts observations no_tally cache work warm results) where
@@ -140,18 +106,3 @@ pub lends : {cs os : List ℕ} {t' : Written} (input : List ℕ) (n : ℕ) (t : 
     → t' ≡ write (fitted input cs os (replicate 1536 0) (replicate 3072 0) (replicate 256 0) (replicate 1280 0)) t → t' ≡ write (lent input n) t
 unfolding lent
 lends input n t e f q = q ∙ (λ i. write (fitted input (e i) (f i) (replicate 1536 0) (replicate 3072 0) (replicate 256 0) (replicate 1280 0)) t)
-
--- ---- the program; c is what the check of the records found
-module _ (input : List ℕ) (c : Option ℕ) (e : answer c ≡ cohort input) where
-  pub counted : {n : ℕ} → c ≡ Some n → cohort input ≡ given n
-  unfolding answer
-  counted f = sym e ∙ ap answer f
-
-  module _ (t : Written) where
-    pub is_cohort_lem : {n : ℕ} {t' : Written} → c ≡ Some n → t' ≡ write (lent input n) t → t' ≡ write (output input) t
-    unfolding output when_records
-    is_cohort_lem f q = q ∙ ap (λ (o : Answer ℕ). write (when_records input o) t) (sym (counted f))
-
-    pub no_cohort_lem : {t' : Written} → c ≡ None → t' ≡ write (refusal_line 20 Nowhere) t → t' ≡ write (output input) t
-    unfolding answer output when_records
-    no_cohort_lem f q = q ∙ ap (λ (o : Answer ℕ). write (when_records input o) t) (ap answer (sym f) ∙ e)

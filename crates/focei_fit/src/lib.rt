@@ -34,6 +34,7 @@ struct Memory {
     results: [u64; 1280],
 }
 
+#[tactic(auto, unfolding(crate::specs::Output::settings))]
 fn settings() -> Setup
     ensures { result ≡ settings }
 {
@@ -53,6 +54,7 @@ fn settings() -> Setup
     }
 }
 
+#[tactic(auto, unfolding(crate::specs::Output::first_parameters))]
 fn first_parameters() -> Parameters
     ensures { result ≡ first_parameters }
 {
@@ -129,6 +131,7 @@ fn play(
 
 // Writes what is printed of the end of an objective. A question that is left would be printed as 19; there
 // is none (crate focei_theorems).
+#[tactic(auto, unfolding(crate::specs::Output::ended))]
 fn told(at: Called, counts: &[u64], results: &[u64], out: &mut [u8]) -> usize
     requires { length counts.now ≤ 256 }
     ensures { written result out.new
@@ -153,6 +156,7 @@ fn told(at: Called, counts: &[u64], results: &[u64], out: &mut [u8]) -> usize
 }
 
 // Runs the objective of an open session to its end.
+#[tactic(auto, unfolding(crate::specs::Output::begun))]
 fn run(
     input: &[u8],
     state: State,
@@ -240,6 +244,7 @@ fn lend(input: &[u8], subjects: usize, out: &mut [u8]) -> usize
 
 // Writes what the program prints of its input, as much of it as `out` has room for, and gives the length of
 // what was written. With room for `LONGEST_TEXT` bytes that is the whole text.
+#[tactic(auto, unfolding(crate::specs::Output::output, crate::specs::Output::when_records, focei_records::specs::Records::answer))]
 pub fn write_text(input: &[u8], out: &mut [u8]) -> usize
     ensures { written result out.new ≡ write (output input.now) (written 0 out.old) }
 {

@@ -2,19 +2,17 @@
 use Rattle.std.specs.Prelude.{Some, None}
 use mathlib.Core.Path.{◌≡◌, refl, sym, ap, ◌∙◌}
 use mathlib.Core.List.{List, [], ◌∷◌}
-use Prim.Native.Nat.{ℕ, zero, suc, ◌+◌, ◌-◌, ◌/◌, ◌%◌, ◌≤◌, ◌<◌}
+use Prim.Native.Nat.{ℕ, zero, suc, ◌+◌, ◌-◌, ◌/◌, ◌≤◌, ◌<◌}
 use native.Mathlib.Nat.{add-zero, add_assoc}
 use native.Mathlib.Omega.{arith}
 use borrow.Author.Tests.{lt-ltb, le-ltb, eq-eqb, ne_eqb}
-use lib.Ieee.{Float, binary64, to_bits}
+use lib.Ieee.{Float}
 use lib.Dec.{eqb}
 use lib.ListN.{length}
-use Rattle.float64.specs.Answer.{Answer}
-use Rattle.float64.specs.Arithmetic.{◌+ᶠ◌, ◌*ᶠ◌, word}
 use Rattle.float64.specs.Pick.{pick, yes, no}
 use Rattle.words.specs.Written.{Written, write}
 use Rattle.words.proofs.Front.{write_append}
-use Rattle.focei_records.specs.Records.{records, subject_at, reserved_at, float_at, answer, cohort_from, cohort, count_from, counts_from, counts, observation_at, observations_from, observations}
+use Rattle.focei_records.specs.Records.{records, subject_at, reserved_at, answer, cohort_from, count_from, counts_from, counts, observation_at, observations_from, observations}
 use Rattle.focei_records.specs.Records.{row_at, replied_from, reply}
 
 -- ---- what is left of n turns after i
@@ -57,19 +55,6 @@ module _ (n i s : ℕ) (input : List ℕ) where
           (no _ (ne_eqb _ _ (λ q. d (ex ∙ q)))
           (no _ (ne_eqb _ _ (λ q. f (ap (λ (y : ℕ). y + 1) ex ∙ q))) refl)) ∙ here
 
-module _ (input : List ℕ) where
-  pub not_whole : (length input % 48 ≡ 0 → ⊥) → answer None ≡ cohort input
-  unfolding answer cohort
-  not_whole d = no _ (ne_eqb _ _ d) refl
-
-  pub too_many : length input % 48 ≡ 0 → 256 < length input / 48 → answer None ≡ cohort input
-  unfolding answer cohort
-  too_many e h = yes _ (eq-eqb _ _ e) (yes _ (lt-ltb _ _ h) refl)
-
-  pub whole : {r : Answer ℕ} → length input % 48 ≡ 0 → length input / 48 ≤ 256 → r ≡ cohort_from (length input / 48) input 0 0 → r ≡ cohort input
-  unfolding cohort
-  whole e h q = yes _ (eq-eqb _ _ e) (no _ (le-ltb _ _ h) q)
-
 -- ---- a count, at record i of n
 module _ (n i s total : ℕ) (input : List ℕ) where
   pub count_end : n ≤ i → total ≡ total + count_from (n - i) input i s
@@ -106,18 +91,7 @@ pub counts_all : {t' : Written} (n : ℕ) (input : List ℕ) (t : Written) → t
 unfolding counts
 counts_all n input t e = e
 
--- ---- an observation's words, and those of all
-pub observed : {x row v a p : ℕ} {t₁ t₂ t₃ t₄ t₅ : Written} (input : List ℕ) (i : ℕ) (t : Written) → x ≡ subject_at input i → row ≡ count_from i input 0 x → t₁ ≡ write (0 ∷ []) t → t₂ ≡ write (row ∷ [])
-    t₁
-    → v ≡ float_at input i 0 → t₃ ≡ write (v ∷ []) t₂ → a ≡ float_at input i 1 → t₄ ≡ write (a ∷ []) t₃ → p ≡ float_at input i 2 → t₅ ≡ write (p ∷ []) t₄ → t₅ ≡ write (observation_at input i) t
-unfolding observation_at write
-observed input i t ex er e₁ e₂ ev e₃ ea e₄ ep e₅ =
-    e₅
-    ∙ (λ d. write (ep d ∷ []) (e₄ d))
-    ∙ (λ d. write (ea d ∷ float_at input i 2 ∷ []) (e₃ d))
-    ∙ (λ d. write (ev d ∷ float_at input i 1 ∷ float_at input i 2 ∷ []) (e₂ d))
-    ∙ (λ d. write ((er ∙ ap (count_from i input 0) ex) d ∷ float_at input i 0 ∷ float_at input i 1 ∷ float_at input i 2 ∷ []) (e₁ d))
-
+-- ---- the observations of all records, at record i of n
 module _ (n i : ℕ) (input : List ℕ) (t : Written) where
   pub observations_end : n ≤ i → t ≡ write (observations_from (n - i) input i) t
   unfolding observations_from write
@@ -134,22 +108,7 @@ pub observations_all : {t' : Written} (input : List ℕ) (t : Written) → t' �
 unfolding observations
 observations_all input t e = e
 
--- ---- a row of a reply, and all of them; b and s are the words of base and slope, x and y these
-pub simulated : {b s v d : ℕ} {x y : Float} {t₁ t₂ t₃ t₄ : Written} (input : List ℕ) (individual : Float) (i : ℕ) (t : Written) → b ≡ float_at input i 3 → x ≡ word b → s ≡ float_at input i 4 → y ≡ word
-    s
-    → t₁ ≡ write (0 ∷ []) t → t₂ ≡ write (0 ∷ []) t₁ → v ≡ to_bits binary64 (x +ᶠ y *ᶠ individual) → t₃ ≡ write (v ∷ []) t₂ → d ≡ to_bits binary64 y → t₄ ≡ write (d ∷ []) t₃ → t₄ ≡ write
-    (row_at input individual i) t
-unfolding row_at write
-simulated input individual i t eb ex es ey e₁ e₂ ev e₃ ed e₄ =
-    let x-is = ex ∙ ap word eb in
-    let y-is = ey ∙ ap word es in
-    let slope = to_bits binary64 (word (float_at input i 4)) in
-    let value = to_bits binary64 (word (float_at input i 3) +ᶠ word (float_at input i 4) *ᶠ individual) in
-    e₄
-    ∙ (λ j. write ((ed ∙ ap (to_bits binary64) y-is) j ∷ []) (e₃ j))
-    ∙ (λ j. write ((ev ∙ (λ k. to_bits binary64 (x-is k +ᶠ y-is k *ᶠ individual))) j ∷ slope ∷ []) (e₂ j))
-    ∙ (λ j. write (0 ∷ value ∷ slope ∷ []) (e₁ j))
-
+-- ---- the rows of a reply, of which so many are left at record i
 pub reply_end : (left i : ℕ) (input : List ℕ) (individual : Float) (t : Written) → (0 < left → length input / 48 ≤ i) → t ≡ write (replied_from left input individual i) t
 unfolding replied_from write
 reply_end zero i input individual t f = refl

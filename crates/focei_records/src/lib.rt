@@ -33,6 +33,7 @@ fn word_at(input: &[u8], at: usize) -> u64
     u64::from(half_at(input, at)) + 4294967296 * u64::from(half_at(input, at + 4))
 }
 
+#[tactic(auto, unfolding(crate::specs::Records::subject_at))]
 fn subject_at(input: &[u8], i: usize) -> usize
     requires { i < length input.now / 48 }
     ensures { (result ≡ subject_at input.now i) × (result < 4294967296) }
@@ -40,6 +41,7 @@ fn subject_at(input: &[u8], i: usize) -> usize
     half_at(input, RECORD_BYTES * i) as usize
 }
 
+#[tactic(auto, unfolding(crate::specs::Records::reserved_at))]
 fn reserved_at(input: &[u8], i: usize) -> u32
     requires { i < length input.now / 48 }
     ensures { result ≡ reserved_at input.now i }
@@ -48,6 +50,7 @@ fn reserved_at(input: &[u8], i: usize) -> u32
 }
 
 // The word of a record's float: 0 value, 1 additive, 2 proportional, 3 base, 4 slope.
+#[tactic(auto, unfolding(crate::specs::Records::float_at))]
 fn float_at(input: &[u8], i: usize, field: usize) -> u64
     requires { (i < length input.now / 48) × (field < 5) }
     ensures { result ≡ float_at input.now i field }
@@ -79,13 +82,11 @@ fn subjects(input: &[u8]) -> Option<usize>
 
 // Document 01's check 20 of the records: whole records, at most 256, reserved words 0, and subjects that
 // count from 0. Gives the number of subjects, or none where it refuses them.
+#[tactic(auto, unfolding(crate::specs::Records::answer, crate::specs::Records::cohort, float64::specs::Pick::pick))]
 pub fn cohort_of(input: &[u8]) -> Option<usize>
     ensures { answer result ≡ cohort input.now }
 {
-    if input.len() % RECORD_BYTES != 0 {
-        return None;
-    }
-    if MOST_RECORDS < input.len() / RECORD_BYTES {
+    if input.len() % RECORD_BYTES != 0 || MOST_RECORDS < input.len() / RECORD_BYTES {
         return None;
     }
     subjects(input)
@@ -121,6 +122,7 @@ pub fn counts(input: &[u8], subjects: usize, out: &mut [u64]) -> usize
 
 // An observation's five words. Its row is its own position within the subject: how many records of that
 // subject stand before it.
+#[tactic(auto, unfolding(crate::specs::Records::observation_at, words::specs::Written::write))]
 fn observation(input: &[u8], i: usize, out: &mut [u64], at: usize) -> usize
     requires { i < length input.now / 48 }
     ensures { written result out.new ≡ write (observation_at input.now i) (written at out.old) }
@@ -148,6 +150,7 @@ pub fn observations(input: &[u8], out: &mut [u64]) -> usize
 // ---- the simulator
 
 // A row of a reply: time 0, side pre, base + slope times the individual value, and its derivative.
+#[tactic(auto, unfolding(crate::specs::Records::row_at, words::specs::Written::write))]
 fn row(input: &[u8], i: usize, individual: f64, out: &mut [u64], at: usize) -> usize
     requires { i < length input.now / 48 }
     ensures { written result out.new ≡ write (row_at input.now individual i) (written at out.old) }

@@ -1,23 +1,15 @@
 -- The ways through the code: one law for each, over plain variables. Assumes nothing.
 use mathlib.Core.Path.{◌≡◌, refl, sym, ap, ◌∙◌}
 use mathlib.Core.List.{List, [], ◌∷◌}
-use Prim.Native.Nat.{ℕ, zero, suc, ◌+◌, ◌-◌, ◌*◌, ◌/◌, ◌%◌, ◌≤◌, ◌<◌}
+use Prim.Native.Nat.{ℕ, zero, suc, ◌-◌, ◌*◌, ◌/◌, ◌%◌, ◌≤◌, ◌<◌}
 use native.Mathlib.Omega.{arith}
 use borrow.Author.Tests.{lt-ltb, le-ltb}
 use Rattle.float64.specs.Pick.{yes, no}
 use Rattle.words.specs.Written.{Written, put, write}
-use Rattle.focei_text.specs.Writing.{glyph, hex_from, hexadecimal, digits, decimal}
+use Rattle.focei_text.specs.Writing.{glyph, hex_from, hexadecimal, digits}
 use Rattle.words.proofs.Front.{write_append}
 
--- ---- digits
-pub low_glyph : (d : ℕ) → d < 10 → 48 + d ≡ glyph d
-unfolding glyph
-low_glyph d h = yes _ (lt-ltb _ _ h) refl
-
-pub high_glyph : (d : ℕ) → 10 ≤ d → 97 + (d - 10) ≡ glyph d
-unfolding glyph
-high_glyph d h = no _ (le-ltb _ _ h) (omega arith)
-
+-- ---- the hexadecimal digits
 pub hex_end : (left w : ℕ) (t : Written) → left ≤ 0 → t ≡ write (hex_from left w) t
 unfolding write hex_from
 hex_end zero w t h = refl
@@ -52,7 +44,3 @@ module _ (most n : ℕ) (t : Written) (h : most ≡ 0 → ⊥) where
   more_digits j e₁ eg e₂ =
       e₂ ∙ (λ i. write (eg i ∷ []) (e₁ i)) ∙ sym (write_append (digits (most - 1) (n / 10)) (glyph (n % 10) ∷ []) t)
       ∙ ap (λ (l : List ℕ). write l t) (no _ (le-ltb _ _ j) refl ∙ ap (λ (m : ℕ). digits m n) (sym more))
-
-pub all_digits : {t' : Written} (n : ℕ) (t : Written) → t' ≡ write (digits 20 n) t → t' ≡ write (decimal n) t
-unfolding decimal
-all_digits n t e = e

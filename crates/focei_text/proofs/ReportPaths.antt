@@ -1,23 +1,18 @@
 -- The ways through the code: one law for each, over plain variables. Assumes nothing.
-use mathlib.Core.Path.{◌≡◌, sym, ap, ◌∙◌}
+use mathlib.Core.Path.{◌≡◌, refl, sym, ap, ◌∙◌}
 use mathlib.Core.List.{List, [], ◌∷◌, ◌++◌}
-use mathlib.Core.Logic.{◌⊎◌, inl, inr}
 use Prim.Native.Nat.{ℕ, suc, ◌+◌, ◌-◌, ◌*◌, ◌≤◌, ◌<◌}
 use native.Mathlib.Omega.{arith}
-use borrow.Author.Tests.{ltb-true, ltb-false}
+use borrow.Author.Tests.{ltb-true}
 use lib.Dec.{ltb}
-use lib.Ieee.{Float, binary64, to_bits}
+use lib.Ieee.{Float}
 use lib.ListN.{get_or, length}
 use Rattle.float64.specs.Pick.{pick, cases}
-use Rattle.std.proofs.Common.{min}
 use Rattle.words.specs.Written.{Written, write}
-use Rattle.focei_text.specs.Writing.{decimal, hexadecimal}
 use Rattle.words.proofs.Front.{write_append}
 use Rattle.work.specs.Work.{most_rows, most_subjects}
 use Rattle.population.specs.Population.{rows_of}
-use Rattle.search.specs.declared.Place.{Place}
-use Rattle.search.specs.declared.Place.TheVariants.{Nowhere, Subject, Observation}
-use Rattle.focei_text.specs.Report.{fields, line, none, subject_field, observation_field, refusal_line, objective_line, subject_line, fitted_line, shrinkage_line, subject_lines, fitted_lines, all_fitted}
+use Rattle.focei_text.specs.Report.{line, fields, objective_line, subject_line, fitted_line, shrinkage_line, subject_lines, fitted_lines, all_fitted}
 use Rattle.focei_text.specs.Report.{subjects_of, finished}
 
 -- ---- what is left of n turns after i
@@ -31,53 +26,19 @@ one_more n i h = omega arith
 pub after : {t₁ t₂ : Written} (a b : List ℕ) (t : Written) → t₁ ≡ write a t → t₂ ≡ write b t₁ → t₂ ≡ write (a ++ b) t
 after a b t e f = f ∙ ap (write b) e ∙ sym (write_append a b t)
 
--- a field after its space
-pub spaced : {t₁ t₂ : Written} (f : List ℕ) (t : Written) → t₁ ≡ write (32 ∷ []) t → t₂ ≡ write f t₁ → t₂ ≡ write (32 ∷ f) t
-spaced f t e q = after (32 ∷ []) f t e q
+-- ---- a line is its letter, then each field after its space, then its end
+abbrev fields_told : List (List ℕ) → Written → Written
+fields_told [] t = write (10 ∷ []) t
+fields_told (f ∷ fs) t = fields_told fs (write (32 ∷ f) t)
 
--- ---- a line: its letter, its fields, its end
-pub ends : {t' : Written} (t : Written) → t' ≡ write (10 ∷ []) t → t' ≡ write (fields []) t
+each_told : (fs : List (List ℕ)) (t : Written) → write (fields fs) t ≡ fields_told fs t
 unfolding fields
-ends t e = e
+each_told [] t = refl
+each_told (f ∷ fs) t = write_append (32 ∷ f) (fields fs) t ∙ each_told fs (write (32 ∷ f) t)
 
-pub field : {t₁ t' : Written} (f : List ℕ) (fs : List (List ℕ)) (t : Written) → t₁ ≡ write (32 ∷ f) t → t' ≡ write (fields fs) t₁ → t' ≡ write (fields (f ∷ fs)) t
-unfolding fields
-field f fs t e q = after (32 ∷ f) (fields fs) t e q
-
-pub letter : {t₁ t' : Written} (x : ℕ) (fs : List (List ℕ)) (t : Written) → t₁ ≡ write (x ∷ []) t → t' ≡ write (fields fs) t₁ → t' ≡ write (line x fs) t
+pub line_told : (x : ℕ) (fs : List (List ℕ)) (t : Written) → write (line x fs) t ≡ fields_told fs (write (x ∷ []) t)
 unfolding line
-letter x fs t e q = after (x ∷ []) (fields fs) t e q
-
--- a field of a float: w is its word
-pub of_float : {w : ℕ} {t₁ : Written} (x : Float) (t : Written) → w ≡ to_bits binary64 x → t₁ ≡ write (32 ∷ hexadecimal w) t → t₁ ≡ write (32 ∷ hexadecimal (to_bits binary64 x)) t
-of_float x t e q = q ∙ ap (λ (w : ℕ). write (32 ∷ hexadecimal w) t) e
-
-pub refuses : {t₁ t₂ t₃ t₄ t₅ : Written} (number : ℕ) (place : Place) (t : Written) → t₁ ≡ write (82 ∷ []) t → t₂ ≡ write (32 ∷ decimal number) t₁ → t₃ ≡ write (32 ∷ subject_field place) t₂
-    → t₄ ≡ write (32 ∷ observation_field place) t₃ → t₅ ≡ write (10 ∷ []) t₄ → t₅ ≡ write (refusal_line number place) t
-unfolding refusal_line
-refuses number place t e₁ e₂ e₃ e₄ e₅ = letter 82 _ t e₁ (field _ _ _ e₂ (field _ _ _ e₃ (field _ _ _ e₄ (ends _ e₅))))
-
-pub objective_told : {w : ℕ} {t₁ t₂ t₃ t₄ : Written} (objective : Float) (evaluations : ℕ) (t : Written) → t₁ ≡ write (79 ∷ []) t → w ≡ to_bits binary64 objective → t₂ ≡ write (32 ∷ hexadecimal w) t₁
-    → t₃ ≡ write (32 ∷ decimal evaluations) t₂ → t₄ ≡ write (10 ∷ []) t₃ → t₄ ≡ write (objective_line objective evaluations) t
-unfolding objective_line
-objective_told objective evaluations t e₁ ew e₂ e₃ e₄ = letter 79 _ t e₁ (field _ _ _ (of_float objective _ ew e₂) (field _ _ _ e₃ (ends _ e₄)))
-
-pub subject_told : {t₁ t₂ t₃ t₄ : Written} (subject eta : ℕ) (t : Written) → t₁ ≡ write (83 ∷ []) t → t₂ ≡ write (32 ∷ decimal subject) t₁ → t₃ ≡ write (32 ∷ hexadecimal eta) t₂ → t₄ ≡ write (10 ∷ [])
-    t₃
-    → t₄ ≡ write (subject_line subject eta) t
-unfolding subject_line
-subject_told subject eta t e₁ e₂ e₃ e₄ = letter 83 _ t e₁ (field _ _ _ e₂ (field _ _ _ e₃ (ends _ e₄)))
-
-pub fitted_told : {t₁ t₂ t₃ t₄ t₅ t₆ : Written} (subject n population individual : ℕ) (t : Written) → t₁ ≡ write (70 ∷ []) t → t₂ ≡ write (32 ∷ decimal subject) t₁ → t₃ ≡ write (32 ∷ decimal n) t₂
-    → t₄ ≡ write (32 ∷ hexadecimal population) t₃ → t₅ ≡ write (32 ∷ hexadecimal individual) t₄ → t₆ ≡ write (10 ∷ []) t₅ → t₆ ≡ write (fitted_line subject n population individual) t
-unfolding fitted_line
-fitted_told subject n population individual t e₁ e₂ e₃ e₄ e₅ e₆ = letter 70 _ t e₁ (field _ _ _ e₂ (field _ _ _ e₃ (field _ _ _ e₄ (field _ _ _ e₅ (ends _ e₆)))))
-
-pub shrinkage_told : {w : ℕ} {t₁ t₂ t₃ : Written} (shrinkage : Float) (t : Written) → t₁ ≡ write (72 ∷ []) t → w ≡ to_bits binary64 shrinkage → t₂ ≡ write (32 ∷ hexadecimal w) t₁ → t₃ ≡ write (10 ∷ [])
-    t₂
-    → t₃ ≡ write (shrinkage_line shrinkage) t
-unfolding shrinkage_line
-shrinkage_told shrinkage t e₁ ew e₂ e₃ = letter 72 _ t e₁ (field _ _ _ (of_float shrinkage _ ew e₂) (ends _ e₃))
+line_told x fs t = write_append (x ∷ []) (fields fs) t ∙ each_told fs (write (x ∷ []) t)
 
 -- ---- n subjects, at subject s; eta is its word
 module _ (n s : ℕ) (results : List ℕ) (t : Written) where
@@ -130,13 +91,6 @@ few_rows counts s e =
 
 -- ---- the number of subjects
 module _ (counts : List ℕ) where
-  pub at_most : {n : ℕ} → n ≡ min (length counts) 4096 → n ≡ subjects_of counts
-  unfolding subjects_of
-  at_most e =
-      let least : min (length counts) 4096 ≡ pick (ltb (length counts) most_subjects) (length counts) most_subjects
-      = cases (λ (k : ℕ). min (length counts) 4096 ≡ k) (ltb (length counts) most_subjects) (λ q. omega (arith, ltb-true)) (λ q. omega (arith, ltb-false)) in
-      e ∙ least
-
   pub few_subjects : {n : ℕ} → n ≡ subjects_of counts → n ≤ 4096
   unfolding subjects_of
   few_subjects e =
@@ -155,23 +109,3 @@ all_told {t₁ = t₁} {t₂ = t₂} objective evaluations shrinkage counts resu
     (after _ _ t e₁ (e₂ ∙ ap (λ (m : ℕ). write (subject_lines m 0 results) t₁) e))
     (e₃ ∙ ap (λ (m : ℕ). write (all_fitted m 0 (3 * m) counts results) t₂) e))
     e₄
-
--- ---- the fields of a place
-module _ (place : Place) (t : Written) where
-  pub nowhere : {t' : Written} → place ≡ Nowhere → t' ≡ write (32 ∷ none) t → t' ≡ write (32 ∷ subject_field place) t
-  unfolding subject_field
-  nowhere e q = q ∙ ap (λ (p : Place). write (32 ∷ subject_field p) t) (sym e)
-
-  pub of_subject : {t' : Written} {s : ℕ} → (place ≡ Subject s) ⊎ ((n : ℕ) × (place ≡ Observation s n)) → t' ≡ write (32 ∷ decimal s) t → t' ≡ write (32 ∷ subject_field place) t
-  unfolding subject_field
-  of_subject (inl e) q = q ∙ ap (λ (p : Place). write (32 ∷ subject_field p) t) (sym e)
-  of_subject (inr (n, e)) q = q ∙ ap (λ (p : Place). write (32 ∷ subject_field p) t) (sym e)
-
-  pub no_observation_lem : {t' : Written} → (place ≡ Nowhere) ⊎ ((s : ℕ) × (place ≡ Subject s)) → t' ≡ write (32 ∷ none) t → t' ≡ write (32 ∷ observation_field place) t
-  unfolding observation_field
-  no_observation_lem (inl e) q = q ∙ ap (λ (p : Place). write (32 ∷ observation_field p) t) (sym e)
-  no_observation_lem (inr (s, e)) q = q ∙ ap (λ (p : Place). write (32 ∷ observation_field p) t) (sym e)
-
-  pub at_observation_lem : {t' : Written} {s n : ℕ} → place ≡ Observation s n → t' ≡ write (32 ∷ decimal n) t → t' ≡ write (32 ∷ observation_field place) t
-  unfolding observation_field
-  at_observation_lem e q = q ∙ ap (λ (p : Place). write (32 ∷ observation_field p) t) (sym e)

@@ -18,6 +18,7 @@ use work::{FITTED_WORDS, RESULT_WORDS};
 // ---- numbers
 
 // The byte of a digit below 16.
+#[tactic(auto, unfolding(crate::specs::Writing::glyph, float64::specs::Pick::pick))]
 fn glyph(digit: u64) -> u8
     requires { digit < 16 }
     ensures { result ≡ glyph digit }
@@ -56,6 +57,7 @@ fn digits(out: &mut [u8], at: usize, most: u32, value: u64) -> usize
 }
 
 // Writes a number in decimal, with as many digits as it has: at most twenty.
+#[tactic(auto, unfolding(crate::specs::Writing::decimal))]
 pub fn decimal(out: &mut [u8], at: usize, value: u64) -> usize
     ensures { written result out.new ≡ write (decimal value) (written at out.old) }
 {
@@ -64,6 +66,7 @@ pub fn decimal(out: &mut [u8], at: usize, value: u64) -> usize
 
 // ---- fields
 
+#[tactic(auto, unfolding(words::specs::Written::write))]
 fn hexadecimal_field(out: &mut [u8], at: usize, word: u64) -> usize
     ensures { written result out.new ≡ write (32 ∷ hexadecimal word) (written at out.old) }
 {
@@ -71,6 +74,7 @@ fn hexadecimal_field(out: &mut [u8], at: usize, word: u64) -> usize
     hexadecimal(out, field, word)
 }
 
+#[tactic(auto, unfolding(words::specs::Written::write))]
 fn decimal_field(out: &mut [u8], at: usize, number: usize) -> usize
     ensures { written result out.new ≡ write (32 ∷ decimal number) (written at out.old) }
 {
@@ -78,6 +82,7 @@ fn decimal_field(out: &mut [u8], at: usize, number: usize) -> usize
     decimal(out, field, number as u64)
 }
 
+#[tactic(auto, unfolding(words::specs::Written::write))]
 fn no_field(out: &mut [u8], at: usize) -> usize
     ensures { written result out.new ≡ write (32 ∷ none) (written at out.old) }
 {
@@ -87,6 +92,7 @@ fn no_field(out: &mut [u8], at: usize) -> usize
 
 // ---- a refusal
 
+#[tactic(auto, unfolding(crate::specs::Report::subject_field))]
 fn subject_field(out: &mut [u8], at: usize, place: Place) -> usize
     ensures { written result out.new ≡ write (32 ∷ subject_field place) (written at out.old) }
 {
@@ -98,6 +104,7 @@ fn subject_field(out: &mut [u8], at: usize, place: Place) -> usize
     }
 }
 
+#[tactic(auto, unfolding(crate::specs::Report::observation_field))]
 fn observation_field(out: &mut [u8], at: usize, place: Place) -> usize
     ensures { written result out.new ≡ write (32 ∷ observation_field place) (written at out.old) }
 {
@@ -109,6 +116,7 @@ fn observation_field(out: &mut [u8], at: usize, place: Place) -> usize
 
 // Writes the `R` line of a refusal: document 01's number, the subject and the observation, with a hyphen for
 // what it has not.
+#[tactic(auto, using(crate::proofs::ReportPaths::line_told), unfolding(crate::specs::Report::refusal_line))]
 pub fn refused(out: &mut [u8], at: usize, number: u32, place: Place) -> usize
     ensures { written result out.new ≡ write (refusal_line number place) (written at out.old) }
 {
@@ -121,6 +129,7 @@ pub fn refused(out: &mut [u8], at: usize, number: u32, place: Place) -> usize
 
 // ---- a finished objective
 
+#[tactic(auto, using(crate::proofs::ReportPaths::line_told), unfolding(crate::specs::Report::objective_line))]
 fn objective_line(out: &mut [u8], at: usize, objective: f64, evaluations: u32) -> usize
     ensures { written result out.new ≡ write (objective_line objective evaluations) (written at out.old) }
 {
@@ -130,6 +139,7 @@ fn objective_line(out: &mut [u8], at: usize, objective: f64, evaluations: u32) -
     words::byte(out, counted, b'\n')
 }
 
+#[tactic(auto, using(crate::proofs::ReportPaths::line_told), unfolding(crate::specs::Report::subject_line))]
 fn subject_line(out: &mut [u8], at: usize, subject: usize, eta: u64) -> usize
     ensures { written result out.new ≡ write (subject_line subject eta) (written at out.old) }
 {
@@ -139,6 +149,7 @@ fn subject_line(out: &mut [u8], at: usize, subject: usize, eta: u64) -> usize
     words::byte(out, value, b'\n')
 }
 
+#[tactic(auto, using(crate::proofs::ReportPaths::line_told), unfolding(crate::specs::Report::fitted_line))]
 fn fitted_line(
     out: &mut [u8],
     at: usize,
@@ -158,6 +169,7 @@ fn fitted_line(
     words::byte(out, second, b'\n')
 }
 
+#[tactic(auto, using(crate::proofs::ReportPaths::line_told), unfolding(crate::specs::Report::shrinkage_line))]
 fn shrinkage_line(out: &mut [u8], at: usize, shrinkage: f64) -> usize
     ensures { written result out.new ≡ write (shrinkage_line shrinkage) (written at out.old) }
 {
@@ -225,6 +237,7 @@ fn all_fitted(out: &mut [u8], at: usize, subjects: usize, counts: &[u64], result
 }
 
 // The number of subjects, at most the domain's largest.
+#[tactic(auto, unfolding(crate::specs::Report::subjects_of, float64::specs::Pick::pick))]
 fn subjects_of(counts: &[u64]) -> usize
     ensures { result ≡ subjects_of counts.now }
 {

@@ -1,6 +1,6 @@
 -- `reply` meets its contract: each turn by its law. Assumes nothing.
 use Rattle.focei_records.proofs.Paths.{reply_end, reply_step, reply_all}
-use Rattle.std.proofs.Common.{◌≡◌, ◌-◌, arith, refl, ◌∙◌}
+use Rattle.std.proofs.Common.{◌≡◌, ◌-◌, arith, ◌∙◌}
 use Rattle.focei_records.proofs.reply.Goals as goal
 
 pub loop-i-init : goal.loop-i-init
