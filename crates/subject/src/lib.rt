@@ -15,6 +15,7 @@ ghost use Rattle.subject.specs.Subject.{has_nonfinite_sum, finish};
 
 pub mod checks;
 pub mod rows;
+pub mod runs;
 
 use matrix::{Matrix, Pair};
 
