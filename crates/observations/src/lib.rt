@@ -13,7 +13,7 @@ use host_calls::{Done, SessionSetup};
 use likelihood::population_focei::Observation;
 use search::Tally;
 use session::Admitted;
-use subject::runs::{NO_OBSERVATION, Run};
+use subject::runs::{Run, ZERO_OBSERVATION};
 use subject::{Check, Evaluation, Trial};
 
 // Lent observations.
@@ -32,7 +32,7 @@ impl Run for ObservationSlice<'_> {
         if i < self.0.len() {
             return self.0[i];
         }
-        NO_OBSERVATION
+        ZERO_OBSERVATION
     }
 }
 

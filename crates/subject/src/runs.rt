@@ -9,8 +9,8 @@ use super::{Check, Evaluation, Trial};
 use likelihood::population_focei::Observation;
 use words::smaller;
 
-// What stands beyond the last of a run, of words that are 0.
-pub const NO_OBSERVATION: Observation = Observation {
+// An observation of words that are 0, for a place beyond the last.
+pub const ZERO_OBSERVATION: Observation = Observation {
     output: 0,
     row: 0,
     value: 0.0,

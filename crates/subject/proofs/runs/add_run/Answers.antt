@@ -1,5 +1,5 @@
 -- `add_run` meets its contract: each turn adds the first of those that are left, and none is left at the end.
-use Rattle.std.proofs.Common.{◌<◌, ◌≤◌, length, ap, sym, ◌∙◌, arith}
+use Rattle.std.proofs.Common.{ap, sym, ◌∙◌, arith}
 use Rattle.subject.specs.Subject.{evaluating, add_observations as added}
 use Rattle.subject.proofs.Rest.{part, none_left, adds_next, part_end}
 use Rattle.subject.proofs.runs.add_run.Goals as goal

@@ -1,5 +1,5 @@
 -- `check_run` meets its contract: each turn checks the first of those that are left, and none is left at the end.
-use Rattle.std.proofs.Common.{◌<◌, ◌≤◌, length, ap, sym, ◌∙◌, arith}
+use Rattle.std.proofs.Common.{ap, sym, ◌∙◌, arith}
 use Rattle.subject.specs.Observations.{check_observations as checks}
 use Rattle.subject.proofs.Rest.{part, none_left, checks_next, part_end}
 use Rattle.subject.proofs.runs.check_run.Goals as goal
