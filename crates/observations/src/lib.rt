@@ -3,10 +3,9 @@
 // it. Each public function is defined for all values and words.
 #![tactic(auto)]
 
-ghost use Rattle.std.specs.Prelude.{◌≡◌, ◌<◌, ◌-◌, length, take, drop};
+ghost use Rattle.std.specs.Prelude.{◌≡◌, ◌-◌, length, take, drop};
 ghost use Rattle.subject.specs.Subject.{evaluating, add_observations};
-ghost use Rattle.words.specs.Words.{smaller};
-ghost use Rattle.subject.specs.Observations.{observation_at, check_observations};
+ghost use Rattle.subject.specs.Observations.{check_observations};
 ghost use Rattle.host_calls.specs.Hosting.{setup_of, out};
 ghost use Rattle.observations.specs.Lending.{evaluate_over, replied_over};
 
@@ -14,15 +13,27 @@ use host_calls::{Done, SessionSetup};
 use likelihood::population_focei::Observation;
 use search::Tally;
 use session::Admitted;
+use subject::runs::{Run, ZERO_OBSERVATION};
 use subject::{Check, Evaluation, Trial};
-use words::smaller;
 
-// Reads a lent observation; no other function does.
-fn observation_at(observations: &[Observation], i: usize) -> Observation
-    requires { i < length observations.now }
-    ensures { result ≡ observation_at observations.now i }
-{
-    observations[i]
+// Lent observations.
+#[derive(Clone, Copy)]
+struct ObservationSlice<'a>(&'a [Observation]);
+
+impl Run for ObservationSlice<'_> {
+    ghost items = { λ run. run.0.now };
+
+    fn count(self) -> usize {
+        self.0.len()
+    }
+
+    // Reads a lent observation; no other function does.
+    fn at(self, i: usize) -> Observation {
+        if i < self.0.len() {
+            return self.0[i];
+        }
+        ZERO_OBSERVATION
+    }
 }
 
 // An evaluation with the observations from number `from` up to, but without, `to` added, one after the other:
@@ -40,16 +51,9 @@ pub fn add_observations(
         ≡ add_observations trial reply.now (take (to - from) (drop from observations.now))
         (evaluating evaluation work.old) }
 {
-    let end = smaller(to, observations.len());
-    let mut sums = evaluation;
-    for i in from..end {
-        let observation = observation_at(observations, i);
-        sums = subject::rows::add_observation(sums, observation, trial, reply, work);
-    }
-    sums
+    let run = ObservationSlice(observations);
+    subject::runs::add_run(run, from, to, evaluation, trial, reply, work)
 }
-
-// ---- the check of the observations
 
 // Document 01's check 4 with the observations from number `from` up to, but without, `to`, one after the
 // other; `counts` are the subjects' numbers of observations.
@@ -63,13 +67,8 @@ pub fn check_observations(
 ) -> Check
     ensures { result ≡ check_observations width counts.now (take (to - from) (drop from observations.now)) check }
 {
-    let end = smaller(to, observations.len());
-    let mut checked = check;
-    for i in from..end {
-        let observation = observation_at(observations, i);
-        checked = subject::checks::check_observation(checked, observation, width, counts);
-    }
-    checked
+    let run = ObservationSlice(observations);
+    subject::runs::check_run(run, from, to, check, width, counts)
 }
 
 // ---- what a call of a session is lent by reference

@@ -9,7 +9,6 @@ ghost use Rattle.float64.specs.Arithmetic.{word};
 ghost use Rattle.subject.specs.Observations.{first_check, check_observations};
 ghost use Rattle.subject.specs.Subject.{evaluating, add_observations};
 ghost use Rattle.session.specs.Session.{objective, failure};
-ghost use Rattle.words.specs.Words.{smaller};
 ghost use Rattle.program_calls.specs.Recorded.{observation_in, observations_of, call_of, reply_of, open_of};
 ghost use Rattle.session.specs.Calls.{begun_with, called, held_of};
 
@@ -17,8 +16,8 @@ use likelihood::population_focei::Observation;
 use search::Tally;
 use session::{Begun, Called, State};
 use setup::{Parameters, Setup};
+use subject::runs::{Run, ZERO_OBSERVATION};
 use subject::{Check, Evaluation, Trial};
-use words::smaller;
 
 // The words of an observation.
 pub const OBSERVATION_WORDS: usize = 5;
@@ -41,13 +40,7 @@ pub fn observation_at(words: &[u64], i: usize) -> Observation
     ensures { result ≡ observation_in words.now i }
 {
     if words.len() <= i {
-        return Observation {
-            output: 0,
-            row: 0,
-            value: 0.0,
-            additive: 0.0,
-            proportional: 0.0,
-        };
+        return ZERO_OBSERVATION;
     }
     let at = OBSERVATION_WORDS * i;
     Observation {
@@ -59,18 +52,30 @@ pub fn observation_at(words: &[u64], i: usize) -> Observation
     }
 }
 
+// Observations in lent words.
+#[derive(Clone, Copy)]
+struct ObservationWords<'a>(&'a [u64]);
+
+impl Run for ObservationWords<'_> {
+    ghost items = { λ run. observations_of run.0.now };
+
+    fn count(self) -> usize {
+        count_of(self.0)
+    }
+
+    fn at(self, i: usize) -> Observation {
+        observation_at(self.0, i)
+    }
+}
+
 // Document 01's check 4 of all observations in lent words; `counts` are the subjects' numbers of
 // observations.
 pub fn check_words(words: &[u64], width: u32, counts: &[u64]) -> Check
     ensures { result ≡ check_observations width counts.now (observations_of words.now) first_check }
 {
     let n = count_of(words);
-    let mut check = subject::checks::first_check();
-    for i in 0..n {
-        let observation = observation_at(words, i);
-        check = subject::checks::check_observation(check, observation, width, counts);
-    }
-    check
+    let first = subject::checks::first_check();
+    subject::runs::check_run(ObservationWords(words), 0, n, first, width, counts)
 }
 
 // An evaluation with the observations from number `from` up to, but without, `to` added, one after the other:
@@ -88,13 +93,8 @@ pub fn add_words(
         ≡ add_observations trial reply.now (take (to - from) (drop from (observations_of words.now)))
         (evaluating evaluation work.old) }
 {
-    let end = smaller(to, count_of(words));
-    let mut sums = evaluation;
-    for i in from..end {
-        let observation = observation_at(words, i);
-        sums = subject::rows::add_observation(sums, observation, trial, reply, work);
-    }
-    sums
+    let run = ObservationWords(words);
+    subject::runs::add_run(run, from, to, evaluation, trial, reply, work)
 }
 
 // ---- the calls

@@ -1,8 +1,8 @@
 // A subject's evaluation at one point: `subject` of population_focei.rs and population_focei_2d.rs after its
 // simulator has answered. Here are the types, the individual values that the simulator is run with, and the
-// beginning and the end of an evaluation; between the two, `rows` adds one observation, and the crate
-// observations (or program_calls) goes through all of them. Each function is defined for all values and
-// words.
+// beginning and the end of an evaluation; between the two, `rows` adds one observation, and `runs` goes
+// through a run of them, which the crate observations (or program_calls) reads. Each function is defined for
+// all values and words.
 //
 // A reply is whole rows of words: time, side (0 pre, any other post), `width` values, then `width`
 // derivatives for each effect.
@@ -15,6 +15,7 @@ ghost use Rattle.subject.specs.Subject.{has_nonfinite_sum, finish};
 
 pub mod checks;
 pub mod rows;
+pub mod runs;
 
 use matrix::{Matrix, Pair};
 

@@ -14,9 +14,13 @@ module _ {A : Type 0} where
   as_many (suc j) [] = refl
   as_many (suc j) (x ∷ l) = ap (λ (r : List A). x ∷ r) (as_many j l)
 
-  -- up to `t`, or up to the end of the list where that comes first
-  pub part : (l : List A) (f t e : ℕ) → e ≡ smaller t (length l) → take (e - f) (drop f l) ≡ take (t - f) (drop f l)
-  part l f t e q = ap (λ (m : ℕ). take m (drop f l)) (ap (λ (m : ℕ). m - f) q ∙ sym (len_part l f t)) ∙ as_many (t - f) (drop f l)
+  -- up to `t`, or up to the end of the list, of n elements, where that comes first
+  pub part : (l : List A) (f t : ℕ) {n e : ℕ} → n ≡ length l → e ≡ smaller t n → take (e - f) (drop f l) ≡ take (t - f) (drop f l)
+  part l f t en ee =
+      ap (λ (m : ℕ). take m (drop f l)) (ap (λ (m : ℕ). m - f) (ee ∙ ap (smaller t) en) ∙ sym (len_part l f t)) ∙ as_many (t - f) (drop f l)
+
+  pub part_end : (l : List A) (t : ℕ) {n e : ℕ} → n ≡ length l → e ≡ smaller t n → e ≤ length l
+  part_end l t en ee = omega (arith, en, ee)
 
   one_first : (d : A) (l : List A) (i e : ℕ) → i < e → e ≤ length l → take (e - i) (drop i l) ≡ get_or l i d ∷ take (e - (i + 1)) (drop (i + 1) l)
   one_first d l i e h b =

@@ -1,9 +1,0 @@
--- The check of the observations that are still to be checked, from what has been found so far, is the check of all.
-use Rattle.std.proofs.Common.{◌≡◌, ◌-◌, take, drop}
-use Rattle.subject.specs.Observations.{check_observations}
-use Rattle.observations.proofs.check_observations.Given as goal
-
-abbrev pub invariant-loop-i : goal.invariant-loop-i
-invariant-loop-i l =
-    check_observations l.width l.counts (take (l.end - l.i) (drop l.i l.observations)) l.checked
-    ≡ check_observations l.width l.counts (take (l.end - l.from) (drop l.from l.observations)) l.fn.check
