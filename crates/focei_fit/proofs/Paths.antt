@@ -25,7 +25,7 @@ use Rattle.focei_text.specs.Report.{refusal_line}
 use Rattle.words.specs.Written.{Written, written, write}
 use Rattle.words.proofs.Front.{front}
 use Rattle.focei_fit.specs.Output.{most_evaluations, settings, begun, replied, when_asked, play, ended, end_of, when_opened, fitted, lent}
-use Rattle.session.specs.declared.Refusal.{Refusal}
+use Rattle.search.specs.declared.Refusal.{Refusal}
 
 -- ---- the calls; `taken` are the words of the reply
 module _ (counts observations : List ℕ) (h : Held words) where
@@ -60,7 +60,7 @@ module _ (input counts observations : List ℕ) (r : Ran (Held words) Step) wher
   unfolding when_asked
   stays go (Asked eta individual) f = absurd (f eta individual refl)
   stays go (Finished x) f = refl
-  stays go (Refused number place) f = refl
+  stays go (Refused why) f = refl
 
   -- without a question it is over
   pub play_over : (left : ℕ) → ((eta individual : Pair) → r.answer ≡ Asked eta individual → ⊥) → r ≡ play input counts observations left r

@@ -26,7 +26,7 @@ use Rattle.words.specs.Written.{Written, written, write}
 use Rattle.words.proofs.Front.{fits}
 use Rattle.focei_fit.specs.Output.{ended, end_of, when_opened, fitted, lent, when_records, output, printed}
 use Rattle.focei_fit.specs.Claim.{longest_text, Short}
-use Rattle.session.specs.declared.Refusal.{Refusal}
+use Rattle.search.specs.declared.Refusal.{Refusal}
 
 -- ---- the rows of the subjects are no more than the counts add up to
 rows_within : (left s : ℕ) (counts : List ℕ) (b : Bool) → ltb s (length counts) ≡ b → rows_from left s counts ≤ sum (drop s counts)
@@ -57,7 +57,7 @@ module _ (counts : List ℕ) (few : length counts ≤ 256) (fewer : sum counts �
       let s = few_subjects counts in
       let r : rows_from (subjects_of counts) 0 counts ≤ sum (drop 0 counts) = rows_within (subjects_of counts) 0 counts (ltb 0 (length counts)) refl in
       omega arith
-  end_short state tally results (Refused number place) = let l = refusal_length number place in omega arith
+  end_short state tally results (Refused why) = let l = refusal_length why.number why.place in omega arith
 
   opened_short : (input observations results : List ℕ) (s : Setting) (o : Result State Refusal) → length (when_opened input counts observations results s o) ≤ longest_text
   unfolding when_opened end_of

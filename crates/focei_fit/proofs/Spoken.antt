@@ -17,7 +17,7 @@ use Rattle.focei_records.specs.Records.{cohort}
 use Rattle.focei_text.specs.Report.{line, objective_line, finished, refusal_line}
 use Rattle.focei_fit.specs.Output.{ended, end_of, when_opened, fitted, lent, when_records, output}
 use Rattle.focei_fit.specs.Claim.{NotEmpty}
-use Rattle.session.specs.declared.Refusal.{Refusal}
+use Rattle.search.specs.declared.Refusal.{Refusal}
 
 -- ---- the first line has its letter
 refusal : (number : ℕ) (place : Place) → 0 < length (refusal_line number place)
@@ -33,7 +33,7 @@ at_end : (counts : List ℕ) (state : State) (tally : Tally) (results : List ℕ
 unfolding ended
 at_end counts state tally results (Asked eta individual) = refusal 19 Nowhere
 at_end counts state tally results (Finished x) = end x tally.calls.0 (shrinkage state (length counts)) counts results
-at_end counts state tally results (Refused number place) = refusal number place
+at_end counts state tally results (Refused why) = refusal why.number why.place
 
 opened : (input counts observations results : List ℕ) (s : Setting) (o : Result State Refusal) → 0 < length (when_opened input counts observations results s o)
 unfolding when_opened end_of

@@ -19,7 +19,7 @@ use Rattle.session.specs.declared.State.{State}
 use Rattle.program_calls.specs.Recorded.{call_of, open_of}
 use Rattle.focei_records.specs.Records.{record_bytes, most_records, cohort, counts, observations, reply}
 use Rattle.focei_text.specs.Report.{finished, refusal_line}
-use Rattle.session.specs.declared.Refusal.{Refusal}
+use Rattle.search.specs.declared.Refusal.{Refusal}
 
 -- the evaluations of a session, and as many answers: each question raises them
 abbrev pub most_evaluations : ℕ
@@ -55,7 +55,7 @@ begun counts observations h = call_of settings counts observations (objective fi
 unfoldable pub when_asked : (Pair → Ran (Held words) Step) → Ran (Held words) Step → Step → Ran (Held words) Step
 when_asked go r (Asked eta individual) = go individual
 when_asked go r (Finished x) = r
-when_asked go r (Refused number place) = r
+when_asked go r (Refused why) = r
 
 module _ (input counts observations : List ℕ) where
   -- a question is answered with the simulator's rows of the subject that is searched
@@ -75,7 +75,7 @@ module _ (input counts observations : List ℕ) where
 unfoldable pub ended : List ℕ → State → Tally → List ℕ → Step → List ℕ
 ended counts state tally results (Asked eta individual) = refusal_line 19 Nowhere
 ended counts state tally results (Finished x) = finished x tally.calls.0 (shrinkage state (length counts)) counts results
-ended counts state tally results (Refused number place) = refusal_line number place
+ended counts state tally results (Refused why) = refusal_line why.number why.place
 
 unfoldable pub end_of : List ℕ → Ran (Held words) Step → List ℕ
 end_of counts r = ended counts (state_of r.state) r.state.whole.tally r.state.whole.results r.answer

@@ -151,7 +151,7 @@ fn told(at: Called, counts: &[u64], results: &[u64], out: &mut [u8]) -> usize
                 results,
             )
         }
-        Step::Refused(number, place) => focei_text::refused(out, 0, number, place),
+        Step::Refused(refusal) => focei_text::refused(out, 0, refusal.number, refusal.place),
     }
 }
 

@@ -12,7 +12,7 @@ use Rattle.matrix.specs.declared.Pair.{Pair}
 use Rattle.likelihood.specs.declared.population_focei.Observation.{Observation}
 use Rattle.setup.specs.Admission.{checks, Admission}
 use Rattle.setup.specs.declared.Lent.{Lent}
-use Rattle.search.specs.Subjects.{begin_subject}
+use Rattle.search.specs.Subjects.{begin_subject, refusal}
 use Rattle.search.specs.declared.Place.{Place}
 use Rattle.search.specs.declared.Place.TheVariants.{Nowhere}
 use Rattle.search.specs.declared.Step.{Step}
@@ -49,7 +49,7 @@ module _ (M : Machine) where
 unfoldable Other : Step → Type 0
 Other (Asked eta individual) = Unit
 Other (Finished x) = Unit
-Other (Refused number place) = Not19 number × (number ≤ 19)
+Other (Refused why) = Not19 why.number × (why.number ≤ 19)
 
 other_line : (number : ℕ) (place place' : Place) → Not19 number → number < 100 → refusal_line number place ≡ refusal_line 19 place' → ⊥
 other_line number place place' other few e = other (number_read number 19 place place' few (omega arith) (omega arith) e)
@@ -59,8 +59,8 @@ other_text : (counts : List ℕ) (state : State) (tally : Tally) (results : List
 unfolding Other ended
 other_text counts state tally results place' (Asked eta individual) none other e = none eta individual refl
 other_text counts state tally results place' (Finished x) none other e = finished_other _ _ _ _ _ 19 place' e
-other_text counts state tally results place' (Refused number place) none other e =
-    let few = other.1 in other_line number place place' other.0 (omega (arith, few)) e
+other_text counts state tally results place' (Refused why) none other e =
+    let few = other.1 in other_line why.number why.place place' other.0 (omega (arith, few)) e
 
 -- ---- the program's session: each call is accepted
 module _ (input counts observations : List ℕ) (lent : Lent) (results : List ℕ) (granted : Granted settings counts (observations_of observations) lent results) where
@@ -94,9 +94,9 @@ module _ (input counts observations : List ℕ) (lent : Lent) (results : List �
       by : (a : Step) → (call_of settings counts observations c h).answer ≡ a → Other a
       by (Asked eta individual) e = tt
       by (Finished x) e = tt
-      by (Refused number place) e = (
-        λ z. let_in_here.never19 c k.ruled place (e ∙ ap (λ (n : ℕ). Refused n place) z),
-        refuses counts observations c h number place e,
+      by (Refused why) e = (
+        λ z. let_in_here.never19 c k.ruled why.place (e ∙ ap (λ (n : ℕ). Refused (refusal n why.place)) z),
+        refuses counts observations c h why.number why.place e,
       )
 
   first : Keeps (objective first_parameters) s₀

@@ -7,6 +7,7 @@ use Prim.Native.Nat.{ℕ, zero, suc, ◌+◌, ◌≤◌, ◌<◌}
 use native.Mathlib.Omega.{arith}
 use lib.ListN.{length}
 use Rattle.matrix.specs.declared.Pair.{Pair}
+use Rattle.search.specs.Subjects.{refusal}
 use Rattle.search.specs.declared.Place.{Place}
 use Rattle.search.specs.declared.Step.{Step}
 use Rattle.search.specs.declared.Step.TheVariants.{Asked, Finished, Refused}
@@ -58,13 +59,13 @@ module _ (counts observations : List ℕ) (c : Call) (h : Held words) where
       by (inr g) = subst says e g.says
 
   -- a refusal's number is 19 at most
-  pub refuses : (number : ℕ) (place : Place) → gives.answer ≡ Refused number place → number ≤ 19
+  pub refuses : (number : ℕ) (place : Place) → gives.answer ≡ Refused (refusal number place) → number ≤ 19
   unfolding Says
   refuses number place e = by comes_to
     where
       by : Done settings counts h gives.answer gives.state → number ≤ 19
       by (inl k) = let both = sym k.answer ∙ e in let same : k.number ≡ number = cc in subst (λ (n : ℕ). n ≤ 19) same (few_numbers k.number k.unaltering)
-      by (inr g) = let r : says (Refused number place) = subst says e g.says in let high = r.1.number.1 in omega (arith, high)
+      by (inr g) = let r : says (Refused (refusal number place)) = subst says e g.says in let high = r.1.number.1 in omega (arith, high)
 
 -- ---- question and answer to the end: Q is what is known of a call when it is made, and G what is known of its answer then
 module _ (input counts observations : List ℕ) (Q : Call → Held words → Type 0) (G : Step → Type 0)
@@ -92,7 +93,7 @@ module _ (input counts observations : List ℕ) (Q : Call → Held words → Typ
           let said = reply input at.first (rows_of counts at.subject) individual.first in
           later (rows said) r.state (again c h q eta individual e said) (omega (arith, risen, l))
       by (Finished x) e = (λ eta individual f. let never = sym e ∙ f in let z : ◌≡◌ {A = ℕ} 0 1 = cc in omega arith, end c h q)
-      by (Refused number place) e = (λ eta individual f. let never = sym e ∙ f in let z : ◌≡◌ {A = ℕ} 0 1 = cc in omega arith, end c h q)
+      by (Refused why) e = (λ eta individual f. let never = sym e ∙ f in let z : ◌≡◌ {A = ℕ} 0 1 = cc in omega arith, end c h q)
 
   pub ends : (n : ℕ) → Ends n
   unfolding play

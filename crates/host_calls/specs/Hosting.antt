@@ -29,7 +29,7 @@ use Rattle.host_calls.specs.declared.AnswerWords.{AnswerWords}
 use Rattle.host_calls.specs.declared.Done.{Done}
 use Rattle.host_calls.specs.declared.SessionParameters.{SessionParameters}
 use Rattle.host_calls.specs.declared.SessionSetup.{SessionSetup}
-use Rattle.session.specs.declared.Refusal.{Refusal}
+use Rattle.search.specs.declared.Refusal.{Refusal}
 use Rattle.subject.specs.Observations.{Check}
 
 -- ---- what a host gives
@@ -148,7 +148,7 @@ answer_of (Says.Asked eta individual) =
     answer_words 0 (to_bits binary64 eta.first) (to_bits binary64 eta.second) (to_bits binary64 individual.first)
     (to_bits binary64 individual.second)
 answer_of (Says.Finished objective) = answer_words 1 (to_bits binary64 objective) 0 0 0
-answer_of (Says.Refused number place) = place_words number place
+answer_of (Says.Refused why) = place_words why.number why.place
 
 unfoldable pub answered : AnswerWords → List ℕ → List ℕ
 answered a w = set (set (set (set (set w 0 a.kind) 1 a.first) 2 a.second) 3 a.third) 4 a.fourth
@@ -157,7 +157,7 @@ answered a w = set (set (set (set (set w 0 a.kind) 1 a.first) 2 a.second) 3 a.th
 unfoldable pub number_of : Step → ℕ
 number_of (Says.Asked eta individual) = 0
 number_of (Says.Finished objective) = 0
-number_of (Says.Refused number place) = number
+number_of (Says.Refused why) = why.number
 
 -- 1 to 5 and 19 alter nothing
 unfoldable pub is_unaltered : ℕ → Bool

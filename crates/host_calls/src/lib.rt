@@ -19,7 +19,7 @@ pub mod figures;
 pub mod replies;
 
 use matrix::Pair;
-use search::{Place, Step, Tally};
+use search::{Place, Refusal, Step, Tally};
 use session::{Begun, Called};
 use setup::{Parameters, Setup};
 
@@ -121,10 +121,11 @@ const NO_WORDS: AnswerWords = AnswerWords {
 };
 
 #[tactic(auto, unfolding(crate::specs::Hosting::place_words))]
-fn place_words(number: u32, place: Place) -> AnswerWords
-    ensures { result ≡ place_words number place }
+fn place_words(refusal: Refusal) -> AnswerWords
+    ensures { result ≡ place_words refusal.number refusal.place }
 {
-    match place {
+    let number = refusal.number;
+    match refusal.place {
         Place::Nowhere => AnswerWords {
             kind: 2,
             first: number as u64,
@@ -164,7 +165,7 @@ fn answer_of(step: Step) -> AnswerWords
             first: float64::to_word(objective),
             ..NO_WORDS
         },
-        Step::Refused(number, place) => place_words(number, place),
+        Step::Refused(refusal) => place_words(refusal),
     }
 }
 
@@ -186,7 +187,7 @@ fn number_of(step: Step) -> u32
 {
     match step {
         Step::Asked(_, _) | Step::Finished(_) => 0,
-        Step::Refused(number, _) => number,
+        Step::Refused(refusal) => refusal.number,
     }
 }
 
@@ -219,7 +220,11 @@ pub fn told(called: Called, state: &mut [u64], answer: &mut [u64]) -> Done
 pub fn no_state(tally: Tally, answer: &mut [u64]) -> Done
     ensures { (result ≡ no_state tally) × (answer.new ≡ answered (place_words 19 Nowhere) answer.old) }
 {
-    write_answer(place_words(19, Place::Nowhere), answer);
+    let refusal = Refusal {
+        number: 19,
+        place: Place::Nowhere,
+    };
+    write_answer(place_words(refusal), answer);
     Done { number: 19, tally }
 }
 
@@ -243,7 +248,7 @@ pub fn opened(begun: Begun, state: &mut [u64], answer: &mut [u64]) -> Done
             Done { number: 0, tally }
         }
         Err(refusal) => {
-            write_answer(place_words(refusal.number, refusal.place), answer);
+            write_answer(place_words(refusal), answer);
             Done {
                 number: refusal.number,
                 tally,

@@ -30,14 +30,14 @@ module _ (fit : Fit) (counts : List ℕ) (progress : Progress) (tally : Tally) (
   unfolding at_mode
   closed_as t q = q ∙ (λ i. closing fit counts progress tally (er i) work warm results ((sym t ∙ ex ∙ ap (B.closed_by fit progress) er) i))
 
-  pub not_positive : {h : Halted} → x ≡ None → h ≡ B.refused_by progress tally 16 (Subject progress.subject) → ended (Break h) work warm results ≡ at_mode fit counts progress tally work warm
+  pub not_positive : {h : Halted} → x ≡ None → h ≡ B.refused_by progress tally (B.refusal 16 (Subject progress.subject)) → ended (Break h) work warm results ≡ at_mode fit counts progress tally work warm
       results
   unfolding closing
   not_positive t q = closed_as t (ap (λ (h : Halted). ended (Break h) work warm results) q)
 
   -- stored is the warm starts with this one, b what `is_same_grid` answered
   module _ {mode : Mode} {stored : List ℕ} {b : Bool} (t : x ≡ Some mode) (es : stored ≡ warm_stored fit.effects progress.subject mode.eta warm) (eb : b ≡ is_same_grid work rows) where
-    pub other_grid : {h : Halted} → b ≡ false → h ≡ B.refused_by progress tally 17 (Subject progress.subject) → ended (Break h) work stored results ≡ at_mode fit counts progress tally work warm
+    pub other_grid : {h : Halted} → b ≡ false → h ≡ B.refused_by progress tally (B.refusal 17 (Subject progress.subject)) → ended (Break h) work stored results ≡ at_mode fit counts progress tally work warm
         results
     unfolding closing
     other_grid u q = closed_as t (no_of _ eb u (λ i. ended (Break (q i)) work (es i) results))

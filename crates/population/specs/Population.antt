@@ -105,14 +105,14 @@ ended t work warm results = record { turned = t; work = work; warm = warm; resul
 -- 16, the warm start, 17, the results
 abbrev pub closing_with : Fit → List ℕ → Progress → Tally → ℕ → List ℕ → List ℕ → List ℕ → Answer Mode → Ended
 closing_with fit counts progress tally rows work warm results (refused number) =
-    ended (Break (B.refused_by progress tally number (Subject progress.subject))) work warm results
+    ended (Break (B.refused_by progress tally (B.refusal number (Subject progress.subject)))) work warm results
 closing_with fit counts progress tally rows work warm results (given mode) =
     let stored = warm_stored fit.effects progress.subject mode.eta warm in
     let next = next_subject fit counts progress tally mode rows stored work in
     let fitted = fitted_written (length counts) progress.first work rows
     (result_written progress.subject mode.eta mode.nll results) in
     pick (is_same_grid work rows) (ended next.value next.work stored fitted)
-    (ended (Break (B.refused_by progress tally 17 (Subject progress.subject))) work stored results)
+    (ended (Break (B.refused_by progress tally (B.refusal 17 (Subject progress.subject)))) work stored results)
 
 unfoldable pub closing : Fit → List ℕ → Progress → Tally → ℕ → List ℕ → List ℕ → List ℕ → Option Mode → Ended
 closing fit counts progress tally rows work warm results c =
@@ -131,7 +131,7 @@ served_by S fit counts progress tally kept work warm results (Wants.Point eta) =
     ended p.value p.work warm results
 served_by S fit counts progress tally kept work warm results Wants.Mode = at_mode fit counts progress tally work warm results
 served_by S fit counts progress tally kept work warm results (Wants.Refused number) =
-    ended (Break (B.refused_by progress tally number (Subject progress.subject))) work warm results
+    ended (Break (B.refused_by progress tally (B.refusal number (Subject progress.subject)))) work warm results
 
 unfoldable pub served : (S : Store) → Fit → List ℕ → Progress → Tally → S.Kept → List ℕ → List ℕ → List ℕ → Ended
 served S fit counts progress tally kept work warm results =
@@ -179,7 +179,7 @@ turn S fit counts w =
 
 -- the answer where the requests are used up, which no session comes to
 abbrev pub spent : Step
-spent = Refused 19 Nowhere
+spent = Refused (B.refusal 19 Nowhere)
 
 -- the words, as the code has them
 abbrev pub whole : Progress → Tally → Cache → List ℕ → List ℕ → List ℕ → Whole words

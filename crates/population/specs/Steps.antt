@@ -27,7 +27,7 @@ unfoldable pub unkept : Fit → List ℕ → Progress → Tally → List ℕ →
 unkept fit counts progress tally work warm results (Wants.Point eta) = ended (Break (B.ask fit progress tally eta)) work warm results
 unkept fit counts progress tally work warm results Wants.Mode = at_mode fit counts progress tally work warm results
 unkept fit counts progress tally work warm results (Wants.Refused number) =
-    ended (Break (B.refused_by progress tally number (Subject progress.subject))) work warm results
+    ended (Break (B.refused_by progress tally (B.refusal number (Subject progress.subject)))) work warm results
 
 -- where the turn ends the objective the work words are cleared
 unfoldable pub cleared : Ended → Ended

@@ -13,7 +13,7 @@ pub mod kept_points;
 pub mod steps;
 
 use matrix::Pair;
-use search::{Fit, Halted, Mode, Place, Progress, Tally};
+use search::{Fit, Halted, Mode, Progress, Tally, refused_here};
 use std::ops::ControlFlow;
 
 // A turn of the loop over the remaining requests: it goes on, without an evaluation, or breaks off with an
@@ -117,13 +117,12 @@ pub fn at_mode(
 {
     let subject = progress.subject;
     let rows = rows_of(counts, subject);
-    let place = Place::Subject(subject);
     let Some(mode) = search::objective::closed_by(fit, progress, rows as u32) else {
-        return ControlFlow::Break(search::refused(progress, tally, 16, place));
+        return ControlFlow::Break(refused_here(progress, tally, 16));
     };
     store_warm(warm, fit.effects, subject, mode.eta);
     if !work::is_same_grid(work, rows) {
-        return ControlFlow::Break(search::refused(progress, tally, 17, place));
+        return ControlFlow::Break(refused_here(progress, tally, 17));
     }
     work::results::write_result(results, subject, mode.eta, mode.nll);
     work::results::write_fitted(results, counts.len(), progress.first, work, rows);

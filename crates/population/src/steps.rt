@@ -11,7 +11,7 @@ use super::kept_points::Evaluated;
 use cache::CacheOrder;
 use matrix::Pair;
 use mode::Request;
-use search::{Fit, Halted, Place, Progress, Step, Tally};
+use search::{Fit, Halted, Place, Progress, Refusal, Step, Tally, refused_here};
 use std::ops::ControlFlow;
 
 // What is done with a request that no kept evaluation answers.
@@ -34,10 +34,7 @@ fn served(
             fit, progress, tally, eta,
         )),
         Request::Mode => super::at_mode(fit, counts, progress, tally, work, warm, results),
-        Request::Refused(number) => {
-            let place = Place::Subject(progress.subject);
-            ControlFlow::Break(search::refused(progress, tally, number, place))
-        }
+        Request::Refused(number) => ControlFlow::Break(refused_here(progress, tally, number)),
     }
 }
 
@@ -110,7 +107,10 @@ pub fn requests(
             break 'requests Halted {
                 progress,
                 tally,
-                step: Step::Refused(19, Place::Nowhere),
+                step: Step::Refused(Refusal {
+                    number: 19,
+                    place: Place::Nowhere,
+                }),
             };
         }
         match turn(fit, counts, progress, tally, wanted, work, warm, results) {

@@ -37,6 +37,7 @@ use Rattle.search.specs.declared.SubjectSearch.TheVariants as With
 use Rattle.search.specs.declared.Progress.{Progress}
 use Rattle.search.specs.declared.Place.{Place}
 use Rattle.search.specs.declared.Place.TheVariants.{Nowhere, Subject}
+use Rattle.search.specs.declared.Refusal.{Refusal}
 use Rattle.search.specs.declared.Step.{Step}
 use Rattle.search.specs.declared.Step.TheVariants.{Asked, Finished, Refused}
 use Rattle.search.specs.declared.Halted.{Halted}
@@ -302,8 +303,12 @@ awaiting progress individual = record {
   eta_squares = progress.eta_squares;
 }
 
-unfoldable pub refused_by : Progress → Tally → ℕ → Place → Halted
-refused_by progress tally number place = record { progress = idle progress; tally = tally; step = Refused number place }
+-- why something is refused: document 01's number, and its place
+abbrev pub refusal : ℕ → Place → Refusal
+refusal number place = record { number = number; place = place }
+
+unfoldable pub refused_by : Progress → Tally → Refusal → Halted
+refused_by progress tally why = record { progress = idle progress; tally = tally; step = Refused why }
 
 unfoldable pub counted : Tally → Tally
 counted tally = record { calls = record { 0 = tally.calls.0 + 1 }; cached_rows = tally.cached_rows }
@@ -315,19 +320,19 @@ ask_for progress tally eta (given individual) = record {
   tally = tally;
   step = Asked eta individual;
 }
-ask_for progress tally eta (refused number) = refused_by progress tally number (Subject progress.subject)
+ask_for progress tally eta (refused number) = refused_by progress tally (refusal number (Subject progress.subject))
 
 -- check 6
 unfoldable pub ask : Fit → Progress → Tally → Pair → Halted
 ask fit progress tally eta =
     pick (ltb tally.calls.0 fit.max_evaluations)
     (ask_for progress (counted tally) eta (individual_values fit.theta eta fit.effects))
-    (refused_by progress tally 6 (Subject progress.subject))
+    (refused_by progress tally (refusal 6 (Subject progress.subject)))
 
 unfoldable pub is_over : Step → Bool
 is_over (Asked eta individual) = false
 is_over (Finished ofv) = true
-is_over (Refused number place) = true
+is_over (Refused why) = true
 
 -- ---- a mode: check 16, and its part of the objective
 
@@ -406,5 +411,5 @@ finished progress ofv eta_squares = record {
 -- check 18
 unfoldable pub objective_of : Progress → Tally → Float → Float → Halted
 objective_of progress tally ofv eta_squares =
-    pick (nonfinite ofv) (refused_by progress tally 18 Nowhere)
+    pick (nonfinite ofv) (refused_by progress tally (refusal 18 Nowhere))
     (record { progress = finished progress ofv eta_squares; tally = tally; step = Finished ofv })

@@ -5,7 +5,8 @@
 #![tactic(auto)]
 
 ghost use Rattle.std.specs.Prelude.{◌≡◌};
-ghost use Rattle.search.specs.Subjects.{fit_with, fit2, fit_in, one_of, two_of, first_search, begin_subject, idle, refused_by, is_over};
+ghost use Rattle.search.specs.Subjects.{fit_with, fit2, fit_in, one_of, two_of, first_search, begin_subject, idle, refusal, refused_by, is_over};
+ghost use Rattle.search.specs.declared.Place.TheVariants.{Subject};
 
 pub mod objective;
 pub mod points;
@@ -84,13 +85,19 @@ pub enum Place {
     Observation(usize, usize),
 }
 
-// The answer of a step: a question, with eta and the individual values; the finished objective; or a refusal,
-// with document 01's number and its place.
+// Why something is refused: document 01's number and its place.
+#[derive(Clone, Copy)]
+pub struct Refusal {
+    pub number: u32,
+    pub place: Place,
+}
+
+// The answer of a step: a question, with eta and the individual values; the finished objective; or a refusal.
 #[derive(Clone, Copy)]
 pub enum Step {
     Asked(Pair, Pair),
     Finished(f64),
-    Refused(u32, Place),
+    Refused(Refusal),
 }
 
 // The end of a step: where the objective stands, the tally, and the answer.
@@ -238,14 +245,22 @@ fn idle(progress: Progress) -> Progress
 
 // The end of a step in a refusal that ends the objective: no reply is awaited any more.
 #[tactic(auto, unfolding(crate::specs::Subjects::refused_by))]
-pub fn refused(progress: Progress, tally: Tally, number: u32, place: Place) -> Halted
-    ensures { result ≡ refused_by progress tally number place }
+pub fn refused(progress: Progress, tally: Tally, refusal: Refusal) -> Halted
+    ensures { result ≡ refused_by progress tally refusal }
 {
     Halted {
         progress: idle(progress),
         tally,
-        step: Step::Refused(number, place),
+        step: Step::Refused(refusal),
     }
+}
+
+// The same about the subject that is searched.
+pub fn refused_here(progress: Progress, tally: Tally, number: u32) -> Halted
+    ensures { result ≡ refused_by progress tally (refusal number (Subject progress.subject)) }
+{
+    let place = Place::Subject(progress.subject);
+    refused(progress, tally, Refusal { number, place })
 }
 
 // Whether the answer of a step ends the objective: everything but a question does.

@@ -3,7 +3,7 @@
 ghost use Rattle.std.specs.Prelude.{◌≡◌};
 ghost use Rattle.search.specs.Subjects.{closed1, closed2, closed_by, finished, objective_of};
 
-use super::{Fit, Halted, Mode, Place, Progress, Step, Tally};
+use super::{Fit, Halted, Mode, Place, Progress, Refusal, Step, Tally};
 use matrix::Pair;
 use mode::population_focei::Conditional;
 use mode_2d::population_focei_2d::Conditional2;
@@ -73,7 +73,11 @@ pub fn objective_of(progress: Progress, tally: Tally, ofv: f64, eta_squares: f64
     ensures { result ≡ objective_of progress tally ofv eta_squares }
 {
     if float64::is_nonfinite(ofv) {
-        return super::refused(progress, tally, 18, Place::Nowhere);
+        let refusal = Refusal {
+            number: 18,
+            place: Place::Nowhere,
+        };
+        return super::refused(progress, tally, refusal);
     }
     Halted {
         progress: finished(progress, ofv, eta_squares),

@@ -5,7 +5,7 @@ ghost use Rattle.std.specs.Prelude.{◌≡◌, ◌<◌};
 ghost use Rattle.search.specs.Subjects.{key1, key2, key_of, sums_of, terms_of, awaiting, counted, ask_for, ask};
 ghost use Rattle.subject.specs.Subject.{answer};
 
-use super::{Calls, Fit, Halted, Place, Progress, Step, Tally};
+use super::{Calls, Fit, Halted, Progress, Step, Tally, refused_here};
 use cache::{CacheKey, CachedTerms};
 use matrix::{Matrix, Pair};
 use subject::Sums;
@@ -136,7 +136,7 @@ fn ask_for(progress: Progress, tally: Tally, eta: Pair, values: Option<Pair>) ->
             tally,
             step: Step::Asked(eta, individual),
         },
-        None => super::refused(progress, tally, 7, Place::Subject(progress.subject)),
+        None => refused_here(progress, tally, 7),
     }
 }
 
@@ -150,5 +150,5 @@ pub fn ask(fit: Fit, progress: Progress, tally: Tally, eta: Pair) -> Halted
         let values = subject::individual_values(fit.theta, eta, fit.effects);
         return ask_for(progress, counted(tally), eta, values);
     }
-    super::refused(progress, tally, 6, Place::Subject(progress.subject))
+    refused_here(progress, tally, 6)
 }

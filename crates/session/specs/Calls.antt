@@ -18,9 +18,9 @@ use Rattle.setup.specs.declared.Setup.{Setup}
 use Rattle.cache.specs.declared.CacheOrder.{CacheOrder}
 use Rattle.search.specs.Subjects.{fit_in, fit_of, wanted_by, idle, begin_subject}
 use Rattle.search.specs.declared.Fit.{Fit}
-use Rattle.search.specs.declared.Place.{Place}
 use Rattle.search.specs.declared.Place.TheVariants as At
 use Rattle.search.specs.declared.Tally.{Tally}
+use Rattle.search.specs.declared.Refusal.{Refusal}
 use Rattle.search.specs.declared.Step.{Step}
 use Rattle.search.specs.declared.Step.TheVariants.{Refused}
 use Rattle.machine.specs.Machine.{Moved, Ran, ran, onward, loop}
@@ -69,16 +69,16 @@ abbrev pub lent_by : ℕ → ℕ → ℕ → ℕ → ℕ → Lent
 lent_by n cache work warm results = record { observations = n; work = work; cache = cache; warm = warm; results = results }
 
 -- one that alters nothing
-abbrev pub refused_as : State → Tally → ℕ → Place → Called
-refused_as state tally number place = record { state = state; tally = tally; step = Refused number place }
+abbrev pub refused_as : State → Tally → Refusal → Called
+refused_as state tally why = record { state = state; tally = tally; step = Refused why }
 
 -- one that ends the objective
-abbrev pub ended_as : State → Tally → ℕ → Place → Called
-ended_as state tally number place =
+abbrev pub ended_as : State → Tally → Refusal → Called
+ended_as state tally why =
     record {
       state = record { parameters = state.parameters; progress = idle state.progress; order = state.order };
       tally = tally;
-      step = Refused number place;
+      step = Refused why;
     }
 
 -- ---- setup

@@ -19,7 +19,7 @@ use Rattle.setup.specs.Admission.{verdict, checks, with_parameters, Admission}
 use Rattle.setup.specs.declared.Setup.{Setup}
 use Rattle.setup.specs.declared.Parameters.{Parameters}
 use Rattle.setup.specs.declared.Lent.{Lent}
-use Rattle.search.specs.Subjects.{fit_of, one_of, two_of, wanted_by, idle, begin_subject}
+use Rattle.search.specs.Subjects.{fit_of, one_of, two_of, wanted_by, idle, begin_subject, refusal}
 use Rattle.search.specs.declared.Tally.{Tally}
 use Rattle.search.specs.declared.Fit.{Fit}
 use Rattle.search.specs.declared.Progress.{Progress}
@@ -103,7 +103,7 @@ fuel = 25985024
 module _ (S : Store) where
   -- a refusal that alters nothing
   abbrev pub unaltered : ℕ → Place → Held S → Moved (Held S) Step
-  unaltered number place h = halt (Refused number place) h
+  unaltered number place h = halt (Refused (refusal number place)) h
 
   abbrev pub when_judged : Held S → Moved (Held S) Step → Verdict → Moved (Held S) Step
   when_judged h go passes = go
@@ -117,7 +117,7 @@ module _ (S : Store) where
   unfoldable pub over : ℕ → Place → Held S → Moved (Held S) Step
   over number place h =
       let w = h.whole in
-      halt (Refused number place)
+      halt (Refused (refusal number place))
       (held S h.parameters (whole_of S (idle w.progress) w.tally w.kept (zeros (length w.work)) w.warm w.results))
 
   -- a reply: the end of the evaluation of the point eta, with the work words that it has written

@@ -13,7 +13,7 @@ pub mod checks;
 use cache::CacheOrder;
 use matrix::Pair;
 use mode::population_focei::Stage;
-use search::{Fit, Place, Progress, Step, Tally};
+use search::{Fit, Progress, Refusal, Step, Tally};
 use setup::{Admission, Lent, Parameters, Setup};
 use subject::{Evaluation, Trial};
 
@@ -39,14 +39,8 @@ pub struct Called {
     pub step: Step,
 }
 
-// Why setup is refused, which alters nothing: document 01's number and its place.
-#[derive(Clone, Copy)]
-pub struct Refusal {
-    pub number: u32,
-    pub place: Place,
-}
-
-// What setup gives back: the state of the session that it opened, or a refusal; and the tally.
+// What setup gives back: the state of the session that it opened, or a refusal, which alters nothing; and the
+// tally.
 #[derive(Clone, Copy)]
 pub struct Begun {
     pub opening: Result<State, Refusal>,
@@ -110,13 +104,13 @@ pub fn lent_of(observations: usize, cache: usize, work: usize, warm: usize, resu
 }
 
 // What a call gives back that is refused and alters nothing: state and tally as they were.
-pub fn refused_as(state: State, tally: Tally, number: u32, place: Place) -> Called
-    ensures { result ≡ refused_as state tally number place }
+pub fn refused_as(state: State, tally: Tally, refusal: Refusal) -> Called
+    ensures { result ≡ refused_as state tally refusal }
 {
     Called {
         state,
         tally,
-        step: Step::Refused(number, place),
+        step: Step::Refused(refusal),
     }
 }
 

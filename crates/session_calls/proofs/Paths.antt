@@ -14,7 +14,7 @@ use Rattle.setup.specs.Admission.{checks, with_parameters, Admission}
 use Rattle.setup.specs.declared.Lent.{Lent}
 use Rattle.setup.specs.declared.Parameters.{Parameters}
 use Rattle.setup.specs.declared.Setup.{Setup}
-use Rattle.search.specs.Subjects.{fit_of, wanted_by, refused_by}
+use Rattle.search.specs.Subjects.{fit_of, wanted_by, refused_by, refusal}
 use Rattle.search.specs.declared.Fit.{Fit}
 use Rattle.search.specs.declared.Halted.{Halted}
 use Rattle.search.specs.declared.Place.{Place}
@@ -42,7 +42,7 @@ use Rattle.session.specs.declared.State.{State}
 use Rattle.subject.specs.declared.EvaluationError.TheVariants as E
 use Rattle.setup.specs.declared.AdmissionError.{AdmissionError}
 use Rattle.setup.specs.declared.AdmissionError.TheVariants as A
-use Rattle.session.specs.declared.Refusal.{Refusal}
+use Rattle.search.specs.declared.Refusal.{Refusal}
 use Rattle.session_calls.specs.Refusals.{refusal_of}
 use Rattle.subject.specs.Observations.{Check}
 use Rattle.mode.specs.declared.Request.{Request}
@@ -54,10 +54,10 @@ pub ran_in : (fit : Fit) (counts : List ℕ) (parameters : Parameters) (w : Whol
 ran_in fit counts parameters w = ap (λ (z : Ran (Whole words) Step). ran z.answer (held words parameters z.state))
 
 -- ---- a refusal that ends the objective; h is what `refused` answered
-pub ended_made : (state : State) (tally : Tally) (number : ℕ) (place : Place) {h : Halted} → h ≡ refused_by state.progress tally number place
-    → record { state = record { parameters = state.parameters; progress = h.progress; order = state.order }; tally = tally; step = h.step } ≡ ended_as state tally number place
+pub ended_made : (state : State) (tally : Tally) (why : Refusal) {h : Halted} → h ≡ refused_by state.progress tally why
+    → record { state = record { parameters = state.parameters; progress = h.progress; order = state.order }; tally = tally; step = h.step } ≡ ended_as state tally why
 unfolding refused_by
-ended_made state tally number place e =
+ended_made state tally why e =
     ap (λ (h : Halted). record { state = record { parameters = state.parameters; progress = h.progress; order = state.order }; tally = tally; step = h.step }) e
 
 -- ---- setup; a is what `checks` answered
@@ -93,7 +93,7 @@ through_pick f b x y = sym (pick_through f b (λ _. refl) refl)
 
 -- a refusal of the checks, before anything is altered
 refused_onward : (f : Held words → Ran (Held words) Step) (h : Held words) (go : Moved (Held words) Step) (error : AdmissionError)
-    → ran (Refused (refusal_of error).number (refusal_of error).place) h ≡ onward (when_admitted words h go (Err error)) f
+    → ran (Refused (refusal_of error)) h ≡ onward (when_admitted words h go (Err error)) f
 unfolding when_admitted onward refusal_of
 refused_onward f h go (A.Refused number) = refl
 refused_onward f h go (A.Unsound at) = refl
@@ -107,14 +107,14 @@ module _ (f : Held words → Ran (Held words) Step) (h : Held words) (go : Moved
   unfolding when_admitted
   lets_in t q = admitted_by t q
 
-  pub keeps_out : {error : AdmissionError} → a ≡ Err error → ran (Refused (refusal_of error).number (refusal_of error).place) h ≡ onward m f
+  pub keeps_out : {error : AdmissionError} → a ≡ Err error → ran (Refused (refusal_of error)) h ≡ onward m f
   keeps_out {error} t = admitted_by t (refused_onward f h go error)
 
 -- a refusal that alters nothing, as the code makes it
-pub refused_called : (state : State) (tally : Tally) (number : ℕ) (place : Place) (cache work warm results : List ℕ) {r : Called} {z : Ran
-    (Held words) Step} → r ≡ refused_as state tally number place
-    → ran (Refused number place) (held_of state tally cache work warm results) ≡ z → called r cache work warm results ≡ z
-refused_called state tally number place cache work warm results e q = ap (λ (x : Called). called x cache work warm results) e ∙ q
+pub refused_called : (state : State) (tally : Tally) (why : Refusal) (cache work warm results : List ℕ) {r : Called} {z : Ran
+    (Held words) Step} → r ≡ refused_as state tally why
+    → ran (Refused why) (held_of state tally cache work warm results) ≡ z → called r cache work warm results ≡ z
+refused_called state tally why cache work warm results e q = ap (λ (x : Called). called x cache work warm results) e ∙ q
 
 -- ---- a new objective; a is what `admit_objective` answered
 module _ (setup : Setup) (counts : List ℕ) (n : ℕ) (check : Check) (parameters : Parameters) (state : State) (tally : Tally) (cache work warm results : List ℕ) where
@@ -200,7 +200,7 @@ module _ (setup : Setup) (counts : List ℕ) (n : ℕ) (check : Check) (state : 
 
 -- an end, as the code makes it; w is the work words afterwards, and f the loop
 pub ended_called : (f : Held words → Ran (Held words) Step) (state : State) (tally : Tally) (number : ℕ) (place : Place) (cache work warm results : List ℕ) {r : Called} {w : List ℕ}
-    → r ≡ ended_as state tally number place → w ≡ zeros (length work)
+    → r ≡ ended_as state tally (refusal number place) → w ≡ zeros (length work)
     → called r cache w warm results ≡ onward (over words number place (held_of state tally cache work warm results)) f
 unfolding over onward
 ended_called f state tally number place cache work warm results e q = λ i. called (e i) cache (q i) warm results
@@ -228,13 +228,13 @@ module _ (fit : Fit) (counts : List ℕ) (eta : Pair) (e : Evaluation) (state : 
       (q
       ∙ ap (λ (y : KeptWith). run_in fit counts (held words state.parameters (whole_from fit counts (Some (record { eta = eta; sums = sums })) state.progress y.tally y.kept work warm results))) ek)
 
-  pub follows_refusal : {number : ℕ} {r : Called} {w : List ℕ} → x ≡ Err (E.Refused number) → (r ≡ ended_as state tally number (At.Subject state.progress.subject)) × (w ≡ zeros
+  pub follows_refusal : {number : ℕ} {r : Called} {w : List ℕ} → x ≡ Err (E.Refused number) → (r ≡ ended_as state tally (refusal number (At.Subject state.progress.subject))) × (w ≡ zeros
       (length work)) → Follows
       (called r cache w warm results)
   unfolding replied
   follows_refusal {number} t (er, ew) = follows_by t (ended_called _ state tally number _ cache work warm results er ew)
 
-  pub follows_refusal_at : {number n : ℕ} {r : Called} {w : List ℕ} → x ≡ Err (E.RefusedAt number n) → (r ≡ ended_as state tally number (At.Observation state.progress.subject n)) ×
+  pub follows_refusal_at : {number n : ℕ} {r : Called} {w : List ℕ} → x ≡ Err (E.RefusedAt number n) → (r ≡ ended_as state tally (refusal number (At.Observation state.progress.subject n))) ×
       (w ≡ zeros (length work)) → Follows (called r cache w warm results)
   unfolding replied
   follows_refusal_at {number} t (er, ew) = follows_by t (ended_called _ state tally number _ cache work warm results er ew)

@@ -23,7 +23,7 @@ use Rattle.setup.specs.declared.Lent.{Lent}
 use Rattle.setup.specs.declared.Parameters.{Parameters}
 use Rattle.setup.specs.declared.Setup.{Setup}
 use Rattle.search.proofs.Fits.{fit_additive}
-use Rattle.search.specs.Subjects.{fit_of, idle}
+use Rattle.search.specs.Subjects.{fit_of, idle, refusal}
 use Rattle.search.specs.declared.Fit.{Fit}
 use Rattle.search.specs.declared.Place.{Place}
 use Rattle.search.specs.declared.Place.TheVariants as At
@@ -99,7 +99,7 @@ awaited_within setup counts lent check state tally =
 -- ---- a refusal ends the objective alike, whether the work words are those before the evaluation or after it
 module _ (counts : List ℕ) (fit : Fit) (eta : Pair) (state : State) (tally : Tally) (cache work warm results : List ℕ) (w : List ℕ) (same : length w ≡ length work) where
   ends : ℕ → Place → ℕ → Moved (Held words) Step
-  ends number place n = halt (Refused number place) (held words state.parameters (whole_of words (idle state.progress) tally (cache_of cache state.order) (zeros n) warm results))
+  ends number place n = halt (Refused (refusal number place)) (held words state.parameters (whole_of words (idle state.progress) tally (cache_of cache state.order) (zeros n) warm results))
 
   replied_after : (x : Evaluation) → replied words counts fit eta (held_of state tally cache w warm results) w x ≡ replied words counts fit eta (held_of state tally cache work warm results)
       w x
@@ -171,8 +171,8 @@ module _ (setup : Setup) (counts : List ℕ) (observations : List Observation) (
     unfolding admitted_over when_admitted
     finishes check a (Ok tt) ea et q =
         answers a.eta (awaited_within setup counts lent check state tally (ap (λ (x : Awaited). x.admission) (sym ea) ∙ et)) q
-    finishes check a (Err (A.Refused number)) ea et q = ap (λ (x : Evaluating). halt (Refused number At.Nowhere) (held_of state tally cache x.work warm results)) q
-    finishes check a (Err (A.Unsound at)) ea et q = ap (λ (x : Evaluating). halt (Refused 4 (At.Observation at.subject at.observation)) (held_of state tally cache x.work warm results)) q
+    finishes check a (Err (A.Refused number)) ea et q = ap (λ (x : Evaluating). halt (Refused (refusal number At.Nowhere)) (held_of state tally cache x.work warm results)) q
+    finishes check a (Err (A.Unsound at)) ea et q = ap (λ (x : Evaluating). halt (Refused (refusal 4 (At.Observation at.subject at.observation))) (held_of state tally cache x.work warm results)) q
 
     same_awaited : (a : Awaited) (t : Admission) → (begins a t).awaited ≡ a
     unfolding admitted_over

@@ -18,8 +18,8 @@ ghost use Rattle.session.specs.Calls.{begun_with, opened_by, followed, finish_re
 use matrix::Pair;
 use mode_2d::population_focei_2d::CEILING;
 use population::kept_points::Evaluated;
-use search::{CachedRows, Calls, Fit, Place, Tally};
-use session::{Admitted, Begun, Called, Refusal, State};
+use search::{CachedRows, Calls, Fit, Place, Refusal, Tally};
+use session::{Admitted, Begun, Called, State};
 use setup::{AdmissionError, Parameters, Setup};
 use subject::{Check, Evaluation, EvaluationError};
 use work::MOST_SUBJECTS;
@@ -70,11 +70,11 @@ pub fn run(
 }
 
 // A refusal that ends the objective: no reply is awaited any more, and the work words are cleared.
-pub fn ended_as(state: State, tally: Tally, number: u32, place: Place, work: &mut [u64]) -> Called
-    ensures { (result ≡ ended_as state tally number place) × (work.new ≡ zeros (length work.old)) }
+pub fn ended_as(state: State, tally: Tally, refusal: Refusal, work: &mut [u64]) -> Called
+    ensures { (result ≡ ended_as state tally refusal) × (work.new ≡ zeros (length work.old)) }
 {
     words::clear(work);
-    let halted = search::refused(state.progress, tally, number, place);
+    let halted = search::refused(state.progress, tally, refusal);
     Called {
         state: State {
             progress: halted.progress,
@@ -106,10 +106,9 @@ fn refusal_of(error: AdmissionError) -> Refusal
 
 // What a call gives back that the checks refuse: state and tally as they were.
 fn kept_out(state: State, tally: Tally, error: AdmissionError) -> Called
-    ensures { result ≡ refused_as state tally (refusal_of error).number (refusal_of error).place }
+    ensures { result ≡ refused_as state tally (refusal_of error) }
 {
-    let refusal = refusal_of(error);
-    session::refused_as(state, tally, refusal.number, refusal.place)
+    session::refused_as(state, tally, refusal_of(error))
 }
 
 // ---- setup
@@ -209,13 +208,13 @@ pub fn fail(
     let lent = session::lent_by(observations, cache, work, warm, results);
     let awaited = session::checks::admit_awaited(setup, state, tally, check, lent, counts);
     match awaited.admission {
-        Ok(()) => ended_as(
-            state,
-            tally,
-            8,
-            Place::Subject(state.progress.subject),
-            work,
-        ),
+        Ok(()) => {
+            let failed = Refusal {
+                number: 8,
+                place: Place::Subject(state.progress.subject),
+            };
+            ended_as(state, tally, failed, work)
+        }
         Err(error) => kept_out(state, tally, error),
     }
 }
@@ -267,11 +266,12 @@ fn follow(
             )
         }
         Err(EvaluationError::Refused(number)) => {
-            ended_as(state, tally, number, Place::Subject(subject), work)
+            let place = Place::Subject(subject);
+            ended_as(state, tally, Refusal { number, place }, work)
         }
         Err(EvaluationError::RefusedAt(number, observation)) => {
             let place = Place::Observation(subject, observation);
-            ended_as(state, tally, number, place, work)
+            ended_as(state, tally, Refusal { number, place }, work)
         }
     }
 }

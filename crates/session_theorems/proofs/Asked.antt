@@ -85,7 +85,7 @@ module _ (setup : Setup) (counts : List ℕ) (observations : List Observation) w
   unfoldable pub Good : Held words → Step → Type 0
   Good t (Answers.Asked eta v) = Values t.parameters.theta eta setup.effects v
   Good t (Answers.Finished ofv) = Unit
-  Good t (Answers.Refused number place) = Unit
+  Good t (Answers.Refused why) = Unit
 
   -- the kept evaluations are c, and the answer is good
   unfoldable pub Leaves : Cache → Moved (Held words) Step → Type 0
@@ -118,14 +118,14 @@ module _ (setup : Setup) (counts : List ℕ) (observations : List Observation) w
     unfolding Good
     of_parameters (Answers.Asked eta u) v g = g
     of_parameters (Answers.Finished ofv) v g = tt
-    of_parameters (Answers.Refused number place) v g = tt
+    of_parameters (Answers.Refused why) v g = tt
 
     closes : (t : Turned) (work warm results : List ℕ) → Says t → Leaves w.kept (N.held_by words h.parameters (moved words w.tally w.kept work warm results t))
     unfolding Leaves N.held_by moved Says
     closes (Continue q) work warm results f = refl
     closes (Break x) work warm results f = (refl, of_parameters x.step _ f)
 
-    refuses : (tally : Tally) (number : ℕ) (place : Place) → Good h (B.refused_by p tally number place).step
+    refuses : (tally : Tally) (number : ℕ) (place : Place) → Good h (B.refused_by p tally (B.refusal number place)).step
     unfolding Good B.refused_by
     refuses tally number place = tt
 

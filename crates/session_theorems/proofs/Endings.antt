@@ -98,7 +98,7 @@ module _ (N : ℕ → Type 0) (Refuses : ℕ → Place → ℕ → Type 0) (setu
   unfoldable pub Says : Step → Bool → ℕ → Type 0
   Says (Answers.Asked eta individual) awaits calls = (awaits ≡ true) × (calls ≡ suc c) × (c < most)
   Says (Answers.Finished ofv) awaits calls = (awaits ≡ false) × (calls ≡ c)
-  Says (Answers.Refused n place) awaits calls = (awaits ≡ false) × Refuses n place calls
+  Says (Answers.Refused why) awaits calls = (awaits ≡ false) × Refuses why.number why.place calls
 
   pub record Answered (a : Step) (t : Held words) : Type 0 where
     pub says : Says a t.whole.progress.awaits t.whole.tally.calls.0
@@ -161,11 +161,11 @@ module _ (N : ℕ → Type 0) (Refuses : ℕ → Place → ℕ → Type 0) (setu
     closes (Break x) work warm results t l = record { says = t.0; zeroed = λ e. pick_yes _ _ _ e ∙ ap zeros l; rows = t.1 }
 
     -- a refusal that leaves the tally
-    refuses : (number : ℕ) (place : Place) → Refuses number place c → TurnsTo (Break (B.refused_by p w.tally number place))
+    refuses : (number : ℕ) (place : Place) → Refuses number place c → TurnsTo (Break (B.refused_by p w.tally (B.refusal number place)))
     unfolding TurnsTo Says B.refused_by B.idle B.with_search
     refuses number place r = ((refl, subst (Refuses number place) (sym g.calls) r), g.rows)
 
-    refused_ends : (number : ℕ) (place : Place) (warm results : List ℕ) → Refuses number place c → Ends (ended (Break (B.refused_by p w.tally number place)) w.work warm results)
+    refused_ends : (number : ℕ) (place : Place) (warm results : List ℕ) → Refuses number place c → Ends (ended (Break (B.refused_by p w.tally (B.refusal number place))) w.work warm results)
     refused_ends number place warm results r = record { turned = refuses number place r; work = g.work }
 
     -- ---- a point

@@ -170,7 +170,7 @@ module _ (setup : Setup) (counts : List ℕ) (h : Held words) where
   pub record Stays (a : Step) (t : Held words) : Type 0 where
     pub number : ℕ
     pub place : Place
-    pub answer : a ≡ Answers.Refused number place
+    pub answer : a ≡ Answers.Refused (B.refusal number place)
     pub same : t ≡ h
     pub unaltering : AltersNothing number
     pub carries : Carries number place

@@ -173,7 +173,7 @@ module _ (setup : Setup) (counts : List ℕ) (observations : List Observation) (
   closes (Break x) work warm results f = record { parameters = g.parameters; progress = f }
 
   -- ---- a point
-  refuses : (tally : Tally) (number : ℕ) (place : Place) → FitsProgress (B.refused_by p tally number place).progress
+  refuses : (tally : Tally) (number : ℕ) (place : Place) → FitsProgress (B.refused_by p tally (B.refusal number place)).progress
   unfolding B.refused_by
   refuses tally number place = idles p g.progress
 

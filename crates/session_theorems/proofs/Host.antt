@@ -67,7 +67,7 @@ use Rattle.session_theorems.proofs.Turns.{turns}
 use Rattle.session_theorems.proofs.Runs.{every_run}
 use Rattle.session_theorems.proofs.Unwritten.{every_unwritten}
 use Rattle.session_theorems.proofs.Written.{every_word}
-use Rattle.session.specs.declared.Refusal.{Refusal}
+use Rattle.search.specs.declared.Refusal.{Refusal}
 use Rattle.setup.specs.declared.AdmissionError.TheVariants as A
 
 -- two picks by one test
@@ -107,7 +107,7 @@ module _ (l : Lending) where
   unfolding Says number_of is_unaltered
   went_on h (Answers.Asked eta v) t g = pick_yes _ _ _ refl
   went_on h (Answers.Finished ofv) t g = pick_yes _ _ _ refl
-  went_on h (Answers.Refused n place) t g = unaltered_no n g.says.1.number
+  went_on h (Answers.Refused why) t g = unaltered_no why.number g.says.1.number
 
   same_state : (c : Call) (h : Held words) → is_unaltered (number_of (call (M l) c h).answer) ≡ true → (call (M l) c h).state ≡ h
   unfolding call

@@ -220,7 +220,7 @@ module _ (setup : Setup) (counts : List ℕ) (observations : List Observation) (
     enters_say (reply said) t = subst (Says Other19) (sym (awaited t _)) (answered_says said _)
     enters_say failure t = subst (Says Other19) (sym (awaited t _)) (over_says 8 (before_19 (omega arith)) _)
 
-    not_19 : (a : Step) → Other19 a → (place : Place) → a ≡ Answers.Refused 19 place → ⊥
+    not_19 : (a : Step) → Other19 a → (place : Place) → a ≡ Answers.Refused (B.refusal 19 place) → ⊥
     unfolding Other19
     not_19 a l place e = let b : Not19 19 = subst Other19 e l in b refl
 

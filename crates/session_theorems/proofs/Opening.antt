@@ -15,7 +15,7 @@ use Rattle.session.specs.Calls.{held_of, lent_by, Setting, opening, opened_by}
 use Rattle.session.specs.Session.{all_checked, opened}
 use Rattle.session.specs.declared.State.{State}
 use Rattle.session_theorems.specs.Setup.{EverySetup}
-use Rattle.session.specs.declared.Refusal.{Refusal}
+use Rattle.search.specs.declared.Refusal.{Refusal}
 use Rattle.setup.specs.declared.AdmissionError.TheVariants as A
 
 is_opened : Result State Refusal → Bool

@@ -114,7 +114,7 @@ first_exact {setup} {counts} {lent} a i l =
 unfoldable pub Other19 : Step → Type 0
 Other19 (Answers.Asked eta individual) = Unit
 Other19 (Answers.Finished ofv) = Unit
-Other19 (Answers.Refused n place) = Not19 n
+Other19 (Answers.Refused why) = Not19 why.number
 
 OtherIf : Answer Pair → Type 0
 OtherIf (given v) = Unit
@@ -210,7 +210,7 @@ module _ (setup : Setup) (counts : List ℕ) (observations : List Observation) (
     closes_says (Break x) work warm results f = f.other
 
     -- ---- a point
-    refuses : (tally : Tally) → tally.cached_rows ≡ w.tally.cached_rows → (number : ℕ) → Not19 number → (place : Place) → Halts (B.refused_by p tally number place)
+    refuses : (tally : Tally) → tally.cached_rows ≡ w.tally.cached_rows → (number : ℕ) → Not19 number → (place : Place) → Halts (B.refused_by p tally (B.refusal number place))
     unfolding B.refused_by Other19
     refuses tally same number l place = record { place = idles counts p g.place; same = same; other = l }
 
@@ -234,7 +234,7 @@ module _ (setup : Setup) (counts : List ℕ) (observations : List Observation) (
     at_point_lem eta = by_recall eta _ (λ r q. recalled_length _ _ rows w.work (block rows 3) _ r q)
 
     -- ---- a mode
-    refused_ends : (number : ℕ) → Not19 number → (place : Place) (warm : List ℕ) → AsLong w.warm warm → Ends (ended (Break (B.refused_by p w.tally number place)) w.work warm w.results)
+    refused_ends : (number : ℕ) → Not19 number → (place : Place) (warm : List ℕ) → AsLong w.warm warm → Ends (ended (Break (B.refused_by p w.tally (B.refusal number place))) w.work warm w.results)
     unfolding PlacedTurned
     refused_ends number l place warm a = record { turned = refuses w.tally refl number l place; work = refl; warm = a; results = refl }
 

@@ -175,7 +175,7 @@ module _ (setup : Setup) (counts : List ℕ) (observations : List Observation) (
 
   -- ---- from what the machine did
   module _ (s : State) (long : W.state_size ≤ length state) where
-    stayed : (n : ℕ) (place : Place) → AltersNothing n → did (ran (Answers.Refused n place) (h s)) state answer ≡ kept n place
+    stayed : (n : ℕ) (place : Place) → AltersNothing n → did (ran (Answers.Refused (B.refusal n place)) (h s)) state answer ≡ kept n place
     unfolding H.told H.number_of H.answer_of
     stayed n place u = ap (λ (l : List ℕ). out (record { number = n; tally = tally }) l (answered (place_words n place) answer) cache work warm results) (pick_yes _ _ _ (unaltered_yes n u))
 
@@ -205,10 +205,10 @@ module _ (setup : Setup) (counts : List ℕ) (observations : List Observation) (
           rise = let e = g.says.1 in omega (arith, e);
           rows = g.rows;
         })
-    went (Answers.Refused n place) t g =
+    went (Answers.Refused why) t g =
         let r = g.says.1 in
-        let q : pick (is_unaltered n) state (saved_state (state_of t) state) ≡ saved_state (state_of t) state = pick_no _ _ _ (unaltered_no n r.number) in
-        refuses (record { place = place; answer_is = refl; idle = λ x. idle_word (state_of t) state long g.says.0 (subst Awaits q x); work_is = g.zeroed refl; ending = r; rows = g.rows })
+        let q : pick (is_unaltered why.number) state (saved_state (state_of t) state) ≡ saved_state (state_of t) state = pick_no _ _ _ (unaltered_no why.number r.number) in
+        refuses (record { place = why.place; answer_is = refl; idle = λ x. idle_word (state_of t) state long g.says.0 (subst Awaits q x); work_is = g.zeroed refl; ending = r; rows = g.rows })
 
     way : (z : Ran (Held words) Step) → Done setup counts (h s) z.answer z.state → Way (did z state answer)
     way z (inl k) = stays k.number k.place k.unaltering k.carries ((λ i. did (ran (k.answer i) (k.same i)) state answer) ∙ stayed k.number k.place k.unaltering)

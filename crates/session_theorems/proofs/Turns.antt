@@ -167,7 +167,7 @@ module _ (S : Store) (setup : Setup) (counts : List ℕ) (observations : List Ob
     }
 
     refused_over : (tally : Tally) (number : ℕ) (place : Place) (work warm results : List ℕ) → w.tally.calls.0 ≤ tally.calls.0 → tally.calls.0 ≤ setup.max_evaluations → AsLong w.work work
-        → let x = B.refused_by p tally number place in Over I.rules I.claims M Y Stands tally.calls.0 (held S h.parameters
+        → let x = B.refused_by p tally (B.refusal number place) in Over I.rules I.claims M Y Stands tally.calls.0 (held S h.parameters
         (whole_of S x.progress x.tally w.kept (pick (B.is_over x.step) (zeros (length work)) work) warm results))
     unfolding B.refused_by B.idle B.with_search B.is_over pick
     refused_over tally number place work warm results more most long = over (B.idle p) tally work warm results refl refl refl idle_pointed more most long
@@ -175,7 +175,7 @@ module _ (S : Store) (setup : Setup) (counts : List ℕ) (observations : List Ob
         idle_pointed : Q.Pointed (B.idle p)
         idle_pointed = Q.pointed_idle p s.pointed
 
-    refused_means : (tally : Tally) (number : ℕ) (place : Place) → Y.means (B.refused_by p tally number place).step ≡ Observed.refused number
+    refused_means : (tally : Tally) (number : ℕ) (place : Place) → Y.means (B.refused_by p tally (B.refusal number place)).step ≡ Observed.refused number
     unfolding B.refused_by
     refused_means tally number place = refl
 
@@ -183,9 +183,9 @@ module _ (S : Store) (setup : Setup) (counts : List ℕ) (observations : List Ob
     refuses_with : (tally : Tally) (number : ℕ) (place : Place) (work warm results : List ℕ) (n : ℕ) → tally.calls.0 ≡ n
         → ((a : Step) (t : Held S) → Y.means a ≡ Observed.refused number → Over I.rules I.claims M Y Stands n t → Goes h (halt a t))
         → w.tally.calls.0 ≤ tally.calls.0 → tally.calls.0 ≤ setup.max_evaluations → AsLong w.work work → Goes h
-        (close_turn (ended (Break (B.refused_by p tally number place)) work warm results))
+        (close_turn (ended (Break (B.refused_by p tally (B.refusal number place))) work warm results))
     refuses_with tally number place work warm results n e law more most long =
-        let x = B.refused_by p tally number place in
+        let x = B.refused_by p tally (B.refusal number place) in
         let t = held S h.parameters (whole_of S x.progress x.tally w.kept (pick (B.is_over x.step) (zeros (length work)) work) warm results) in
         subst (Goes h) (sym (halts x work warm results))
         (law x.step t (refused_means tally number place) (subst (λ (m : ℕ). Over I.rules I.claims M Y Stands m t) e (refused_over tally number place work warm results more most long)))

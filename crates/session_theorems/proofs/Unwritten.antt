@@ -39,7 +39,7 @@ use Rattle.session.specs.Session as N
 use Rattle.session.specs.Session.{Held, held, Call, objective, reply, failure}
 use Rattle.session_theorems.specs.Inner.{Inner, inner1, inner2}
 use Rattle.session_theorems.specs.Shown.{before}
-use Rattle.session_theorems.specs.Unwritten.{Stays, StaysAt, StaysBeyond, Unwritten, EveryUnwritten}
+use Rattle.session_theorems.specs.Unwritten.{Stays, StaysAt, StaysBeyond, StaysBy, Unwritten, EveryUnwritten}
 use Rattle.session_theorems.proofs.Accepted.{Accepts, rows_within, accepts}
 use Rattle.session_theorems.proofs.Always.{After}
 use Rattle.session_theorems.proofs.LetIn.{both_hold}
@@ -104,13 +104,17 @@ module _ (setup : Setup) (counts : List ℕ) where
   refused_at : (number i : ℕ) (h t : Held words) → Stays setup counts i i h t → StaysAt setup counts number i h t
   refused_at number i h t s = both (λ (k : ℕ). Stays setup counts i k h t) (eqb number 17) (later i i i (suc i) h t (omega arith) (omega arith) s) s
 
+  -- a place is of the subject of the state h
+  About : Held words → Place → Type 0
+  About h At.Nowhere = ⊥
+  About h (At.Subject i) = i ≡ h.whole.progress.subject
+  About h (At.Observation i n) = i ≡ h.whole.progress.subject
+
   -- an answer is of the subject of the state h
   Answers_at : Held words → Step → Held words → Type 0
   Answers_at h (Answers.Asked eta v) t = t.whole.progress.subject ≡ h.whole.progress.subject
   Answers_at h (Answers.Finished ofv) t = ⊥
-  Answers_at h (Answers.Refused number At.Nowhere) t = ⊥
-  Answers_at h (Answers.Refused number (At.Subject i)) t = i ≡ h.whole.progress.subject
-  Answers_at h (Answers.Refused number (At.Observation i n)) t = i ≡ h.whole.progress.subject
+  Answers_at h (Answers.Refused why) t = About h why.place
 
   -- ---- where a call stands: the words of its subject and the later ones are as the call found them
   module _ (ref : Held words) where
@@ -125,12 +129,16 @@ module _ (setup : Setup) (counts : List ℕ) where
     unfolding Answers_at
     follows h t x e f q = unwritten x q
       where
+        by_place : (number : ℕ) (place : Place) → About h place → StaysBy setup counts number place ref t
+        unfolding About
+        by_place number At.Nowhere q = absurd q
+        by_place number (At.Subject i) q = refused_at number i ref t (subst (λ (i : ℕ). Stays setup counts i i ref t) (sym q) (stays _ _ ref h t e f))
+        by_place number (At.Observation i n) q = refused_at number i ref t (subst (λ (i : ℕ). Stays setup counts i i ref t) (sym q) (stays _ _ ref h t e f))
+
         unwritten : (x : Step) → Answers_at h x t → Unwritten setup counts ref x t
         unwritten (Answers.Asked eta v) q = subst (λ (i : ℕ). Stays setup counts i i ref t) (sym q) (stays _ _ ref h t e f)
         unwritten (Answers.Finished ofv) q = absurd q
-        unwritten (Answers.Refused number At.Nowhere) q = absurd q
-        unwritten (Answers.Refused number (At.Subject i)) q = refused_at number i ref t (subst (λ (i : ℕ). Stays setup counts i i ref t) (sym q) (stays _ _ ref h t e f))
-        unwritten (Answers.Refused number (At.Observation i n)) q = refused_at number i ref t (subst (λ (i : ℕ). Stays setup counts i i ref t) (sym q) (stays _ _ ref h t e f))
+        unwritten (Answers.Refused why) q = by_place why.number why.place q
 
     -- ---- a turn
     module _ (observations : List Observation) (lent : Lent) (a : Accepts setup counts lent) (h : Held words) (g : Going setup counts observations lent a h) (f : Rest h) where
@@ -162,9 +170,9 @@ module _ (setup : Setup) (counts : List ℕ) where
       closes (Continue q) work warm results e = e work
       closes (Break x) work warm results e = e work
 
-      refuses : (tally : Tally) (number : ℕ) → Ends (Break (B.refused_by p tally number (At.Subject j))) w.warm w.results
+      refuses : (tally : Tally) (number : ℕ) → Ends (Break (B.refused_by p tally (B.refusal number (At.Subject j)))) w.warm w.results
       unfolding Ends B.refused_by Answers_at
-      refuses tally number work = follows h _ (Answers.Refused number (At.Subject j)) (record { warm = refl; results = refl }) f refl
+      refuses tally number work = follows h _ (Answers.Refused (B.refusal number (At.Subject j))) (record { warm = refl; results = refl }) f refl
 
       asks : (tally : Tally) (eta : Pair) (v : Answer Pair) → Ends (Break (B.ask_for p tally eta v)) w.warm w.results
       unfolding Ends B.ask_for Answers_at B.awaiting B.with_search
@@ -236,7 +244,7 @@ module _ (setup : Setup) (counts : List ℕ) where
         unfolding next_subject
         next = both (λ (x : Worked Turned). Ends x.value stored written) _ (next_begins _ _ _ _ _ _ next_subject_lem) (ends _ _)
 
-        at_17 : Ends (Break (B.refused_by p w.tally 17 (At.Subject j))) stored w.results
+        at_17 : Ends (Break (B.refused_by p w.tally (B.refusal 17 (At.Subject j)))) stored w.results
         unfolding Ends B.refused_by pick
         at_17 work = refused_stays _ work
 
@@ -280,14 +288,17 @@ module _ (setup : Setup) (counts : List ℕ) where
     Enters (on t) = Same h t
     Enters (halt x t) = Same h t
 
+    by_place : (number : ℕ) (place : Place) (t : Held words) → Same h t → StaysBy setup counts number place h t
+    by_place number At.Nowhere t e = stays _ _ h h t e (all_stay _ _ h)
+    by_place number (At.Subject i) t e = stays _ _ h h t e (all_stay _ _ h)
+    by_place number (At.Observation i n) t e = stays _ _ h h t e (all_stay _ _ h)
+
     all_follow : (m : Moved (Held words) Step) → Enters m → Follows h m
     unfolding Enters Follows
     all_follow (on t) e = stays _ _ h h t e (all_stay _ _ h)
     all_follow (halt (Answers.Asked eta v) t) e = stays _ _ h h t e (all_stay _ _ h)
     all_follow (halt (Answers.Finished ofv) t) e = stays _ _ h h t e (all_stay _ _ h)
-    all_follow (halt (Answers.Refused number At.Nowhere) t) e = stays _ _ h h t e (all_stay _ _ h)
-    all_follow (halt (Answers.Refused number (At.Subject i)) t) e = stays _ _ h h t e (all_stay _ _ h)
-    all_follow (halt (Answers.Refused number (At.Observation i n)) t) e = stays _ _ h h t e (all_stay _ _ h)
+    all_follow (halt (Answers.Refused why) t) e = by_place why.number why.place t e
 
     unaltered : (number : ℕ) (place : Place) → Enters (N.unaltered words number place h)
     unfolding Enters

@@ -396,10 +396,10 @@ module _ (setup : Setup) (counts : List ℕ) (observations : List Observation) (
 
     -- ---- a mode
     refuses : (n : ℕ) (place : Place) (work warm results : List ℕ)
-        → (let q = B.refused_by p w.tally n place in (k : ℕ) → k ≡ n → (x : Searched I.rules) → At_search x h
+        → (let q = B.refused_by p w.tally (B.refusal n place) in (k : ℕ) → k ≡ n → (x : Searched I.rules) → At_search x h
         → shows.Remains k x (I.rules.best (I.search_of p)) (shows.with_mode x (I.rules.best (I.search_of p)) (value_of p)) (held words h.parameters
         (whole_of words q.progress q.tally w.kept (pick (B.is_over q.step) (zeros (length work)) work) warm results)))
-        → Ends h (close_turn (ended (Break (B.refused_by p w.tally n place)) work warm results))
+        → Ends h (close_turn (ended (Break (B.refused_by p w.tally (B.refusal n place))) work warm results))
     unfolding Closes N.held_by moved is_over B.refused_by
     refuses n place work warm results f = (λ e. absurd (let z : ◌≡◌ {A = ℕ} 0 1 = cc in omega arith), λ k e x i. f k (let q : k ≡ n = cc in q) x i)
 
@@ -519,7 +519,7 @@ module _ (setup : Setup) (counts : List ℕ) (observations : List Observation) (
     )
     asked_carries eta (refused n) t = absurd (subst T (sym t) tt)
 
-    short_carries : (eta : Pair) → Got h (Y.kept h (I.point_of eta)) (close_turn (ended (Break (B.refused_by p w.tally 6 (At.Subject p.subject))) w.work w.warm w.results))
+    short_carries : (eta : Pair) → Got h (Y.kept h (I.point_of eta)) (close_turn (ended (Break (B.refused_by p w.tally (B.refusal 6 (At.Subject p.subject)))) w.work w.warm w.results))
     unfolding Carried N.held_by moved is_over pick B.refused_by B.is_over B.idle B.with_search
     short_carries eta t = absurd (subst T (sym t) tt)
 

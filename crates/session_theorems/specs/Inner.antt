@@ -181,7 +181,7 @@ module _ (S : Store) (setup : Setup) (counts : List ℕ) (observations : List Ob
   abbrev pub means : Step → Meaning I.rules.Point
   means (Answer.Asked eta individual) = asked (I.point_of eta)
   means (Answer.Finished ofv) = finished
-  means (Answer.Refused number place) = refused number
+  means (Answer.Refused why) = refused why.number
 
   -- the sums of a reply
   abbrev pub sums_of_call : Call → Held S → Sums

@@ -7,7 +7,7 @@ use Rattle.setup.specs.Admission.{is_no_omega, is_no_shape, with_parameters, Adm
 use Rattle.setup.specs.declared.Setup.{Setup}
 use Rattle.setup.specs.declared.Parameters.{Parameters}
 use Rattle.setup.specs.declared.Lent.{Lent}
-use Rattle.search.specs.Subjects.{fit_of, wanted_by}
+use Rattle.search.specs.Subjects.{fit_of, wanted_by, refusal}
 use Rattle.search.specs.declared.Place.{Place}
 use Rattle.search.specs.declared.Place.TheVariants.{Subject}
 use Rattle.search.specs.declared.Step.TheVariants.{Refused}
@@ -52,7 +52,7 @@ module _ (setup : Setup) (counts : List ℕ) (observations : List Observation) w
         ≡ when_admitted words h (on (begun words setup counts parameters h.whole)) (admission parameters h)
     -- and no answer to any of these is 19
     pub never19 : (c : Call) → Ruled c h → (place : Place)
-        → (call (session words setup counts observations) c h).answer ≡ Refused 19 place → ⊥
+        → (call (session words setup counts observations) c h).answer ≡ Refused (refusal 19 place) → ⊥
 
 -- after any list of calls, in the session that an accepted setup opened
 abbrev pub EveryCall : Type 0

@@ -289,7 +289,7 @@ module _ (setup : Setup) (counts : List ℕ) (observations : List Observation) (
   abbrev pub GivenBy : Step → Held words → Summed → Type 0
   GivenBy (Answer.Asked eta individual) h v = ⊥
   GivenBy (Answer.Finished ofv) h v = (ofv ≡ v.objective) × L.Shrinks (state_of h) (length counts) v.squares
-  GivenBy (Answer.Refused number place) h v = ⊥
+  GivenBy (Answer.Refused why) h v = ⊥
 
   -- 16 is of the curvature, and leaves no mode; 17 is of the rows, and leaves the warm start; 18 is of the objective, and leaves all of it
   abbrev pub showing : Words I.rules (session words setup counts observations) (view words setup counts observations I)

@@ -4,6 +4,7 @@ use Rattle.float64.specs.Pick.{pick}
 use Rattle.likelihood.specs.declared.population_focei.Observation.{Observation}
 use Rattle.setup.specs.declared.Setup.{Setup}
 use Rattle.setup.specs.declared.Lent.{Lent}
+use Rattle.search.specs.declared.Place.{Place}
 use Rattle.search.specs.declared.Place.TheVariants.{Nowhere, Subject, Observation as AtObservation}
 use Rattle.search.specs.declared.Step.{Step}
 use Rattle.search.specs.declared.Step.TheVariants.{Asked, Finished, Refused}
@@ -31,13 +32,17 @@ module _ (setup : Setup) (counts : List ℕ) where
   abbrev pub StaysBeyond : Held words → Held words → Type 0
   StaysBeyond h t = Stays (length counts) (length counts) h t
 
+  -- what a refusal about this place leaves
+  abbrev pub StaysBy : ℕ → Place → Held words → Held words → Type 0
+  StaysBy number Nowhere h t = StaysBeyond h t
+  StaysBy number (Subject i) h t = StaysAt number i h t
+  StaysBy number (AtObservation i n) h t = StaysAt number i h t
+
   -- from the state h to t, with this answer
   abbrev pub Unwritten : Held words → Step → Held words → Type 0
   Unwritten h (Asked eta individual) t = let i = t.whole.progress.subject in Stays i i h t
   Unwritten h (Finished ofv) t = StaysBeyond h t
-  Unwritten h (Refused number Nowhere) t = StaysBeyond h t
-  Unwritten h (Refused number (Subject i)) t = StaysAt number i h t
-  Unwritten h (Refused number (AtObservation i n)) t = StaysAt number i h t
+  Unwritten h (Refused why) t = StaysBy why.number why.place h t
 
 -- one call more, after any list of calls, in the session that an accepted setup opened
 abbrev pub EveryUnwritten : Type 0

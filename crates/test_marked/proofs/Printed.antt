@@ -16,7 +16,7 @@ use Rattle.test_marked.specs.Examples as X
 use Rattle.test_marked.specs.Marked.{four}
 use Rattle.test_marked.proofs.Computed.{everything}
 use Rattle.session.specs.declared.State.{State}
-use Rattle.session.specs.declared.Refusal.{Refusal}
+use Rattle.search.specs.declared.Refusal.{Refusal}
 
 -- ---- each run by itself: together they take more memory
 

@@ -19,7 +19,7 @@ use Rattle.focei_records.specs.Records.{cohort, counts, observations, reply}
 use Rattle.focei_text.specs.Report.{refusal_line}
 use Rattle.focei_fit.specs.Output.{most_evaluations, settings, first_parameters, when_asked, end_of}
 use Rattle.session.specs.declared.State.{State}
-use Rattle.session.specs.declared.Refusal.{Refusal}
+use Rattle.search.specs.declared.Refusal.{Refusal}
 
 -- ---- bytes
 

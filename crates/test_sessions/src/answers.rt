@@ -2,7 +2,7 @@
 ghost use Rattle.std.specs.Prelude.{◌+◌, ◌≤◌};
 
 use matrix::Pair;
-use search::{Place, Step, Tally};
+use search::{Place, Refusal, Step, Tally};
 use std::io;
 use std::io::Write;
 
@@ -37,9 +37,9 @@ fn asked(eta: Pair, individual: Pair) -> Answer {
 
 // The answer of a refusal: its number, and its place: none (0), a subject (1), or a subject and one of its
 // observations (2).
-pub fn refused(number: u32, place: Place) -> Answer {
-    let a = number as u64;
-    match place {
+pub fn refused(refusal: Refusal) -> Answer {
+    let a = refusal.number as u64;
+    match refusal.place {
         Place::Nowhere => Answer {
             kind: 2,
             a,
@@ -72,7 +72,7 @@ pub fn told(step: Step, shrinkage: u64) -> Answer {
             b: shrinkage,
             ..Answer::default()
         },
-        Step::Refused(number, place) => refused(number, place),
+        Step::Refused(refusal) => refused(refusal),
     }
 }
 

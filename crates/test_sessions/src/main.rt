@@ -25,7 +25,7 @@ ghost use Rattle.std.specs.Prelude.{◌≤◌};
 use answers::Answer;
 use program_calls::OBSERVATION_WORDS;
 use search::{CachedRows, Calls, Tally};
-use session::{Begun, Called, Refusal, State};
+use session::{Begun, Called, State};
 use setup::{Parameters, Setup};
 use std::io;
 use std::io::{Read, Write};
@@ -144,8 +144,8 @@ fn began(begun: Begun, state: State) -> Given {
             state: first,
             tally: begun.tally,
         },
-        Err(Refusal { number, place }) => Given {
-            answer: answers::refused(number, place),
+        Err(refusal) => Given {
+            answer: answers::refused(refusal),
             state,
             tally: begun.tally,
         },

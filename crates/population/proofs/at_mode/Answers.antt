@@ -15,7 +15,7 @@ returns c =
 pub returns-then-not-is_same_grid : goal.returns-then-not-is_same_grid
 returns-then-not-is_same_grid c =
     other_grid _ _ _ _ _ _ _ c.rows_of-rows.ensures c.closed_by.ensures c.in-Some.is c.store_warm.ensures
-    c.is_same_grid.ensures c.if-not-is_same_grid.true c.refused-then-not-is_same_grid.ensures
+    c.is_same_grid.ensures c.if-not-is_same_grid.true c.refused_here-then-not-is_same_grid.ensures
 
 pub returns-in_default : goal.returns-in_default
-returns-in_default c = not_positive _ _ _ _ _ _ _ c.rows_of-rows.ensures c.closed_by.ensures c.in_default.is c.refused.ensures
+returns-in_default c = not_positive _ _ _ _ _ _ _ c.rows_of-rows.ensures c.closed_by.ensures c.in_default.is c.refused_here.ensures

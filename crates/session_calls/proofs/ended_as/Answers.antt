@@ -4,7 +4,7 @@ use Rattle.session_calls.proofs.ended_as.Goals as goal
 
 pub returns : goal.returns
 returns c = (
-  ended_made c.args.state c.args.tally c.args.number c.args.place
+  ended_made c.args.state c.args.tally c.args.refusal
       c.refused-halted.ensures,
   c.clear.ensures,
 )

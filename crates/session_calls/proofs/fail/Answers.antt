@@ -20,7 +20,7 @@ returns-in-Ok c =
 pub returns-in-Err : goal.returns-in-Err
 returns-in-Err c =
     let h = held_of c.args.state c.args.tally c.args.cache.now c.args.work.now c.args.warm.now c.args.results.now in
-    refused_called c.args.state c.args.tally _ _ c.args.cache.now c.args.work.now c.args.warm.now c.args.results.now c.kept_out.ensures
+    refused_called c.args.state c.args.tally _ c.args.cache.now c.args.work.now c.args.warm.now c.args.results.now c.kept_out.ensures
     (keeps_out (λ x. run c.args.setup c.args.counts.now x) h (over words 8 (Subject c.args.state.progress.subject) h)
     (failure_enters c.args.setup c.args.counts.now c.args.observations c.args.check c.args.state c.args.tally c.args.cache.now c.args.work.now
     c.args.warm.now c.args.results.now

@@ -12,5 +12,5 @@ returns-in-Ok c =
 pub returns-in-Err : goal.returns-in-Err
 returns-in-Err c =
     let h = held_of c.args.state c.args.tally c.args.cache.now c.args.work.now c.args.warm.now c.args.results.now in
-    refused_called c.args.state c.args.tally _ _ c.args.cache.now c.args.work.now c.args.warm.now c.args.results.now c.kept_out.ensures
+    refused_called c.args.state c.args.tally _ c.args.cache.now c.args.work.now c.args.warm.now c.args.results.now c.kept_out.ensures
     (keeps_out _ h _ refl c.in-Err.is ∙ finish_enters c.args.counts.now c.args.admitted.awaited c.args.evaluation h)
