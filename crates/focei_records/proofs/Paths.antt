@@ -99,7 +99,7 @@ module _ (n i : ℕ) (input : List ℕ) (t : Page ℕ) where
   unfolding observations_from
   observations_step h q =
       ap (with_items (observations_from (n - (i + 1)) input (i + 1))) q
-      ∙ sym (with_append t (observation_at input i) (observations_from (n - (i + 1)) input (i + 1)))
+      ∙ sym (with_append (observation_at input i) (observations_from (n - (i + 1)) input (i + 1)) t)
       ∙ ap (λ (m : ℕ). with_items (observations_from m input i) t) (one_more n i h)
 
 -- ---- the rows of a reply, of which so many are left at record i
@@ -113,6 +113,6 @@ pub reply_step : {t' : Page ℕ} (rest left i : ℕ) (input : List ℕ) (individ
 unfolding replied_from
 reply_step rest left i input individual t more j q =
     ap (with_items (replied_from rest input individual (i + 1))) q
-    ∙ sym (with_append t (row_at input individual i) (replied_from rest input individual (i + 1)))
+    ∙ sym (with_append (row_at input individual i) (replied_from rest input individual (i + 1)) t)
     ∙ ap (λ (l : List ℕ). with_items l t) (yes _ (lt-ltb _ _ j) refl)
     ∙ ap (λ (m : ℕ). with_items (replied_from m input individual i) t) more

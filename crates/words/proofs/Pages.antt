@@ -6,15 +6,15 @@ use Rattle.words.specs.Page.{with_items}
 use Rattle.words.specs.declared.Page.{Page}
 use Rattle.words.proofs.Front.{write_append}
 
-module _ {A : Type 0} (p : Page A) where
-  pub with_none : with_items [] p ≡ p
+module _ {A : Type 0} where
+  pub with_none : (p : Page A) → with_items [] p ≡ p
   unfolding with_items write
-  with_none = refl
+  with_none p = refl
 
-  pub with_first : (x : A) (xs : List A) → with_items (x ∷ xs) p ≡ with_items xs (with_items (x ∷ []) p)
+  pub with_first : (x : A) (xs : List A) (p : Page A) → with_items (x ∷ xs) p ≡ with_items xs (with_items (x ∷ []) p)
   unfolding with_items write
-  with_first x xs = refl
+  with_first x xs p = refl
 
-  pub with_append : (a b : List A) → with_items (a ++ b) p ≡ with_items b (with_items a p)
+  pub with_append : (a b : List A) (p : Page A) → with_items (a ++ b) p ≡ with_items b (with_items a p)
   unfolding with_items
-  with_append a b = ap (λ (t : Written A). record { out = record p.out { now = t.lent }; at = t.end }) (write_append a b (written p.at p.out.now))
+  with_append a b p = ap (λ (t : Written A). record { out = record p.out { now = t.lent }; at = t.end }) (write_append a b (written p.at p.out.now))
