@@ -15,5 +15,5 @@ no_room records text h = sym (yes _ (lt-ltb _ _ h) refl)
 pub with_room : (records text : List ℕ) → longest_text ≤ length text → fit_over records text ≡ write (output records) (written 0 text)
 unfolding fit_over
 with_room records text h =
-    let w : Written = write (output records) (written 0 text) in
+    let w : Written ℕ = write (output records) (written 0 text) in
     sym (no _ (le-ltb _ _ h) (whole {r = w.end} {out' = w.lent} records text h refl))

@@ -6,5 +6,5 @@ use Rattle.words.specs.Written.{Written, written}
 use Rattle.focei_fit.specs.Output.{printed}
 use Rattle.focei_fit.specs.Claim.{longest_text}
 
-unfoldable pub fit_over : List ℕ → List ℕ → Written
+unfoldable pub fit_over : List ℕ → List ℕ → Written ℕ
 fit_over records text = pick (ltb (length text) longest_text) (written 0 text) (printed records text)

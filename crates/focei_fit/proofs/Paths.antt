@@ -22,7 +22,9 @@ use Rattle.program_calls.specs.Recorded.{call_of, open_of}
 use Rattle.focei_records.specs.Records.{counts as countsIn, observations as observationsIn, reply}
 use Rattle.focei_records.proofs.Bounds.{counts_length, observations_length, reply_length}
 use Rattle.focei_text.specs.Report.{refusal_line}
-use Rattle.words.specs.Written.{Written, written, write}
+use Rattle.words.specs.Written.{written, write}
+use Rattle.words.specs.Page.{with_items}
+use Rattle.words.specs.declared.Page.{Page}
 use Rattle.words.proofs.Front.{front}
 use Rattle.focei_fit.specs.Output.{most_evaluations, settings, begun, replied, when_asked, play, ended, end_of, when_opened, fitted, lent}
 use Rattle.search.specs.declared.Refusal.{Refusal}
@@ -69,7 +71,7 @@ module _ (input counts observations : List ℕ) (r : Ran (Held words) Step) wher
   play_over (suc left) f = stays _ r.answer f
 
 -- ---- from setup to the text; b is what setup gave back
-module _ (input counts observations cache work warm results : List ℕ) (t : Written) {setup : Setup} {b : Begun} {cache₁ work₁ warm₁ : List ℕ}
+module _ (input counts observations cache work warm results : List ℕ) (t : Page ℕ) {setup : Setup} {b : Begun} {cache₁ work₁ warm₁ : List ℕ}
     (e : setup ≡ settings) (q : begun_with b cache₁ work₁ warm₁ ≡ open_of setup counts observations no_tally cache work warm results) where
   setting : begun_with b cache₁ work₁ warm₁ ≡ open_of settings counts observations no_tally cache work warm results
   setting = q ∙ ap (λ (s : Setup). open_of s counts observations no_tally cache work warm results) e
@@ -80,16 +82,16 @@ module _ (input counts observations cache work warm results : List ℕ) (t : Wri
       ap (when_opened input counts observations results (begun_with b cache₁ work₁ warm₁)) (sym f)
       ∙ ap (λ (s : Setting). when_opened input counts observations results s s.begun.opening) setting
 
-  pub not_opened : {e : Refusal} {t' : Written} → b.opening ≡ Err e → t' ≡ write (refusal_line e.number e.place) t → t' ≡ write
+  pub not_opened : {e : Refusal} {t' : Page ℕ} → b.opening ≡ Err e → t' ≡ with_items (refusal_line e.number e.place) t → t' ≡ with_items
       (fitted input counts observations cache work warm results) t
   unfolding when_opened
-  not_opened f g = g ∙ ap (λ (l : List ℕ). write l t) (opened_as _ f)
+  not_opened f g = g ∙ ap (λ (l : List ℕ). with_items l t) (opened_as _ f)
 
-  pub is_opened_lem : {state : State} {last : Called} {cache₂ work₂ warm₂ results₂ : List ℕ} {t' : Written} → b.opening ≡ Ok state
+  pub is_opened_lem : {state : State} {last : Called} {cache₂ work₂ warm₂ results₂ : List ℕ} {t' : Page ℕ} → b.opening ≡ Ok state
       → called last cache₂ work₂ warm₂ results₂ ≡ play input counts observations most_evaluations (begun counts observations (held_of state b.tally cache₁ work₁ warm₁ results))
-      → t' ≡ write (ended counts last.state last.tally results₂ last.step) t → t' ≡ write (fitted input counts observations cache work warm results) t
+      → t' ≡ with_items (ended counts last.state last.tally results₂ last.step) t → t' ≡ with_items (fitted input counts observations cache work warm results) t
   unfolding when_opened end_of
-  is_opened_lem f p g = g ∙ ap (λ (r : Ran (Held words) Step). write (end_of counts r) t) p ∙ ap (λ (l : List ℕ). write l t) (opened_as _ f)
+  is_opened_lem f p g = g ∙ ap (λ (r : Ran (Held words) Step). with_items (end_of counts r) t) p ∙ ap (λ (l : List ℕ). with_items l t) (opened_as _ f)
 
 -- ---- with words of its own
 pub whole_counts : {r : ℕ} {w' : List ℕ} (input w : List ℕ) (n : ℕ) → n ≤ 256 → length w ≡ 256 → written r w' ≡ write (countsIn input n) (written 0 w) → take r w' ≡ countsIn input n
@@ -102,7 +104,7 @@ pub whole_observations : {r : ℕ} {w' : List ℕ} (input w : List ℕ) → leng
     input
 whole_observations input w h j e = let as_many = observations_length input in front (observationsIn input) w (omega arith) e
 
-pub lends : {cs os : List ℕ} {t' : Written} (input : List ℕ) (n : ℕ) (t : Written) → cs ≡ countsIn input n → os ≡ observationsIn input
-    → t' ≡ write (fitted input cs os (replicate 1536 0) (replicate 3072 0) (replicate 256 0) (replicate 1280 0)) t → t' ≡ write (lent input n) t
+pub lends : {cs os : List ℕ} {t' : Page ℕ} (input : List ℕ) (n : ℕ) (t : Page ℕ) → cs ≡ countsIn input n → os ≡ observationsIn input
+    → t' ≡ with_items (fitted input cs os (replicate 1536 0) (replicate 3072 0) (replicate 256 0) (replicate 1280 0)) t → t' ≡ with_items (lent input n) t
 unfolding lent
-lends input n t e f q = q ∙ (λ i. write (fitted input (e i) (f i) (replicate 1536 0) (replicate 3072 0) (replicate 256 0) (replicate 1280 0)) t)
+lends input n t e f q = q ∙ (λ i. with_items (fitted input (e i) (f i) (replicate 1536 0) (replicate 3072 0) (replicate 256 0) (replicate 1280 0)) t)

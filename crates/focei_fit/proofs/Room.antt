@@ -111,4 +111,4 @@ pub printed_within : {r : ℕ} {out' : List ℕ} (input out : List ℕ) → writ
 unfolding printed
 printed_within input out e =
     let text = output input in
-    subst (λ (t : Written). t.end ≤ length t.lent) (sym e) (omega (arith, length-append text (drop (length text) out)))
+    subst (λ (t : Written ℕ). t.end ≤ length t.lent) (sym e) (omega (arith, length-append text (drop (length text) out)))

@@ -112,5 +112,5 @@ abbrev pub input_bytes : ℕ
 input_bytes = most_records * record_bytes + 1
 
 -- the text whole at the front of what is lent for it, the rest as it was; and its length
-unfoldable pub printed : List ℕ → List ℕ → Written
+unfoldable pub printed : List ℕ → List ℕ → Written ℕ
 printed input out = let text = output input in written (length text) (text ++ drop (length text) out)

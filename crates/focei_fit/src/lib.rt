@@ -5,6 +5,7 @@
 ghost use Rattle.std.specs.Prelude.{◌≡◌, ◌≤◌, length, take};
 ghost use Rattle.session.specs.Calls.{called, held_of};
 ghost use Rattle.words.specs.Written.{written, write};
+ghost use Rattle.words.specs.Page.{with_items};
 ghost use Rattle.focei_fit.specs.Output.{most_evaluations, settings, first_parameters, replied, play, begun, ended, fitted, lent};
 ghost use Rattle.focei_fit.specs.Output.{output, input_bytes, printed};
 
@@ -12,6 +13,7 @@ use matrix::Pair;
 use search::{CachedRows, Calls, Place, Step, Tally};
 use session::{Called, State};
 use setup::{Parameters, Setup};
+use words::Page;
 
 // The evaluations of a session, and the most questions that are answered: each question raises them.
 pub const MOST_EVALUATIONS: u32 = 10000;
@@ -132,18 +134,17 @@ fn play(
 // Writes what is printed of the end of an objective. A question that is left would be printed as 19; there
 // is none (crate focei_theorems).
 #[tactic(auto, unfolding(crate::specs::Output::ended))]
-fn told(at: Called, counts: &[u64], results: &[u64], out: &mut [u8]) -> usize
+fn told(page: &mut Page<u8>, at: Called, counts: &[u64], results: &[u64])
     requires { length counts.now ≤ 256 }
-    ensures { written result out.new
-        ≡ write (ended counts.now at.state at.tally results.now at.step) (written 0 out.old) }
+    ensures { page.new
+        ≡ with_items (ended counts.now at.state at.tally results.now at.step) page.old }
 {
     match at.step {
-        Step::Asked(_, _) => focei_text::refused(out, 0, 19, Place::Nowhere),
+        Step::Asked(_, _) => focei_text::refused(page, 19, Place::Nowhere),
         Step::Finished(objective) => {
             let shrinkage = session::shrinkage(at.state, counts.len() as u32);
             focei_text::finished(
-                out,
-                0,
+                page,
                 objective,
                 at.tally.calls.0,
                 shrinkage,
@@ -151,7 +152,7 @@ fn told(at: Called, counts: &[u64], results: &[u64], out: &mut [u8]) -> usize
                 results,
             )
         }
-        Step::Refused(refusal) => focei_text::refused(out, 0, refusal.number, refusal.place),
+        Step::Refused(refusal) => focei_text::refused(page, refusal.number, refusal.place),
     }
 }
 
@@ -188,17 +189,11 @@ fn run(
 }
 
 // Sets up the session of the records, runs its objective, and writes the text.
-fn fit(
-    input: &[u8],
-    observations: &[u64],
-    counts: &[u64],
-    memory: &mut Memory,
-    out: &mut [u8],
-) -> usize
+fn fit(page: &mut Page<u8>, input: &[u8], observations: &[u64], counts: &[u64], memory: &mut Memory)
     requires { (length input.now ≤ 12288) × (length counts.now ≤ 256) }
-    ensures { written result out.new
-        ≡ write (fitted input.now counts.now observations.now memory.old.cache memory.old.work
-        memory.old.warm memory.old.results) (written 0 out.old) }
+    ensures { page.new
+        ≡ with_items (fitted input.now counts.now observations.now memory.old.cache
+        memory.old.work memory.old.warm memory.old.results) page.old }
 {
     let none = Tally {
         calls: Calls(0),
@@ -217,16 +212,16 @@ fn fit(
     match opened.opening {
         Ok(state) => {
             let last = run(input, state, opened.tally, observations, counts, memory);
-            told(last, counts, &memory.results, out)
+            told(page, last, counts, &memory.results)
         }
-        Err(refusal) => focei_text::refused(out, 0, refusal.number, refusal.place),
+        Err(refusal) => focei_text::refused(page, refusal.number, refusal.place),
     }
 }
 
 // Fits the records in words of the program's own, enough for 256 records.
-fn lend(input: &[u8], subjects: usize, out: &mut [u8]) -> usize
+fn lend(page: &mut Page<u8>, input: &[u8], subjects: usize)
     requires { (length input.now ≤ 12288) × (subjects ≤ 256) }
-    ensures { written result out.new ≡ write (lent input.now subjects) (written 0 out.old) }
+    ensures { page.new ≡ with_items (lent input.now subjects) page.old }
 {
     let mut counts = [0u64; 256];
     let mut observations = [0u64; 1280];
@@ -239,19 +234,21 @@ fn lend(input: &[u8], subjects: usize, out: &mut [u8]) -> usize
     };
     let n = focei_records::counts(input, subjects, &mut counts);
     let m = focei_records::observations(input, &mut observations);
-    fit(input, &observations[..m], &counts[..n], &mut memory, out)
+    fit(page, input, &observations[..m], &counts[..n], &mut memory);
 }
 
 // Writes what the program prints of its input, as much of it as `out` has room for, and gives the length of
 // what was written. With room for `LONGEST_TEXT` bytes that is the whole text.
-#[tactic(auto, unfolding(crate::specs::Output::output, crate::specs::Output::when_records, focei_records::specs::Records::answer))]
+#[tactic(auto, unfolding(crate::specs::Output::output, crate::specs::Output::when_records, focei_records::specs::Records::answer, words::specs::Page::with_items))]
 pub fn write_text(input: &[u8], out: &mut [u8]) -> usize
     ensures { written result out.new ≡ write (output input.now) (written 0 out.old) }
 {
+    let mut page = Page::new(out);
     match focei_records::cohort_of(input) {
-        Some(subjects) => lend(input, subjects, out),
-        None => focei_text::refused(out, 0, 20, Place::Nowhere),
+        Some(subjects) => lend(&mut page, input, subjects),
+        None => focei_text::refused(&mut page, 20, Place::Nowhere),
     }
+    page.end()
 }
 
 // The program between reading and writing: of the bytes that were read, the first `got` of `input` (where

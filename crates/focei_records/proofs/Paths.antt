@@ -10,10 +10,12 @@ use lib.Ieee.{Float}
 use lib.Dec.{eqb}
 use lib.ListN.{length}
 use Rattle.float64.specs.Pick.{pick, yes, no}
-use Rattle.words.specs.Written.{Written, write}
-use Rattle.words.proofs.Front.{write_append}
-use Rattle.focei_records.specs.Records.{records, subject_at, reserved_at, answer, cohort_from, count_from, counts_from, counts, observation_at, observations_from, observations}
-use Rattle.focei_records.specs.Records.{row_at, replied_from, reply}
+use Rattle.words.specs.Written.{write}
+use Rattle.words.specs.Page.{with_items}
+use Rattle.words.specs.declared.Page.{Page}
+use Rattle.words.proofs.Pages.{with_append}
+use Rattle.focei_records.specs.Records.{records, subject_at, reserved_at, answer, cohort_from, count_from, counts_from, observation_at, observations_from}
+use Rattle.focei_records.specs.Records.{row_at, replied_from}
 
 -- ---- what is left of n turns after i
 none_left : (n i : ℕ) → n ≤ i → 0 ≡ n - i
@@ -76,54 +78,41 @@ module _ (n i s total : ℕ) (input : List ℕ) where
     count_miss d t = counted 0 (no _ (ne_eqb _ _ (λ q. d (ex ∙ q))) refl) (t ∙ sym (add-zero total))
 
 -- ---- the counts, at subject s of n
-module _ (n s : ℕ) (input : List ℕ) (t : Written) where
-  pub counts_end : n ≤ s → t ≡ write (counts_from (n - s) input s) t
-  unfolding counts_from write
-  counts_end h = ap (λ (m : ℕ). write (counts_from m input s) t) (none_left n s h)
+module _ (n s : ℕ) (input : List ℕ) (t : Page ℕ) where
+  pub counts_end : n ≤ s → t ≡ with_items (counts_from (n - s) input s) t
+  unfolding counts_from with_items write
+  counts_end h = ap (λ (m : ℕ). with_items (counts_from m input s) t) (none_left n s h)
 
-  pub counts_step : {w : ℕ} {t' : Written} → s < n → w ≡ count_from (records input) input 0 s → t' ≡ write (w ∷ []) t → write (counts_from (n - (s + 1)) input (s + 1)) t' ≡ write
+  pub counts_step : {w : ℕ} {t' : Page ℕ} → s < n → w ≡ count_from (records input) input 0 s → t' ≡ with_items (w ∷ []) t → with_items (counts_from (n - (s + 1)) input (s + 1)) t' ≡ with_items
       (counts_from (n - s) input s) t
-  unfolding counts_from write
+  unfolding counts_from with_items write
   counts_step h e q =
-      ap (write (counts_from (n - (s + 1)) input (s + 1))) (q ∙ ap (λ (w : ℕ). write (w ∷ []) t) e) ∙ ap (λ (m : ℕ). write (counts_from m input s) t) (one_more n s h)
-
-pub counts_all : {t' : Written} (n : ℕ) (input : List ℕ) (t : Written) → t' ≡ write (counts_from n input 0) t → t' ≡ write (counts input n) t
-unfolding counts
-counts_all n input t e = e
+      ap (with_items (counts_from (n - (s + 1)) input (s + 1))) (q ∙ ap (λ (w : ℕ). with_items (w ∷ []) t) e) ∙ ap (λ (m : ℕ). with_items (counts_from m input s) t) (one_more n s h)
 
 -- ---- the observations of all records, at record i of n
-module _ (n i : ℕ) (input : List ℕ) (t : Written) where
-  pub observations_end : n ≤ i → t ≡ write (observations_from (n - i) input i) t
-  unfolding observations_from write
-  observations_end h = ap (λ (m : ℕ). write (observations_from m input i) t) (none_left n i h)
+module _ (n i : ℕ) (input : List ℕ) (t : Page ℕ) where
+  pub observations_end : n ≤ i → t ≡ with_items (observations_from (n - i) input i) t
+  unfolding observations_from with_items write
+  observations_end h = ap (λ (m : ℕ). with_items (observations_from m input i) t) (none_left n i h)
 
-  pub observations_step : {t' : Written} → i < n → t' ≡ write (observation_at input i) t → write (observations_from (n - (i + 1)) input (i + 1)) t' ≡ write (observations_from (n - i) input i) t
+  pub observations_step : {t' : Page ℕ} → i < n → t' ≡ with_items (observation_at input i) t → with_items (observations_from (n - (i + 1)) input (i + 1)) t' ≡ with_items (observations_from (n - i) input i) t
   unfolding observations_from
   observations_step h q =
-      ap (write (observations_from (n - (i + 1)) input (i + 1))) q
-      ∙ sym (write_append (observation_at input i) (observations_from (n - (i + 1)) input (i + 1)) t)
-      ∙ ap (λ (m : ℕ). write (observations_from m input i) t) (one_more n i h)
-
-pub observations_all : {t' : Written} (input : List ℕ) (t : Written) → t' ≡ write (observations_from (length input / 48) input 0) t → t' ≡ write (observations input) t
-unfolding observations
-observations_all input t e = e
+      ap (with_items (observations_from (n - (i + 1)) input (i + 1))) q
+      ∙ sym (with_append (observation_at input i) (observations_from (n - (i + 1)) input (i + 1)) t)
+      ∙ ap (λ (m : ℕ). with_items (observations_from m input i) t) (one_more n i h)
 
 -- ---- the rows of a reply, of which so many are left at record i
-pub reply_end : (left i : ℕ) (input : List ℕ) (individual : Float) (t : Written) → (0 < left → length input / 48 ≤ i) → t ≡ write (replied_from left input individual i) t
-unfolding replied_from write
+pub reply_end : (left i : ℕ) (input : List ℕ) (individual : Float) (t : Page ℕ) → (0 < left → length input / 48 ≤ i) → t ≡ with_items (replied_from left input individual i) t
+unfolding replied_from with_items write
 reply_end zero i input individual t f = refl
-reply_end (suc left) i input individual t f = ap (λ (l : List ℕ). write l t) (no _ (le-ltb _ _ (f (omega arith))) refl)
+reply_end (suc left) i input individual t f = ap (λ (l : List ℕ). with_items l t) (no _ (le-ltb _ _ (f (omega arith))) refl)
 
-pub reply_step : {t' : Written} (rest left i : ℕ) (input : List ℕ) (individual : Float) (t : Written) → suc rest ≡ left → i < length input / 48 → t' ≡ write (row_at input individual i) t
-    → write (replied_from rest input individual (i + 1)) t' ≡ write (replied_from left input individual i) t
+pub reply_step : {t' : Page ℕ} (rest left i : ℕ) (input : List ℕ) (individual : Float) (t : Page ℕ) → suc rest ≡ left → i < length input / 48 → t' ≡ with_items (row_at input individual i) t
+    → with_items (replied_from rest input individual (i + 1)) t' ≡ with_items (replied_from left input individual i) t
 unfolding replied_from
 reply_step rest left i input individual t more j q =
-    ap (write (replied_from rest input individual (i + 1))) q
-    ∙ sym (write_append (row_at input individual i) (replied_from rest input individual (i + 1)) t)
-    ∙ ap (λ (l : List ℕ). write l t) (yes _ (lt-ltb _ _ j) refl)
-    ∙ ap (λ (m : ℕ). write (replied_from m input individual i) t) more
-
-pub reply_all : {t' : Written} (input : List ℕ) (first rows : ℕ) (individual : Float) (t : Written) → t' ≡ write (replied_from rows input individual first) t → t' ≡ write
-    (reply input first rows individual) t
-unfolding reply
-reply_all input first rows individual t e = e
+    ap (with_items (replied_from rest input individual (i + 1))) q
+    ∙ sym (with_append (row_at input individual i) (replied_from rest input individual (i + 1)) t)
+    ∙ ap (λ (l : List ℕ). with_items l t) (yes _ (lt-ltb _ _ j) refl)
+    ∙ ap (λ (m : ℕ). with_items (replied_from m input individual i) t) more

@@ -6,8 +6,11 @@
 
 ghost use Rattle.std.specs.Prelude.{◌≡◌, ◌+◌, ◌*◌, ◌/◌, ◌≤◌, ◌<◌, length};
 ghost use Rattle.words.specs.Written.{written, write};
+ghost use Rattle.words.specs.Page.{with_items};
 ghost use Rattle.focei_records.specs.Records.{half_at, word_at, subject_at, reserved_at, float_at, count_from, counts, observation_at};
 ghost use Rattle.focei_records.specs.Records.{observations, answer, cohort_from, cohort, row_at, reply};
+
+use words::Page;
 
 // The bytes of a record.
 pub const RECORD_BYTES: usize = 48;
@@ -113,26 +116,25 @@ pub fn counts(input: &[u8], subjects: usize, out: &mut [u64]) -> usize
     ensures { written result out.new ≡ write (counts input.now subjects) (written 0 out.old) }
 {
     let records = input.len() / RECORD_BYTES;
-    let mut end = 0;
+    let mut page = Page::new(out);
     for subject in 0..subjects {
-        end = words::word(out, end, count(input, records, subject));
+        page.put(count(input, records, subject));
     }
-    end
+    page.end()
 }
 
-// An observation's five words. Its row is its own position within the subject: how many records of that
+// Writes an observation's five words. Its row is its own position within the subject: how many records of that
 // subject stand before it.
-#[tactic(auto, unfolding(crate::specs::Records::observation_at, words::specs::Written::write))]
-fn observation(input: &[u8], i: usize, out: &mut [u64], at: usize) -> usize
+#[tactic(auto, using(words::proofs::Pages::with_first), unfolding(crate::specs::Records::observation_at))]
+fn observation(page: &mut Page<u64>, input: &[u8], i: usize)
     requires { i < length input.now / 48 }
-    ensures { written result out.new ≡ write (observation_at input.now i) (written at out.old) }
+    ensures { page.new ≡ with_items (observation_at input.now i) page.old }
 {
-    let row = count(input, i, subject_at(input, i));
-    let output = words::word(out, at, 0);
-    let place = words::word(out, output, row);
-    let value = words::word(out, place, float_at(input, i, 0));
-    let additive = words::word(out, value, float_at(input, i, 1));
-    words::word(out, additive, float_at(input, i, 2))
+    page.put(0);
+    page.put(count(input, i, subject_at(input, i)));
+    page.put(float_at(input, i, 0));
+    page.put(float_at(input, i, 1));
+    page.put(float_at(input, i, 2));
 }
 
 // Writes the observations of all records, five words each, and gives the number of words written.
@@ -140,27 +142,27 @@ pub fn observations(input: &[u8], out: &mut [u64]) -> usize
     ensures { written result out.new ≡ write (observations input.now) (written 0 out.old) }
 {
     let records = input.len() / RECORD_BYTES;
-    let mut end = 0;
+    let mut page = Page::new(out);
     for i in 0..records {
-        end = observation(input, i, out, end);
+        observation(&mut page, input, i);
     }
-    end
+    page.end()
 }
 
 // ---- the simulator
 
-// A row of a reply: time 0, side pre, base + slope times the individual value, and its derivative.
-#[tactic(auto, unfolding(crate::specs::Records::row_at, words::specs::Written::write))]
-fn row(input: &[u8], i: usize, individual: f64, out: &mut [u64], at: usize) -> usize
+// Writes a row of a reply: time 0, side pre, base + slope times the individual value, and its derivative.
+#[tactic(auto, using(words::proofs::Pages::with_first), unfolding(crate::specs::Records::row_at))]
+fn row(page: &mut Page<u64>, input: &[u8], i: usize, individual: f64)
     requires { i < length input.now / 48 }
-    ensures { written result out.new ≡ write (row_at input.now individual i) (written at out.old) }
+    ensures { page.new ≡ with_items (row_at input.now individual i) page.old }
 {
     let base = float64::from_word(float_at(input, i, 3));
     let slope = float64::from_word(float_at(input, i, 4));
-    let time = words::word(out, at, 0);
-    let side = words::word(out, time, 0);
-    let value = words::word(out, side, float64::to_word(base + slope * individual));
-    words::word(out, value, float64::to_word(slope))
+    page.put(0);
+    page.put(0);
+    page.put(float64::to_word(base + slope * individual));
+    page.put(float64::to_word(slope));
 }
 
 // The simulator: writes the rows of a reply for so many records from record `first` on, as far as there are
@@ -171,9 +173,9 @@ pub fn reply(input: &[u8], first: usize, rows: usize, individual: f64, out: &mut
         ≡ write (reply input.now first rows individual) (written 0 out.old) }
 {
     let records = input.len() / RECORD_BYTES;
-    let mut end = 0;
+    let mut page = Page::new(out);
     for i in first..first.saturating_add(rows).min(records) {
-        end = row(input, i, individual, out, end);
+        row(&mut page, input, i, individual);
     }
-    end
+    page.end()
 }

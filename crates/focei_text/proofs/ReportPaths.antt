@@ -8,8 +8,10 @@ use lib.Dec.{ltb}
 use lib.Ieee.{Float}
 use lib.ListN.{get_or, length}
 use Rattle.float64.specs.Pick.{pick, cases}
-use Rattle.words.specs.Written.{Written, write}
-use Rattle.words.proofs.Front.{write_append}
+use Rattle.words.specs.Written.{write}
+use Rattle.words.specs.Page.{with_items}
+use Rattle.words.specs.declared.Page.{Page}
+use Rattle.words.proofs.Pages.{with_append}
 use Rattle.work.specs.Work.{most_rows, most_subjects}
 use Rattle.population.specs.Population.{rows_of}
 use Rattle.focei_text.specs.Report.{line, fields, objective_line, subject_line, fitted_line, shrinkage_line, subject_lines, fitted_lines, all_fitted}
@@ -23,64 +25,64 @@ one_more : (n i : ℕ) → i < n → suc (n - (i + 1)) ≡ n - i
 one_more n i h = omega arith
 
 -- ---- one text after another
-pub after : {t₁ t₂ : Written} (a b : List ℕ) (t : Written) → t₁ ≡ write a t → t₂ ≡ write b t₁ → t₂ ≡ write (a ++ b) t
-after a b t e f = f ∙ ap (write b) e ∙ sym (write_append a b t)
+pub after : {t₁ t₂ : Page ℕ} (a b : List ℕ) (t : Page ℕ) → t₁ ≡ with_items a t → t₂ ≡ with_items b t₁ → t₂ ≡ with_items (a ++ b) t
+after a b t e f = f ∙ ap (with_items b) e ∙ sym (with_append a b t)
 
 -- ---- a line is its letter, then each field after its space, then its end
-abbrev fields_told : List (List ℕ) → Written → Written
-fields_told [] t = write (10 ∷ []) t
-fields_told (f ∷ fs) t = fields_told fs (write (32 ∷ f) t)
+abbrev fields_told : List (List ℕ) → Page ℕ → Page ℕ
+fields_told [] t = with_items (10 ∷ []) t
+fields_told (f ∷ fs) t = fields_told fs (with_items (32 ∷ f) t)
 
-each_told : (fs : List (List ℕ)) (t : Written) → write (fields fs) t ≡ fields_told fs t
+each_told : (fs : List (List ℕ)) (t : Page ℕ) → with_items (fields fs) t ≡ fields_told fs t
 unfolding fields
 each_told [] t = refl
-each_told (f ∷ fs) t = write_append (32 ∷ f) (fields fs) t ∙ each_told fs (write (32 ∷ f) t)
+each_told (f ∷ fs) t = with_append (32 ∷ f) (fields fs) t ∙ each_told fs (with_items (32 ∷ f) t)
 
-pub line_told : (x : ℕ) (fs : List (List ℕ)) (t : Written) → write (line x fs) t ≡ fields_told fs (write (x ∷ []) t)
+pub line_told : (x : ℕ) (fs : List (List ℕ)) (t : Page ℕ) → with_items (line x fs) t ≡ fields_told fs (with_items (x ∷ []) t)
 unfolding line
-line_told x fs t = write_append (x ∷ []) (fields fs) t ∙ each_told fs (write (x ∷ []) t)
+line_told x fs t = with_append (x ∷ []) (fields fs) t ∙ each_told fs (with_items (x ∷ []) t)
 
 -- ---- n subjects, at subject s; eta is its word
-module _ (n s : ℕ) (results : List ℕ) (t : Written) where
-  pub subjects_end : n ≤ s → t ≡ write (subject_lines (n - s) s results) t
-  unfolding subject_lines write
-  subjects_end h = ap (λ (m : ℕ). write (subject_lines m s results) t) (none_left n s h)
+module _ (n s : ℕ) (results : List ℕ) (t : Page ℕ) where
+  pub subjects_end : n ≤ s → t ≡ with_items (subject_lines (n - s) s results) t
+  unfolding subject_lines with_items write
+  subjects_end h = ap (λ (m : ℕ). with_items (subject_lines m s results) t) (none_left n s h)
 
-  pub subjects_step : {eta : ℕ} {t' : Written} → s < n → eta ≡ get_or results (3 * s) 0 → t' ≡ write (subject_line s eta) t → write (subject_lines (n - (s + 1)) (s + 1) results) t' ≡ write
+  pub subjects_step : {eta : ℕ} {t' : Page ℕ} → s < n → eta ≡ get_or results (3 * s) 0 → t' ≡ with_items (subject_line s eta) t → with_items (subject_lines (n - (s + 1)) (s + 1) results) t' ≡ with_items
       (subject_lines (n - s) s results) t
   unfolding subject_lines
   subjects_step h e q =
-      ap (write (subject_lines (n - (s + 1)) (s + 1) results)) (q ∙ ap (λ (w : ℕ). write (subject_line s w) t) e)
-      ∙ sym (write_append (subject_line s (get_or results (3 * s) 0)) (subject_lines (n - (s + 1)) (s + 1) results) t)
-      ∙ ap (λ (m : ℕ). write (subject_lines m s results) t) (one_more n s h)
+      ap (with_items (subject_lines (n - (s + 1)) (s + 1) results)) (q ∙ ap (λ (w : ℕ). with_items (subject_line s w) t) e)
+      ∙ sym (with_append (subject_line s (get_or results (3 * s) 0)) (subject_lines (n - (s + 1)) (s + 1) results) t)
+      ∙ ap (λ (m : ℕ). with_items (subject_lines m s results) t) (one_more n s h)
 
 -- ---- n observations of a subject, at observation i, whose predictions stand from word a on
-module _ (n s i a : ℕ) (results : List ℕ) (t : Written) where
-  pub fitted_end : n ≤ i → t ≡ write (fitted_lines (n - i) s i a results) t
-  unfolding fitted_lines write
-  fitted_end h = ap (λ (m : ℕ). write (fitted_lines m s i a results) t) (none_left n i h)
+module _ (n s i a : ℕ) (results : List ℕ) (t : Page ℕ) where
+  pub fitted_end : n ≤ i → t ≡ with_items (fitted_lines (n - i) s i a results) t
+  unfolding fitted_lines with_items write
+  fitted_end h = ap (λ (m : ℕ). with_items (fitted_lines m s i a results) t) (none_left n i h)
 
-  pub fitted_step : {x y a' : ℕ} {t' : Written} → i < n → a' ≡ a + 2 → x ≡ get_or results a 0 → y ≡ get_or results (a + 1) 0 → t' ≡ write (fitted_line s i x y) t → write
-      (fitted_lines (n - (i + 1)) s (i + 1) a' results) t' ≡ write (fitted_lines (n - i) s i a results) t
+  pub fitted_step : {x y a' : ℕ} {t' : Page ℕ} → i < n → a' ≡ a + 2 → x ≡ get_or results a 0 → y ≡ get_or results (a + 1) 0 → t' ≡ with_items (fitted_line s i x y) t → with_items
+      (fitted_lines (n - (i + 1)) s (i + 1) a' results) t' ≡ with_items (fitted_lines (n - i) s i a results) t
   unfolding fitted_lines
   fitted_step h ea ex ey q =
-      (λ d. write (fitted_lines (n - (i + 1)) s (i + 1) (ea d) results) ((q ∙ (λ k. write (fitted_line s i (ex k) (ey k)) t)) d))
-      ∙ sym (write_append (fitted_line s i (get_or results a 0) (get_or results (a + 1) 0)) (fitted_lines (n - (i + 1)) s (i + 1) (a + 2) results) t)
-      ∙ ap (λ (m : ℕ). write (fitted_lines m s i a results) t) (one_more n i h)
+      (λ d. with_items (fitted_lines (n - (i + 1)) s (i + 1) (ea d) results) ((q ∙ (λ k. with_items (fitted_line s i (ex k) (ey k)) t)) d))
+      ∙ sym (with_append (fitted_line s i (get_or results a 0) (get_or results (a + 1) 0)) (fitted_lines (n - (i + 1)) s (i + 1) (a + 2) results) t)
+      ∙ ap (λ (m : ℕ). with_items (fitted_lines m s i a results) t) (one_more n i h)
 
 -- ---- those of n subjects, at subject s
-module _ (n s a : ℕ) (counts results : List ℕ) (t : Written) where
-  pub all_end : n ≤ s → t ≡ write (all_fitted (n - s) s a counts results) t
-  unfolding all_fitted write
-  all_end h = ap (λ (m : ℕ). write (all_fitted m s a counts results) t) (none_left n s h)
+module _ (n s a : ℕ) (counts results : List ℕ) (t : Page ℕ) where
+  pub all_end : n ≤ s → t ≡ with_items (all_fitted (n - s) s a counts results) t
+  unfolding all_fitted with_items write
+  all_end h = ap (λ (m : ℕ). with_items (all_fitted m s a counts results) t) (none_left n s h)
 
-  pub all_step : {rows : ℕ} {t' : Written} → s < n → rows ≡ rows_of counts s → t' ≡ write (fitted_lines rows s 0 a results) t → write (all_fitted (n - (s + 1)) (s + 1) (a + 2 * rows) counts results) t' ≡
-      write (all_fitted (n - s) s a counts results) t
+  pub all_step : {rows : ℕ} {t' : Page ℕ} → s < n → rows ≡ rows_of counts s → t' ≡ with_items (fitted_lines rows s 0 a results) t → with_items (all_fitted (n - (s + 1)) (s + 1) (a + 2 * rows) counts results) t' ≡
+      with_items (all_fitted (n - s) s a counts results) t
   unfolding all_fitted
   all_step h e q =
-      (λ d. write (all_fitted (n - (s + 1)) (s + 1) (a + 2 * e d) counts results) ((q ∙ ap (λ (m : ℕ). write (fitted_lines m s 0 a results) t) e) d))
-      ∙ sym (write_append (fitted_lines (rows_of counts s) s 0 a results) (all_fitted (n - (s + 1)) (s + 1) (a + 2 * rows_of counts s) counts results) t)
-      ∙ ap (λ (m : ℕ). write (all_fitted m s a counts results) t) (one_more n s h)
+      (λ d. with_items (all_fitted (n - (s + 1)) (s + 1) (a + 2 * e d) counts results) ((q ∙ ap (λ (m : ℕ). with_items (fitted_lines m s 0 a results) t) e) d))
+      ∙ sym (with_append (fitted_lines (rows_of counts s) s 0 a results) (all_fitted (n - (s + 1)) (s + 1) (a + 2 * rows_of counts s) counts results) t)
+      ∙ ap (λ (m : ℕ). with_items (all_fitted m s a counts results) t) (one_more n s h)
 
 pub few_rows : {rows : ℕ} (counts : List ℕ) (s : ℕ) → rows ≡ rows_of counts s → rows ≤ 100000
 unfolding rows_of
@@ -98,14 +100,14 @@ module _ (counts : List ℕ) where
       (λ q. omega arith) in
       omega arith
 
-pub all_told : {n : ℕ} {t₁ t₂ t₃ t₄ : Written} (objective : Float) (evaluations : ℕ) (shrinkage : Float) (counts results : List ℕ) (t : Written) → n ≡ subjects_of counts → t₁ ≡ write
+pub all_told : {n : ℕ} {t₁ t₂ t₃ t₄ : Page ℕ} (objective : Float) (evaluations : ℕ) (shrinkage : Float) (counts results : List ℕ) (t : Page ℕ) → n ≡ subjects_of counts → t₁ ≡ with_items
     (objective_line objective evaluations) t
-    → t₂ ≡ write (subject_lines n 0 results) t₁ → t₃ ≡ write (all_fitted n 0 (3 * n) counts results) t₂ → t₄ ≡ write (shrinkage_line shrinkage) t₃ → t₄ ≡ write
+    → t₂ ≡ with_items (subject_lines n 0 results) t₁ → t₃ ≡ with_items (all_fitted n 0 (3 * n) counts results) t₂ → t₄ ≡ with_items (shrinkage_line shrinkage) t₃ → t₄ ≡ with_items
     (finished objective evaluations shrinkage counts results) t
 unfolding finished
 all_told {t₁ = t₁} {t₂ = t₂} objective evaluations shrinkage counts results t e e₁ e₂ e₃ e₄ =
     after _ _ t
     (after _ _ t
-    (after _ _ t e₁ (e₂ ∙ ap (λ (m : ℕ). write (subject_lines m 0 results) t₁) e))
-    (e₃ ∙ ap (λ (m : ℕ). write (all_fitted m 0 (3 * m) counts results) t₂) e))
+    (after _ _ t e₁ (e₂ ∙ ap (λ (m : ℕ). with_items (subject_lines m 0 results) t₁) e))
+    (e₃ ∙ ap (λ (m : ℕ). with_items (all_fitted m 0 (3 * m) counts results) t₂) e))
     e₄

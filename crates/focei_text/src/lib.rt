@@ -1,18 +1,18 @@
 // The lines that document 01's program prints: `O`, `S`, `F` and `H` of a finished objective, or `R` of a
 // refusal. A line is a letter and its fields, each after a space; floats are hexadecimal and numbers decimal.
-// Each function takes the place at which to write and gives the place after it; at the end of what is lent
-// nothing is written and the place stays, so that what does not fit is cut off. Each public function is
-// defined for all values and words.
+// They are written on a page: at the end of what is lent nothing is written, so that what does not fit is cut
+// off. Each public function is defined for all values and words.
 #![tactic(auto)]
 
 ghost use Rattle.std.specs.Prelude.{◌≡◌, [], ◌∷◌, ◌<◌, ◌*◌, ◌≤◌};
 ghost use Rattle.work.specs.Work.{result_words};
-ghost use Rattle.words.specs.Written.{written, write};
+ghost use Rattle.words.specs.Page.{with_items};
 ghost use Rattle.focei_text.specs.Writing.{glyph, hexadecimal, digits, decimal};
 ghost use Rattle.focei_text.specs.Report.{none, subject_field, observation_field, objective_line, subject_line, fitted_line};
 ghost use Rattle.focei_text.specs.Report.{shrinkage_line, refusal_line, subject_lines, fitted_lines, all_fitted, subjects_of, finished};
 
 use search::Place;
+use words::Page;
 use work::{FITTED_WORDS, RESULT_WORDS};
 
 // ---- numbers
@@ -30,210 +30,185 @@ fn glyph(digit: u64) -> u8
 }
 
 // Writes a word as sixteen hexadecimal digits, the topmost first.
-pub fn hexadecimal(out: &mut [u8], at: usize, value: u64) -> usize
-    ensures { written result out.new ≡ write (hexadecimal value) (written at out.old) }
+pub fn hexadecimal(page: &mut Page<u8>, value: u64)
+    ensures { page.new ≡ with_items (hexadecimal value) page.old }
 {
-    let mut end = at;
     let mut rest = value;
     for _turn in 0..16u32 {
-        end = words::byte(out, end, glyph(rest / 0x1000_0000_0000_0000));
+        page.put(glyph(rest / 0x1000_0000_0000_0000));
         rest = rest % 0x1000_0000_0000_0000 * 16;
     }
-    end
 }
 
 // Writes a number in decimal, with at most so many digits.
-fn digits(out: &mut [u8], at: usize, most: u32, value: u64) -> usize
-    ensures { written result out.new ≡ write (digits most value) (written at out.old) }
+fn digits(page: &mut Page<u8>, most: u32, value: u64)
+    ensures { page.new ≡ with_items (digits most value) page.old }
 {
     if most == 0 {
-        return at;
+        return;
     }
     if value < 10 {
-        return words::byte(out, at, glyph(value));
+        return page.put(glyph(value));
     }
-    let end = digits(out, at, most - 1, value / 10);
-    words::byte(out, end, glyph(value % 10))
+    digits(page, most - 1, value / 10);
+    page.put(glyph(value % 10));
 }
 
 // Writes a number in decimal, with as many digits as it has: at most twenty.
 #[tactic(auto, unfolding(crate::specs::Writing::decimal))]
-pub fn decimal(out: &mut [u8], at: usize, value: u64) -> usize
-    ensures { written result out.new ≡ write (decimal value) (written at out.old) }
+pub fn decimal(page: &mut Page<u8>, value: u64)
+    ensures { page.new ≡ with_items (decimal value) page.old }
 {
-    digits(out, at, 20, value)
+    digits(page, 20, value);
 }
 
 // ---- fields
 
-#[tactic(auto, unfolding(words::specs::Written::write))]
-fn hexadecimal_field(out: &mut [u8], at: usize, word: u64) -> usize
-    ensures { written result out.new ≡ write (32 ∷ hexadecimal word) (written at out.old) }
+#[tactic(auto, using(words::proofs::Pages::with_first))]
+fn hexadecimal_field(page: &mut Page<u8>, word: u64)
+    ensures { page.new ≡ with_items (32 ∷ hexadecimal word) page.old }
 {
-    let field = words::byte(out, at, b' ');
-    hexadecimal(out, field, word)
+    page.put(b' ');
+    hexadecimal(page, word);
 }
 
-#[tactic(auto, unfolding(words::specs::Written::write))]
-fn decimal_field(out: &mut [u8], at: usize, number: usize) -> usize
-    ensures { written result out.new ≡ write (32 ∷ decimal number) (written at out.old) }
+#[tactic(auto, using(words::proofs::Pages::with_first))]
+fn decimal_field(page: &mut Page<u8>, number: usize)
+    ensures { page.new ≡ with_items (32 ∷ decimal number) page.old }
 {
-    let field = words::byte(out, at, b' ');
-    decimal(out, field, number as u64)
+    page.put(b' ');
+    decimal(page, number as u64);
 }
 
-#[tactic(auto, unfolding(words::specs::Written::write))]
-fn no_field(out: &mut [u8], at: usize) -> usize
-    ensures { written result out.new ≡ write (32 ∷ none) (written at out.old) }
+#[tactic(auto, using(words::proofs::Pages::with_first))]
+fn no_field(page: &mut Page<u8>)
+    ensures { page.new ≡ with_items (32 ∷ none) page.old }
 {
-    let field = words::byte(out, at, b' ');
-    words::byte(out, field, b'-')
+    page.put(b' ');
+    page.put(b'-');
 }
 
 // ---- a refusal
 
 #[tactic(auto, unfolding(crate::specs::Report::subject_field))]
-fn subject_field(out: &mut [u8], at: usize, place: Place) -> usize
-    ensures { written result out.new ≡ write (32 ∷ subject_field place) (written at out.old) }
+fn subject_field(page: &mut Page<u8>, place: Place)
+    ensures { page.new ≡ with_items (32 ∷ subject_field place) page.old }
 {
     match place {
-        Place::Nowhere => no_field(out, at),
-        Place::Subject(subject) | Place::Observation(subject, _) => {
-            decimal_field(out, at, subject)
-        }
+        Place::Nowhere => no_field(page),
+        Place::Subject(subject) | Place::Observation(subject, _) => decimal_field(page, subject),
     }
 }
 
 #[tactic(auto, unfolding(crate::specs::Report::observation_field))]
-fn observation_field(out: &mut [u8], at: usize, place: Place) -> usize
-    ensures { written result out.new ≡ write (32 ∷ observation_field place) (written at out.old) }
+fn observation_field(page: &mut Page<u8>, place: Place)
+    ensures { page.new ≡ with_items (32 ∷ observation_field place) page.old }
 {
     match place {
-        Place::Nowhere | Place::Subject(_) => no_field(out, at),
-        Place::Observation(_, observation) => decimal_field(out, at, observation),
+        Place::Nowhere | Place::Subject(_) => no_field(page),
+        Place::Observation(_, observation) => decimal_field(page, observation),
     }
 }
 
 // Writes the `R` line of a refusal: document 01's number, the subject and the observation, with a hyphen for
 // what it has not.
 #[tactic(auto, using(crate::proofs::ReportPaths::line_told), unfolding(crate::specs::Report::refusal_line))]
-pub fn refused(out: &mut [u8], at: usize, number: u32, place: Place) -> usize
-    ensures { written result out.new ≡ write (refusal_line number place) (written at out.old) }
+pub fn refused(page: &mut Page<u8>, number: u32, place: Place)
+    ensures { page.new ≡ with_items (refusal_line number place) page.old }
 {
-    let letter = words::byte(out, at, b'R');
-    let numbered = decimal_field(out, letter, number as usize);
-    let subject = subject_field(out, numbered, place);
-    let observation = observation_field(out, subject, place);
-    words::byte(out, observation, b'\n')
+    page.put(b'R');
+    decimal_field(page, number as usize);
+    subject_field(page, place);
+    observation_field(page, place);
+    page.put(b'\n');
 }
 
 // ---- a finished objective
 
 #[tactic(auto, using(crate::proofs::ReportPaths::line_told), unfolding(crate::specs::Report::objective_line))]
-fn objective_line(out: &mut [u8], at: usize, objective: f64, evaluations: u32) -> usize
-    ensures { written result out.new ≡ write (objective_line objective evaluations) (written at out.old) }
+fn objective_line(page: &mut Page<u8>, objective: f64, evaluations: u32)
+    ensures { page.new ≡ with_items (objective_line objective evaluations) page.old }
 {
-    let letter = words::byte(out, at, b'O');
-    let value = hexadecimal_field(out, letter, float64::to_word(objective));
-    let counted = decimal_field(out, value, evaluations as usize);
-    words::byte(out, counted, b'\n')
+    page.put(b'O');
+    hexadecimal_field(page, float64::to_word(objective));
+    decimal_field(page, evaluations as usize);
+    page.put(b'\n');
 }
 
 #[tactic(auto, using(crate::proofs::ReportPaths::line_told), unfolding(crate::specs::Report::subject_line))]
-fn subject_line(out: &mut [u8], at: usize, subject: usize, eta: u64) -> usize
-    ensures { written result out.new ≡ write (subject_line subject eta) (written at out.old) }
+fn subject_line(page: &mut Page<u8>, subject: usize, eta: u64)
+    ensures { page.new ≡ with_items (subject_line subject eta) page.old }
 {
-    let letter = words::byte(out, at, b'S');
-    let numbered = decimal_field(out, letter, subject);
-    let value = hexadecimal_field(out, numbered, eta);
-    words::byte(out, value, b'\n')
+    page.put(b'S');
+    decimal_field(page, subject);
+    hexadecimal_field(page, eta);
+    page.put(b'\n');
 }
 
 #[tactic(auto, using(crate::proofs::ReportPaths::line_told), unfolding(crate::specs::Report::fitted_line))]
 fn fitted_line(
-    out: &mut [u8],
-    at: usize,
+    page: &mut Page<u8>,
     subject: usize,
     observation: usize,
     population: u64,
     individual: u64,
-) -> usize
-    ensures { written result out.new
-        ≡ write (fitted_line subject observation population individual) (written at out.old) }
+)
+    ensures { page.new
+        ≡ with_items (fitted_line subject observation population individual) page.old }
 {
-    let letter = words::byte(out, at, b'F');
-    let numbered = decimal_field(out, letter, subject);
-    let placed = decimal_field(out, numbered, observation);
-    let first = hexadecimal_field(out, placed, population);
-    let second = hexadecimal_field(out, first, individual);
-    words::byte(out, second, b'\n')
+    page.put(b'F');
+    decimal_field(page, subject);
+    decimal_field(page, observation);
+    hexadecimal_field(page, population);
+    hexadecimal_field(page, individual);
+    page.put(b'\n');
 }
 
 #[tactic(auto, using(crate::proofs::ReportPaths::line_told), unfolding(crate::specs::Report::shrinkage_line))]
-fn shrinkage_line(out: &mut [u8], at: usize, shrinkage: f64) -> usize
-    ensures { written result out.new ≡ write (shrinkage_line shrinkage) (written at out.old) }
+fn shrinkage_line(page: &mut Page<u8>, shrinkage: f64)
+    ensures { page.new ≡ with_items (shrinkage_line shrinkage) page.old }
 {
-    let letter = words::byte(out, at, b'H');
-    let value = hexadecimal_field(out, letter, float64::to_word(shrinkage));
-    words::byte(out, value, b'\n')
+    page.put(b'H');
+    hexadecimal_field(page, float64::to_word(shrinkage));
+    page.put(b'\n');
 }
 
 // Eta of every subject: the results have three words for each.
-fn subject_lines(out: &mut [u8], at: usize, subjects: usize, results: &[u64]) -> usize
+fn subject_lines(page: &mut Page<u8>, subjects: usize, results: &[u64])
     requires { subjects ≤ 4096 }
-    ensures { written result out.new
-        ≡ write (subject_lines subjects 0 results.now) (written at out.old) }
+    ensures { page.new ≡ with_items (subject_lines subjects 0 results.now) page.old }
 {
-    let mut end = at;
     for subject in 0..subjects {
-        end = subject_line(
-            out,
-            end,
-            subject,
-            words::read(results, RESULT_WORDS * subject),
-        );
+        subject_line(page, subject, words::read(results, RESULT_WORDS * subject));
     }
-    end
 }
 
 // The predictions of so many observations of a subject, two words each, from word `first` of the results on.
-fn fitted_lines(
-    out: &mut [u8],
-    at: usize,
-    rows: usize,
-    subject: usize,
-    first: usize,
-    results: &[u64],
-) -> usize
+fn fitted_lines(page: &mut Page<u8>, rows: usize, subject: usize, first: usize, results: &[u64])
     requires { (rows ≤ 100000) × (first ≤ 1000000000) }
-    ensures { written result out.new
-        ≡ write (fitted_lines rows subject 0 first results.now) (written at out.old) }
+    ensures { page.new ≡ with_items (fitted_lines rows subject 0 first results.now) page.old }
 {
-    let mut end = at;
     for i in 0..rows {
         let word = first + FITTED_WORDS * i;
         let population = words::read(results, word);
         let individual = words::read(results, word + 1);
-        end = fitted_line(out, end, subject, i, population, individual);
+        fitted_line(page, subject, i, population, individual);
     }
-    end
 }
 
 // The predictions of all observations of all subjects.
-fn all_fitted(out: &mut [u8], at: usize, subjects: usize, counts: &[u64], results: &[u64]) -> usize
+fn all_fitted(page: &mut Page<u8>, subjects: usize, counts: &[u64], results: &[u64])
     requires { subjects ≤ 4096 }
-    ensures { written result out.new
-        ≡ write (all_fitted subjects 0 (result_words * subjects) counts.now results.now)
-        (written at out.old) }
+    ensures { page.new
+        ≡ with_items (all_fitted subjects 0 (result_words * subjects) counts.now results.now)
+        page.old }
 {
-    let mut end = at;
     let mut word = RESULT_WORDS * subjects;
     for subject in 0..subjects {
         let rows = population::rows_of(counts, subject);
-        end = fitted_lines(out, end, rows, subject, word, results);
+        fitted_lines(page, rows, subject, word, results);
         word += FITTED_WORDS * rows;
     }
-    end
 }
 
 // The number of subjects, at most the domain's largest.
@@ -247,20 +222,19 @@ fn subjects_of(counts: &[u64]) -> usize
 // Writes the lines of a finished objective: `O` with the objective and the evaluations, an `S` line with the
 // eta of each subject, an `F` line with the predictions of each observation, and `H` with the shrinkage.
 pub fn finished(
-    out: &mut [u8],
-    at: usize,
+    page: &mut Page<u8>,
     objective: f64,
     evaluations: u32,
     shrinkage: f64,
     counts: &[u64],
     results: &[u64],
-) -> usize
-    ensures { written result out.new
-        ≡ write (finished objective evaluations shrinkage counts.now results.now) (written at out.old) }
+)
+    ensures { page.new
+        ≡ with_items (finished objective evaluations shrinkage counts.now results.now) page.old }
 {
     let subjects = subjects_of(counts);
-    let first = objective_line(out, at, objective, evaluations);
-    let etas = subject_lines(out, first, subjects, results);
-    let fits = all_fitted(out, etas, subjects, counts, results);
-    shrinkage_line(out, fits, shrinkage)
+    objective_line(page, objective, evaluations);
+    subject_lines(page, subjects, results);
+    all_fitted(page, subjects, counts, results);
+    shrinkage_line(page, shrinkage);
 }

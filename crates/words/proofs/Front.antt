@@ -13,7 +13,7 @@ use Rattle.float64.specs.Pick.{pick_yes, cases}
 use Rattle.words.specs.Written.{Written, written, put, write}
 
 -- one text after another
-pub write_append : (a b : List ℕ) (t : Written) → write (a ++ b) t ≡ write b (write a t)
+pub write_append : {A : Type 0} (a b : List A) (t : Written A) → write (a ++ b) t ≡ write b (write a t)
 unfolding write
 write_append [] b t = refl
 write_append (x ∷ a) b t = write_append a b (put x t)
@@ -40,20 +40,20 @@ fits l w h =
 pub front : {r : ℕ} {w' : List ℕ} (l w : List ℕ) → length l ≤ length w → written r w' ≡ write l (written 0 w) → take r w' ≡ l
 front l w h e =
     let at = e ∙ fits l w h in
-    ap (λ (t : Written). take t.end t.lent) at ∙ take-append_seam l (drop (length l) w)
+    ap (λ (t : Written ℕ). take t.end t.lent) at ∙ take-append_seam l (drop (length l) w)
 
 -- and where there is no room the place is still within what is lent
-put_within : (x : ℕ) (t : Written) → t.end ≤ length t.lent → (put x t).end ≤ length (put x t).lent
+put_within : (x : ℕ) (t : Written ℕ) → t.end ≤ length t.lent → (put x t).end ≤ length (put x t).lent
 unfolding put
 put_within x t h =
-    cases (λ (u : Written). u.end ≤ length u.lent) (ltb t.end (length t.lent))
+    cases (λ (u : Written ℕ). u.end ≤ length u.lent) (ltb t.end (length t.lent))
     (λ q. let inside : t.end < length t.lent = ltb-true _ _ q in let same = length-set t.lent t.end x in omega arith)
     (λ q. h)
 
-pub write_within : (l : List ℕ) (t : Written) → t.end ≤ length t.lent → (write l t).end ≤ length (write l t).lent
+pub write_within : (l : List ℕ) (t : Written ℕ) → t.end ≤ length t.lent → (write l t).end ≤ length (write l t).lent
 unfolding write
 write_within [] t h = h
 write_within (x ∷ l) t h = write_within l (put x t) (put_within x t h)
 
 pub within : {r : ℕ} {w' : List ℕ} (l w : List ℕ) → written r w' ≡ write l (written 0 w) → r ≤ length w'
-within l w e = subst (λ (t : Written). t.end ≤ length t.lent) (sym e) (write_within l (written 0 w) (omega arith))
+within l w e = subst (λ (t : Written ℕ). t.end ≤ length t.lent) (sym e) (write_within l (written 0 w) (omega arith))

@@ -3,16 +3,17 @@
 use Rattle.std.specs.Prelude.{List, [], ◌∷◌, ℕ, ◌+◌, ltb, set, length}
 use Rattle.float64.specs.Pick.{pick}
 
-pub record Written : Type 0 where
+pub record Written (A : Type 0) : Type 0 where
   pub end : ℕ
-  pub lent : List ℕ
+  pub lent : List A
 
-abbrev pub written : ℕ → List ℕ → Written
-written end lent = record { end = end; lent = lent }
+module _ {A : Type 0} where
+  abbrev pub written : ℕ → List A → Written A
+  written end lent = record { end = end; lent = lent }
 
-unfoldable pub put : ℕ → Written → Written
-put x t = pick (ltb t.end (length t.lent)) (written (t.end + 1) (set t.lent t.end x)) t
+  unfoldable pub put : A → Written A → Written A
+  put x t = pick (ltb t.end (length t.lent)) (written (t.end + 1) (set t.lent t.end x)) t
 
-unfoldable pub write : List ℕ → Written → Written
-write [] t = t
-write (x ∷ xs) t = write xs (put x t)
+  unfoldable pub write : List A → Written A → Written A
+  write [] t = t
+  write (x ∷ xs) t = write xs (put x t)

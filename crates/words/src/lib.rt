@@ -4,7 +4,7 @@
 
 ghost use Rattle.std.specs.Prelude.{◌≡◌, [], ◌∷◌, length, get_or, set};
 ghost use Rattle.words.specs.Words.{smaller, zeros};
-ghost use Rattle.words.specs.Written.{written, write};
+ghost use Rattle.words.specs.Page.{blank, with_items};
 
 // The smaller of two numbers.
 pub fn smaller(a: usize, b: usize) -> usize
@@ -36,29 +36,39 @@ pub fn clear(words: &mut [u64])
     words.fill(0);
 }
 
-// ---- bytes and words written one after the other, as far as there is room; one function for each, since what
-// they ensure is defined for numbers, and not for any type
+// ---- items written one after the other, as far as there is room
 
-// Writes a byte at a place and gives the place after it. At the end of what is lent nothing is written, and
-// the place stays.
-pub fn byte(out: &mut [u8], at: usize, value: u8) -> usize
-    ensures { written result out.new ≡ write (value ∷ []) (written at out.old) }
-{
-    if at < out.len() {
-        out[at] = value;
-        return at + 1;
-    }
-    at
+// Lent bytes or words, and the place among them at which the next one is written.
+#[derive(Drop)]
+pub struct Page<'a, T> {
+    out: &'a mut [T],
+    at: usize,
 }
 
-// Writes a word at a place and gives the place after it. At the end of what is lent nothing is written, and
-// the place stays.
-pub fn word(out: &mut [u64], at: usize, word: u64) -> usize
-    ensures { written result out.new ≡ write (word ∷ []) (written at out.old) }
-{
-    if at < out.len() {
-        out[at] = word;
-        return at + 1;
+impl<'a, T: Copy> Page<'a, T> {
+    // A page of what is lent, from its front on.
+    pub fn new(out: &'a mut [T]) -> Page<'a, T>
+        ensures { result ≡ blank out.entry }
+    {
+        Page { out, at: 0 }
     }
-    at
+
+    // The place, which is the number of items that were written.
+    pub fn end(&self) -> usize
+        ensures { result ≡ self.now.at }
+    {
+        self.at
+    }
+
+    // Writes an item, and goes on to the place after it. At the end of what is lent nothing is written, and
+    // the place stays.
+    #[tactic(auto, using(crate::proofs::Paths::puts, crate::proofs::Paths::stays))]
+    pub fn put(&mut self, item: T)
+        ensures { self.new ≡ with_items (item ∷ []) self.old }
+    {
+        if self.at < self.out.len() {
+            self.out[self.at] = item;
+            self.at += 1;
+        }
+    }
 }

@@ -2,7 +2,6 @@
 use Rattle.focei_records.specs.Records as Records
 use Rattle.focei_fit.proofs.Paths.{whole_counts, few_counts, whole_observations, lends}
 use Rattle.words.proofs.Front.{within}
-use Rattle.words.specs.Written.{written}
 use lib.Seq.{length-take-le}
 use lib.ListN.{replicate, length-replicate}
 use Rattle.std.proofs.Common.{sym}
@@ -38,7 +37,7 @@ fit-requires c = (
 
 pub returns : goal.returns
 returns c =
-    let a = c.args in lends a.input.now a.subjects (written 0 a.out.now) (whole_counts a.input.now (replicate 256 0) a.subjects c.requires.1
+    let a = c.args in lends a.input.now a.subjects a.page.now (whole_counts a.input.now (replicate 256 0) a.subjects c.requires.1
     (length-replicate {A = ℕ} 256 0) c.counts-n.ensures) (whole_observations a.input.now (replicate 1280 0) c.requires.0 (length-replicate {A = ℕ} 1280 0)
     c.observations-m.ensures)
     c.fit.ensures

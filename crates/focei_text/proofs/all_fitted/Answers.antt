@@ -7,8 +7,8 @@ use Rattle.focei_text.proofs.all_fitted.Goals as goal
 pub loop-subject-init : goal.loop-subject-init
 loop-subject-init c = (simp sub-zero, omega arith)
 
-pub fitted_lines-end-requires : goal.fitted_lines-end-requires
-fitted_lines-end-requires c = let low = few_rows _ _ c.rows_of-rows.ensures in (low, omega arith)
+pub fitted_lines-requires : goal.fitted_lines-requires
+fitted_lines-requires c = let low = few_rows _ _ c.rows_of-rows.ensures in (low, omega arith)
 
 pub overflow_mul-word-in-loop-subject : goal.overflow_mul-word-in-loop-subject
 overflow_mul-word-in-loop-subject c = let low = few_rows _ _ c.rows_of-rows.ensures in search rules
@@ -20,7 +20,7 @@ pub loop-subject-preserved : goal.loop-subject-preserved
 loop-subject-preserved c =
     let low = few_rows _ _ c.rows_of-rows.ensures in (
       all_step _ _ _ _ _ _ c.loop-subject-test.true
-          c.rows_of-rows.ensures c.fitted_lines-end.ensures ∙ c.loop-subject.invariant.0,
+          c.rows_of-rows.ensures c.fitted_lines.ensures ∙ c.loop-subject.invariant.0,
       omega arith,
     )
 

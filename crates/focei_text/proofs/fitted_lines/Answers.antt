@@ -10,7 +10,7 @@ loop-i-init c = simp (sub-zero, mul-zero, add-zero)
 pub loop-i-preserved : goal.loop-i-preserved
 loop-i-preserved c =
     fitted_step _ _ _ _ _ _ c.loop-i-test.true (omega arith) c.read-population.ensures
-    c.read-individual.ensures c.fitted_line-end.ensures ∙ c.loop-i.invariant
+    c.read-individual.ensures c.fitted_line.ensures ∙ c.loop-i.invariant
 
 pub returns : goal.returns
 returns c = fitted_end _ _ _ _ _ _ c.loop-i-test.false ∙ c.loop-i.invariant

@@ -7,7 +7,7 @@ pub loop-turn-init : goal.loop-turn-init
 loop-turn-init c = refl
 
 pub loop-turn-preserved : goal.loop-turn-preserved
-loop-turn-preserved c = hex_step _ _ _ _ (omega arith) c.glyph.ensures c.byte-end.ensures ∙ c.loop-turn.invariant
+loop-turn-preserved c = hex_step _ _ _ _ (omega arith) c.glyph.ensures c.put.ensures ∙ c.loop-turn.invariant
 
 pub returns : goal.returns
 returns c = hex_all _ _ (hex_end _ _ _ (omega arith) ∙ c.loop-turn.invariant)

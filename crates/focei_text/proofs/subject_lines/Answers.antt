@@ -8,7 +8,7 @@ pub loop-subject-init : goal.loop-subject-init
 loop-subject-init c = simp sub-zero
 
 pub loop-subject-preserved : goal.loop-subject-preserved
-loop-subject-preserved c = subjects_step _ _ _ _ c.loop-subject-test.true c.read.ensures c.subject_line-end.ensures ∙ c.loop-subject.invariant
+loop-subject-preserved c = subjects_step _ _ _ _ c.loop-subject-test.true c.read.ensures c.subject_line.ensures ∙ c.loop-subject.invariant
 
 pub returns : goal.returns
 returns c = subjects_end _ _ _ _ c.loop-subject-test.false ∙ c.loop-subject.invariant
