@@ -36,7 +36,8 @@ pub const ROWS_FROM: usize = 18;
 pub const HALF: u64 = 4294967296;
 
 // The source's CacheKey (with one effect SubjectKey): the subject, the words of both thetas and both etas,
-// and the optional additive override, with has_additive 0 where there is none. The sign of a zero counts.
+// and the optional additive override, with has_additive 0 where there is none: a key is words, since it is hashed
+// and compared as words. The sign of a zero counts.
 // With one effect the second theta and eta are fixed.
 #[derive(Clone, Copy)]
 pub struct CacheKey {

@@ -24,7 +24,7 @@ use session::{Begun, Called};
 use setup::{Parameters, Setup};
 
 // The setup of a session as a host gives it: `additive` overrides the observations' own deviations where
-// `has_additive`.
+// `has_additive`, a flag since C has no Option.
 #[repr(C)]
 #[derive(Clone, Copy)]
 pub struct SessionSetup {
@@ -44,7 +44,7 @@ pub struct SessionSetup {
 }
 
 // The parameters of an objective as a host gives them: theta, the second theta with two effects, and with one
-// effect omega and an additive override where `has_additive`.
+// effect omega and an additive override where `has_additive`, a flag since C has no Option.
 #[repr(C)]
 #[derive(Clone, Copy)]
 pub struct SessionParameters {
@@ -55,7 +55,8 @@ pub struct SessionParameters {
     pub additive: f64,
 }
 
-// What a call gives back beside the words: document 01's number, 0 where nothing is refused, and the tally.
+// What a call gives back beside the words: document 01's number as C gets it, 0 where nothing is refused, and the
+// tally.
 #[derive(Clone, Copy)]
 pub struct Done {
     pub number: u32,

@@ -40,7 +40,7 @@ impl From<[f64; 2]> for Pair {
     }
 }
 
-// The source's Matrix, where a struct holds one: its entries by row and column. With an array in its place every
+// The source's Matrix, where a struct holds one (the claims name its entries): its entries by row and column. With an array in its place every
 // function over an enum that holds such a struct would be a proof by hand. Wherever a matrix is summed, inverted
 // or multiplied it is an array.
 #[derive(Clone, Copy)]

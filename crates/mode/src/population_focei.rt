@@ -20,7 +20,8 @@ pub struct Settings {
     pub warm: f64,
 }
 
-// One evaluated point, the source's Conditional without its rows. Its score has the prior's eta / omega
+// One evaluated point, the source's Conditional without its rows. (Conditional2 is a type of its own, as in the
+// source, since each is read beside its own file.) Its score has the prior's eta / omega
 // added.
 #[derive(Clone, Copy)]
 pub struct Conditional {

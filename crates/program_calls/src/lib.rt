@@ -97,7 +97,7 @@ pub fn add_words(
     subject::runs::add_run(run, from, to, evaluation, trial, reply, work)
 }
 
-// ---- the calls
+// ---- the calls: each checks the observations in words and hands on what its own call of session_calls takes
 
 // Setup: opens a session where 1 to 5 pass; tally, kept, work and warm words are zeroed.
 pub fn open(

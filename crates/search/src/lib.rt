@@ -64,7 +64,8 @@ pub enum SubjectSearch {
 
 // Where an objective stands: whether a reply is awaited, and then the individual values that were asked for;
 // the subject, the number of its first observation among all, its warm start and its search; the objective's
-// sum so far, and the sum of the squares of eta.
+// sum so far, and the sum of the squares of eta. The individual values stay once they are answered, and the
+// state's words keep them: so the flag stands beside them.
 #[derive(Clone, Copy)]
 pub struct Progress {
     pub awaits: bool,

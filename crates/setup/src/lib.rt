@@ -61,7 +61,8 @@ pub struct Counts {
 // The answer of the checks: accepted, or why not.
 pub type Admission = Result<(), AdmissionError>;
 
-// Why the checks refuse: document 01's number; or, with 4, the place of an observation.
+// Why the checks refuse: document 01's number, which is the only name of a refusal there; or, with 4, the place
+// of an observation.
 #[derive(Clone, Copy)]
 pub enum AdmissionError {
     Refused(u32),

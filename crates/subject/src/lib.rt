@@ -47,8 +47,8 @@ pub struct Sums {
 // another thing: the result of a whole objective.)
 pub type Evaluation = Result<Sums, EvaluationError>;
 
-// Why an evaluation is refused: document 01's number (8, 9, 12), and for an observation (10, 11, 12) its number
-// within the subject too.
+// Why an evaluation is refused: document 01's number (8, 9, 12), which is the only name of a refusal there, and
+// for an observation (10, 11, 12) its number within the subject too.
 #[derive(Clone, Copy)]
 pub enum EvaluationError {
     Refused(u32),

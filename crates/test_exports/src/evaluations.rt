@@ -10,7 +10,7 @@ use matrix::Pair;
 use subject::{Check, Evaluation, EvaluationError, Sums, Trial};
 
 // The question that a reply answers: the subject's observations are those from `from` up to, but without,
-// `to`; `additive` overrides their own where `has_additive`; the trial block of the work words begins at word
+// `to`; `additive` overrides their own where `has_additive` (C has no Option); the trial block of the work words begins at word
 // `block`.
 #[repr(C)]
 #[derive(Clone, Copy)]
