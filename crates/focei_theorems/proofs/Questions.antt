@@ -9,6 +9,7 @@ use lib.ListN.{length}
 use Rattle.matrix.specs.declared.Pair.{Pair}
 use Rattle.search.specs.Subjects.{refusal}
 use Rattle.search.specs.declared.Place.{Place}
+use Rattle.search.specs.declared.Refusal.{Refusal}
 use Rattle.search.specs.declared.Step.{Step}
 use Rattle.search.specs.declared.Step.TheVariants.{Asked, Finished, Refused}
 use Rattle.machine.specs.Machine.{Ran, call}
@@ -64,7 +65,7 @@ module _ (counts observations : List ℕ) (c : Call) (h : Held words) where
   refuses number place e = by comes_to
     where
       by : Done settings counts h gives.answer gives.state → number ≤ 19
-      by (inl k) = let both = sym k.answer ∙ e in let same : k.number ≡ number = cc in subst (λ (n : ℕ). n ≤ 19) same (few_numbers k.number k.unaltering)
+      by (inl k) = let both = sym k.answer ∙ e in let same : refusal k.number k.place ≡ refusal number place = cc in subst (λ (why : Refusal). why.number ≤ 19) same (few_numbers k.number k.unaltering)
       by (inr g) = let r : says (Refused (refusal number place)) = subst says e g.says in let high = r.1.number.1 in omega (arith, high)
 
 -- ---- question and answer to the end: Q is what is known of a call when it is made, and G what is known of its answer then

@@ -126,11 +126,10 @@ module _ (setup : Setup) (counts : List ℕ) where
     Follows (halt x t) = Unwritten setup counts ref x t
 
     follows : (h t : Held words) (x : Step) → Same h t → Rest h → Answers_at h x t → Unwritten setup counts ref x t
-    unfolding Answers_at
+    unfolding Answers_at About
     follows h t x e f q = unwritten x q
       where
         by_place : (number : ℕ) (place : Place) → About h place → StaysBy setup counts number place ref t
-        unfolding About
         by_place number At.Nowhere q = absurd q
         by_place number (At.Subject i) q = refused_at number i ref t (subst (λ (i : ℕ). Stays setup counts i i ref t) (sym q) (stays _ _ ref h t e f))
         by_place number (At.Observation i n) q = refused_at number i ref t (subst (λ (i : ℕ). Stays setup counts i i ref t) (sym q) (stays _ _ ref h t e f))
@@ -171,7 +170,7 @@ module _ (setup : Setup) (counts : List ℕ) where
       closes (Break x) work warm results e = e work
 
       refuses : (tally : Tally) (number : ℕ) → Ends (Break (B.refused_by p tally (B.refusal number (At.Subject j)))) w.warm w.results
-      unfolding Ends B.refused_by Answers_at
+      unfolding Ends B.refused_by Answers_at About
       refuses tally number work = follows h _ (Answers.Refused (B.refusal number (At.Subject j))) (record { warm = refl; results = refl }) f refl
 
       asks : (tally : Tally) (eta : Pair) (v : Answer Pair) → Ends (Break (B.ask_for p tally eta v)) w.warm w.results
