@@ -5,7 +5,8 @@
 #![tactic(auto)]
 
 ghost use Rattle.std.specs.Prelude.{◌≡◌};
-ghost use Rattle.search.specs.Subjects.{fit_with, fit2, fit_in, one_of, two_of, first_search, begin_subject, idle, refusal, refused_by, is_over};
+ghost use Rattle.search.specs.Subjects.{fit_with, fit2, fit_in, one_of, two_of, first_search, begin_subject};
+ghost use Rattle.search.specs.Subjects.{idle, refusal, refused_by, is_over};
 ghost use Rattle.search.specs.declared.Place.TheVariants.{Subject};
 
 pub mod objective;
