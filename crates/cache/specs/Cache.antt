@@ -1,6 +1,7 @@
 -- What the functions of this crate compute, over the list of the lent words: the layout and `find` (lib.rt), then `entries`, then
 -- `keeping`.
-use Rattle.std.specs.Prelude.{ℕ, zero, suc, ◌+◌, ◌-◌, ◌*◌, ◌/◌, ◌%◌, ◌^◌, Bool, false, List, [], ◌∷◌, length, set, ◌==◌, bit_or, nat_lt, slice_index, slice_set, None, Option, Some}
+use Rattle.std.specs.Prelude.{ℕ, zero, suc, ◌+◌, ◌-◌, ◌*◌, ◌/◌, ◌%◌, ◌^◌, Bool, false, List, [], ◌∷◌, length, set, ◌==◌, bit_or, nat_lt}
+use Rattle.std.specs.Prelude.{slice_index, slice_set, None, Option, Some}
 use Rattle.float64.specs.Pick.{pick}
 use Rattle.cache.specs.declared.CacheKey.{CacheKey}
 use Rattle.cache.specs.declared.CachedTerms.{CachedTerms}
@@ -199,7 +200,8 @@ raised first_row next_row n = pick (nat_lt n (next_row - first_row)) (first_row 
 unfoldable pub evict : ℕ → List ℕ → ℕ → ℕ → ℕ → ℕ → ℕ → ℕ → CacheOrder
 evict zero w k room next next_row oldest first_row = order oldest next next_row next_row
 evict (suc n) w k room next next_row oldest first_row =
-    pick (nat_lt room (next_row - first_row)) (evict n w k room next next_row (oldest + 1) (raised first_row next_row (count_of w k oldest)))
+    pick (nat_lt room (next_row - first_row))
+    (evict n w k room next next_row (oldest + 1) (raised first_row next_row (count_of w k oldest)))
     (order oldest next first_row next_row)
 
 -- n words of v, from word `from` + i on, around the ring of c words at base, word `from` at x

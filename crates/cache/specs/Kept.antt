@@ -1,6 +1,7 @@
 -- Document 01's kept evaluations: the list of entries that the words stand for, the oldest first; and what the source's HashMap and
 -- VecDeque do with such a list.
-use Rattle.std.specs.Prelude.{◌≡◌, ℕ, zero, suc, ◌+◌, ◌-◌, ◌*◌, ◌<◌, ◌≤◌, true, List, [], ◌∷◌, ◌++◌, length, ◌≢◌, nat_lt, slice_index, None, Some, Option}
+use Rattle.std.specs.Prelude.{◌≡◌, ℕ, zero, suc, ◌+◌, ◌-◌, ◌*◌, ◌<◌, ◌≤◌, true, List, [], ◌∷◌, ◌++◌, length, ◌≢◌, nat_lt, slice_index}
+use Rattle.std.specs.Prelude.{None, Some, Option}
 use Rattle.float64.specs.Pick.{pick}
 use Rattle.cache.specs.declared.CacheKey.{CacheKey}
 use Rattle.cache.specs.declared.CachedTerms.{CachedTerms}

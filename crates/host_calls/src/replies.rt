@@ -25,8 +25,8 @@ pub fn subject_first(state: &mut [u64]) -> Check
 }
 
 // The first part of a reply, lent so many observations and words: of one that lends the observations of the
-// awaited subject `alone`, or those of all subjects; the two are known, and each has one call for C. It answers whether the reply is accepted, and the
-// evaluation that begins with it. The state is only read.
+// awaited subject `alone`, or those of all subjects; the two are known, and each has one call for C. It answers
+// whether the reply is accepted, and the evaluation that begins with it. The state is only read.
 pub fn admit(
     setup: SessionSetup,
     tally: Tally,

@@ -40,9 +40,8 @@ impl From<[f64; 2]> for Pair {
     }
 }
 
-// The source's Matrix, where a struct holds one (the claims name its entries): its entries by row and column. With an array in its place every
-// function over an enum that holds such a struct would be a proof by hand. Wherever a matrix is summed, inverted
-// or multiplied it is an array.
+// The source's Matrix, where a struct holds one: its entries by row and column, which the claims name. Wherever a
+// matrix is summed, inverted or multiplied it is an array.
 #[derive(Clone, Copy)]
 pub struct Matrix {
     pub m00: f64,

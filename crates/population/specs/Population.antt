@@ -1,5 +1,6 @@
 -- A step of an objective, over any store of kept evaluations S.
-use Rattle.std.specs.Prelude.{ℕ, ◌+◌, ◌*◌, ◌%◌, ◌^◌, Bool, false, List, length, ◌==◌, nat_lt, slice_index, slice_index_or, slice_set, to_bits, Option, None, Some}
+use Rattle.std.specs.Prelude.{ℕ, ◌+◌, ◌*◌, ◌%◌, ◌^◌, Bool, false, List, length, ◌==◌, nat_lt, slice_index, slice_index_or, slice_set}
+use Rattle.std.specs.Prelude.{to_bits, Option, None, Some}
 use Rattle.std.specs.Float.{binary64}
 use Rattle.float64.specs.Arithmetic.{◌+ᶠ◌, ◌*ᶠ◌, word}
 use Rattle.float64.specs.Pick.{pick}
@@ -39,7 +40,8 @@ warm_of warm effects subject =
 
 unfoldable pub warm_stored : ℕ → ℕ → Pair → List ℕ → List ℕ
 warm_stored effects subject eta warm =
-    pick (effects == 2) (slice_set (slice_set warm (2 * subject) (to_bits binary64 eta.first)) (2 * subject + 1) (to_bits binary64 eta.second))
+    pick (effects == 2)
+    (slice_set (slice_set warm (2 * subject) (to_bits binary64 eta.first)) (2 * subject + 1) (to_bits binary64 eta.second))
     (slice_set warm subject (to_bits binary64 eta.first))
 
 -- ---- a point

@@ -115,7 +115,8 @@ through_from fit rows kept n hand progress work =
 
 -- searches X by settings S take what is in hand, and want, what they do as the objective's
 pub record Alike (S X : Type 0) (is_of : S → Fit → Progress → Type 0) (own : SubjectSearch → X)
-    (among : X → SubjectSearch) (alone : S → Fit → ℕ → Option Evaluated → X → List ℕ → Worked X) (wants : S → X → Request Pair) : Type 0 where
+    (among : X → SubjectSearch) (alone : S → Fit → ℕ → Option Evaluated → X → List ℕ → Worked X) (wants : S → X → Request Pair)
+    : Type 0 where
   pub takes : (s : S) (fit : Fit) (p : Progress) → is_of s fit p → (rows : ℕ) (hand : Option Evaluated) (x : X) (work : List ℕ)
       → let t = alone s fit rows hand x work in
       worked (B.with_search p (among t.value)) t.work ≡ taken fit rows hand (B.with_search p (among x)) work

@@ -16,7 +16,7 @@ use Rattle.setup.specs.declared.Lent.{Lent}
 use Rattle.setup.specs.declared.Parameters.{Parameters}
 use Rattle.setup.specs.declared.Setup.{Setup}
 use Rattle.cache.specs.declared.CacheOrder.{CacheOrder}
-use Rattle.search.specs.Subjects.{fit_in, fit_of, wanted_by, idle, begin_subject}
+use Rattle.search.specs.Subjects.{fit_in, fit_of, wanted_by, idle, begin_subject, refusal}
 use Rattle.search.specs.declared.Fit.{Fit}
 use Rattle.search.specs.declared.Place.TheVariants as At
 use Rattle.search.specs.declared.Tally.{Tally}
@@ -107,9 +107,10 @@ opening_judged setup counts lent tally cache work warm results passes =
     begun_with (record { opening = Ok (state_of h); tally = h.whole.tally }) h.whole.kept.words h.whole.work
     h.whole.warm
 opening_judged setup counts lent tally cache work warm results (fails number) =
-    begun_with (record { opening = Err (record { number = number; place = At.Nowhere }); tally = tally }) cache work warm
+    begun_with (record { opening = Err (refusal number At.Nowhere); tally = tally }) cache work warm
 opening_judged setup counts lent tally cache work warm results (fails_at number at) =
-    begun_with (record { opening = Err (record { number = number; place = At.Observation at.subject at.observation }); tally = tally }) cache work warm
+    let place = At.Observation at.subject at.observation in
+    begun_with (record { opening = Err (refusal number place); tally = tally }) cache work warm
 
 unfoldable pub opening : Setup → List ℕ → Lent → Tally → List ℕ → List ℕ → List ℕ → List ℕ → Admission → Setting
 opening setup counts lent tally cache work warm results admission =

@@ -3,7 +3,8 @@
 // for all values.
 ghost use Rattle.std.specs.Prelude.{◌≡◌, ◌+◌, length};
 ghost use Rattle.words.specs.Words.{smaller};
-ghost use Rattle.session.specs.Calls.{stands, admit_objective, awaited_point, unawaited, awaited_for, admit_awaited, trial_by, nothing_admitted};
+ghost use Rattle.session.specs.Calls.{stands, admit_objective, awaited_point, unawaited, awaited_for, admit_awaited, trial_by};
+ghost use Rattle.session.specs.Calls.{nothing_admitted};
 ghost use Rattle.session.specs.Calls.{unadmitted, admitted_over, admit_reply};
 ghost use Rattle.session.specs.Session.{count_within, search_within, search_within2, is_placed};
 ghost use Rattle.session.specs.SubjectReply.{admit_subject_reply};

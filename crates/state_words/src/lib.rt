@@ -5,7 +5,8 @@
 // 14 the kept evaluations' oldest, next, first_row and next_row;
 // 18 how many effects the search has, 1 or 2; 19 its twenty words (`one_effect`) and five zeros, which are not
 //    looked at again, or its twenty-five (`two_effects`).
-// A float is its word, and a bool is 1 or 0. The layout is what is promised, so each word is written out. Each public function is defined for all words and states.
+// A float is its word, and a bool is 1 or 0. The layout is what is promised, so each word is written
+// out. Each public function is defined for all words and states.
 #![tactic(auto)]
 
 ghost use Rattle.std.specs.Prelude.{◌≡◌, ◌+◌, ◌≤◌, ◌<◌, length};
