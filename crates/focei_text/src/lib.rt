@@ -227,6 +227,7 @@ fn subjects_of(counts: &[u64]) -> usize
 
 // Writes the lines of a finished objective: `O` with the objective and the evaluations, an `S` line with the
 // eta of each subject, an `F` line with the predictions of each observation, and `H` with the shrinkage.
+#[tactic(auto, using(crate::proofs::Paths::few_subjects, words::proofs::Pages::with_append), unfolding(crate::specs::Report::finished))]
 pub fn finished(
     page: &mut Page<u8>,
     objective: f64,
