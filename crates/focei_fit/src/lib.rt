@@ -239,7 +239,6 @@ fn lend(page: &mut Page<u8>, input: &[u8], subjects: usize)
 
 // Writes what the program prints of its input, as much of it as `out` has room for, and gives the length of
 // what was written. With room for `LONGEST_TEXT` bytes that is the whole text.
-#[tactic(auto, unfolding(crate::specs::Output::output, crate::specs::Output::when_records, focei_records::specs::Records::answer, words::specs::Page::with_items))]
 pub fn write_text(input: &[u8], out: &mut [u8]) -> usize
     ensures { written result out.new ≡ write (output input.now) (written 0 out.old) }
 {

@@ -1,21 +1,22 @@
 -- The ways through the code: one law for each, over plain variables. Assumes nothing.
-use mathlib.Core.Path.{◌≡◌, refl, sym, ap, ◌∙◌}
-use mathlib.Core.List.{List, [], ◌∷◌, ◌++◌}
+use mathlib.Core.Path.{◌≡◌, sym, ap, ◌∙◌}
+use mathlib.Core.List.{List, [], ◌∷◌}
 use Prim.Native.Nat.{ℕ, suc, ◌+◌, ◌-◌, ◌*◌, ◌≤◌, ◌<◌}
 use native.Mathlib.Omega.{arith}
 use borrow.Author.Tests.{ltb-true}
 use lib.Dec.{ltb}
-use lib.Ieee.{Float}
-use lib.ListN.{get_or, length}
+use lib.ListN.{get_or, length, drop}
+use Rattle.std.proofs.Common.{map}
+use Rattle.std.proofs.lemmas.List.{at_drop_more, at_drop_all}
 use Rattle.float64.specs.Pick.{pick, cases}
 use Rattle.words.specs.Written.{write}
 use Rattle.words.specs.Page.{with_items}
 use Rattle.words.specs.declared.Page.{Page}
 use Rattle.words.proofs.Pages.{with_append}
-use Rattle.work.specs.Work.{most_rows, most_subjects}
+use Rattle.work.specs.Work.{most_rows}
 use Rattle.population.specs.Population.{rows_of}
-use Rattle.focei_text.specs.Report.{line, fields, objective_line, subject_line, fitted_line, shrinkage_line, subject_lines, fitted_lines, all_fitted}
-use Rattle.focei_text.specs.Report.{subjects_of, finished}
+use Rattle.focei_text.specs.declared.Field.{Field}
+use Rattle.focei_text.specs.Report.{shown, fields, subject_line, fitted_line, subject_lines, fitted_lines, all_fitted}
 
 -- ---- what is left of n turns after i
 none_left : (n i : ℕ) → n ≤ i → 0 ≡ n - i
@@ -24,23 +25,19 @@ none_left n i h = omega arith
 one_more : (n i : ℕ) → i < n → suc (n - (i + 1)) ≡ n - i
 one_more n i h = omega arith
 
--- ---- one text after another
-pub after : {t₁ t₂ : Page ℕ} (a b : List ℕ) (t : Page ℕ) → t₁ ≡ with_items a t → t₂ ≡ with_items b t₁ → t₂ ≡ with_items (a ++ b) t
-after a b t e f = f ∙ ap (with_items b) e ∙ sym (with_append a b t)
+-- ---- the fields of a line, at field i
+module _ (xs : List Field) (i : ℕ) (p : Page ℕ) where
+  pub fields_step : {p' : Page ℕ} (d : Field) → i < length xs → p' ≡ with_items (32 ∷ shown (get_or xs i d)) p → with_items (fields (map shown (drop (i + 1) xs))) p' ≡ with_items
+      (fields (map shown (drop i xs))) p
+  unfolding fields
+  fields_step d h e =
+      ap (with_items (fields (map shown (drop (i + 1) xs)))) e
+      ∙ sym (with_append (32 ∷ shown (get_or xs i d)) (fields (map shown (drop (i + 1) xs))) p)
+      ∙ sym (at_drop_more (λ (l : List Field). with_items (fields (map shown l)) p) xs i d h)
 
--- ---- a line is its letter, then each field after its space, then its end
-abbrev fields_told : List (List ℕ) → Page ℕ → Page ℕ
-fields_told [] t = with_items (10 ∷ []) t
-fields_told (f ∷ fs) t = fields_told fs (with_items (32 ∷ f) t)
-
-each_told : (fs : List (List ℕ)) (t : Page ℕ) → with_items (fields fs) t ≡ fields_told fs t
-unfolding fields
-each_told [] t = refl
-each_told (f ∷ fs) t = with_append (32 ∷ f) (fields fs) t ∙ each_told fs (with_items (32 ∷ f) t)
-
-pub line_told : (x : ℕ) (fs : List (List ℕ)) (t : Page ℕ) → with_items (line x fs) t ≡ fields_told fs (with_items (x ∷ []) t)
-unfolding line
-line_told x fs t = with_append (x ∷ []) (fields fs) t ∙ each_told fs (with_items (x ∷ []) t)
+  pub fields_end : {p' : Page ℕ} → length xs ≤ i → p' ≡ with_items (10 ∷ []) p → p' ≡ with_items (fields (map shown (drop i xs))) p
+  unfolding fields
+  fields_end h e = e ∙ sym (at_drop_all (λ (l : List Field). with_items (fields (map shown l)) p) xs i h)
 
 -- ---- n subjects, at subject s; eta is its word
 module _ (n s : ℕ) (results : List ℕ) (t : Page ℕ) where
@@ -90,24 +87,3 @@ few_rows counts s e =
     let m = get_or counts s 0 in
     let low : pick (ltb m most_rows) m most_rows ≤ 100000 = cases (λ (k : ℕ). k ≤ 100000) (ltb m most_rows) (λ q. omega (arith, ltb-true)) (λ q. omega arith) in
     omega arith
-
--- ---- the number of subjects
-module _ (counts : List ℕ) where
-  pub few_subjects : {n : ℕ} → n ≡ subjects_of counts → n ≤ 4096
-  unfolding subjects_of
-  few_subjects e =
-      let low : pick (ltb (length counts) most_subjects) (length counts) most_subjects ≤ 4096 = cases (λ (k : ℕ). k ≤ 4096) (ltb (length counts) most_subjects) (λ q. omega (arith, ltb-true))
-      (λ q. omega arith) in
-      omega arith
-
-pub all_told : {n : ℕ} {t₁ t₂ t₃ t₄ : Page ℕ} (objective : Float) (evaluations : ℕ) (shrinkage : Float) (counts results : List ℕ) (t : Page ℕ) → n ≡ subjects_of counts → t₁ ≡ with_items
-    (objective_line objective evaluations) t
-    → t₂ ≡ with_items (subject_lines n 0 results) t₁ → t₃ ≡ with_items (all_fitted n 0 (3 * n) counts results) t₂ → t₄ ≡ with_items (shrinkage_line shrinkage) t₃ → t₄ ≡ with_items
-    (finished objective evaluations shrinkage counts results) t
-unfolding finished
-all_told {t₁ = t₁} {t₂ = t₂} objective evaluations shrinkage counts results t e e₁ e₂ e₃ e₄ =
-    after _ _ t
-    (after _ _ t
-    (after _ _ t e₁ (e₂ ∙ ap (λ (m : ℕ). with_items (subject_lines m 0 results) t₁) e))
-    (e₃ ∙ ap (λ (m : ℕ). with_items (all_fitted m 0 (3 * m) counts results) t₂) e))
-    e₄

@@ -7,6 +7,8 @@ use Rattle.work.specs.Work.{most_subjects, result_words, fitted_words}
 use Rattle.search.specs.declared.Place.{Place}
 use Rattle.search.specs.declared.Place.TheVariants.{Nowhere, Subject, Observation}
 use Rattle.population.specs.Population.{rows_of}
+use Rattle.focei_text.specs.declared.Field.{Field}
+use Rattle.focei_text.specs.declared.Field.TheVariants.{Word, Number, Missing}
 use Rattle.focei_text.specs.Writing.{decimal, hexadecimal}
 
 -- a space before each field, and a newline
@@ -20,6 +22,12 @@ line letter fs = letter ∷ fields fs
 -- a hyphen
 abbrev pub none : List ℕ
 none = 45 ∷ []
+
+-- what is written of a field of the code's
+unfoldable pub shown : Field → List ℕ
+shown (Word w) = hexadecimal w
+shown (Number n) = decimal n
+shown Missing = none
 
 -- ---- R: number, subject, observation
 

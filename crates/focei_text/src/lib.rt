@@ -4,11 +4,11 @@
 // off. Each public function is defined for all values and words.
 #![tactic(auto)]
 
-ghost use Rattle.std.specs.Prelude.{◌≡◌, [], ◌∷◌, ◌<◌, ◌*◌, ◌≤◌};
+ghost use Rattle.std.specs.Prelude.{◌≡◌, [], ◌∷◌, ◌<◌, ◌*◌, ◌≤◌, map};
 ghost use Rattle.work.specs.Work.{result_words};
 ghost use Rattle.words.specs.Page.{with_items};
 ghost use Rattle.focei_text.specs.Writing.{glyph, hexadecimal, digits, decimal};
-ghost use Rattle.focei_text.specs.Report.{none, subject_field, observation_field, objective_line, subject_line, fitted_line};
+ghost use Rattle.focei_text.specs.Report.{shown, line, subject_field, observation_field, objective_line, subject_line, fitted_line};
 ghost use Rattle.focei_text.specs.Report.{shrinkage_line, refusal_line, subject_lines, fitted_lines, all_fitted, subjects_of, finished};
 
 use search::Place;
@@ -62,90 +62,97 @@ pub fn decimal(page: &mut Page<u8>, value: u64)
     digits(page, 20, value);
 }
 
-// ---- fields
+// ---- lines
 
-#[tactic(auto, using(words::proofs::Pages::with_first))]
-fn hexadecimal_field(page: &mut Page<u8>, word: u64)
-    ensures { page.new ≡ with_items (32 ∷ hexadecimal word) page.old }
-{
-    page.put(b' ');
-    hexadecimal(page, word);
+// A field of a line: a word in hexadecimal, a number in decimal, or a hyphen.
+#[derive(Clone, Copy)]
+enum Field {
+    Word(u64),
+    Number(usize),
+    Missing,
 }
 
-#[tactic(auto, using(words::proofs::Pages::with_first))]
-fn decimal_field(page: &mut Page<u8>, number: usize)
-    ensures { page.new ≡ with_items (32 ∷ decimal number) page.old }
+// Writes a field after its space.
+#[tactic(auto, using(words::proofs::Pages::with_first), unfolding(crate::specs::Report::shown))]
+fn write_field(page: &mut Page<u8>, field: Field)
+    ensures { page.new ≡ with_items (32 ∷ shown field) page.old }
 {
     page.put(b' ');
-    decimal(page, number as u64);
+    match field {
+        Field::Word(word) => hexadecimal(page, word),
+        Field::Number(number) => decimal(page, number as u64),
+        Field::Missing => page.put(b'-'),
+    }
 }
 
-#[tactic(auto, using(words::proofs::Pages::with_first))]
-fn no_field(page: &mut Page<u8>)
-    ensures { page.new ≡ with_items (32 ∷ none) page.old }
+// Writes a line: its letter, its fields, and a newline.
+fn line(page: &mut Page<u8>, letter: u8, fields: &[Field])
+    ensures { page.new ≡ with_items (line letter (map shown fields.now)) page.old }
 {
-    page.put(b' ');
-    page.put(b'-');
+    page.put(letter);
+    for field in fields {
+        write_field(page, *field);
+    }
+    page.put(b'\n');
 }
 
 // ---- a refusal
 
-#[tactic(auto, unfolding(crate::specs::Report::subject_field))]
-fn subject_field(page: &mut Page<u8>, place: Place)
-    ensures { page.new ≡ with_items (32 ∷ subject_field place) page.old }
+#[tactic(auto, unfolding(crate::specs::Report::shown, crate::specs::Report::subject_field))]
+fn subject_field(place: Place) -> Field
+    ensures { shown result ≡ subject_field place }
 {
     match place {
-        Place::Nowhere => no_field(page),
-        Place::Subject(subject) | Place::Observation(subject, _) => decimal_field(page, subject),
+        Place::Nowhere => Field::Missing,
+        Place::Subject(subject) | Place::Observation(subject, _) => Field::Number(subject),
     }
 }
 
-#[tactic(auto, unfolding(crate::specs::Report::observation_field))]
-fn observation_field(page: &mut Page<u8>, place: Place)
-    ensures { page.new ≡ with_items (32 ∷ observation_field place) page.old }
+#[tactic(auto, unfolding(crate::specs::Report::shown, crate::specs::Report::observation_field))]
+fn observation_field(place: Place) -> Field
+    ensures { shown result ≡ observation_field place }
 {
     match place {
-        Place::Nowhere | Place::Subject(_) => no_field(page),
-        Place::Observation(_, observation) => decimal_field(page, observation),
+        Place::Nowhere | Place::Subject(_) => Field::Missing,
+        Place::Observation(_, observation) => Field::Number(observation),
     }
 }
 
 // Writes the `R` line of a refusal: document 01's number, the subject and the observation, with a hyphen for
 // what it has not.
-#[tactic(auto, using(crate::proofs::ReportPaths::line_told), unfolding(crate::specs::Report::refusal_line))]
+#[tactic(auto, unfolding(crate::specs::Report::shown, crate::specs::Report::refusal_line))]
 pub fn refused(page: &mut Page<u8>, number: u32, place: Place)
     ensures { page.new ≡ with_items (refusal_line number place) page.old }
 {
-    page.put(b'R');
-    decimal_field(page, number as usize);
-    subject_field(page, place);
-    observation_field(page, place);
-    page.put(b'\n');
+    let fields = [
+        Field::Number(number as usize),
+        subject_field(place),
+        observation_field(place),
+    ];
+    line(page, b'R', &fields);
 }
 
 // ---- a finished objective
 
-#[tactic(auto, using(crate::proofs::ReportPaths::line_told), unfolding(crate::specs::Report::objective_line))]
+#[tactic(auto, unfolding(crate::specs::Report::shown, crate::specs::Report::objective_line))]
 fn objective_line(page: &mut Page<u8>, objective: f64, evaluations: u32)
     ensures { page.new ≡ with_items (objective_line objective evaluations) page.old }
 {
-    page.put(b'O');
-    hexadecimal_field(page, float64::to_word(objective));
-    decimal_field(page, evaluations as usize);
-    page.put(b'\n');
+    let fields = [
+        Field::Word(float64::to_word(objective)),
+        Field::Number(evaluations as usize),
+    ];
+    line(page, b'O', &fields);
 }
 
-#[tactic(auto, using(crate::proofs::ReportPaths::line_told), unfolding(crate::specs::Report::subject_line))]
+#[tactic(auto, unfolding(crate::specs::Report::shown, crate::specs::Report::subject_line))]
 fn subject_line(page: &mut Page<u8>, subject: usize, eta: u64)
     ensures { page.new ≡ with_items (subject_line subject eta) page.old }
 {
-    page.put(b'S');
-    decimal_field(page, subject);
-    hexadecimal_field(page, eta);
-    page.put(b'\n');
+    line(page, b'S', &[Field::Number(subject), Field::Word(eta)]);
 }
 
-#[tactic(auto, using(crate::proofs::ReportPaths::line_told), unfolding(crate::specs::Report::fitted_line))]
+#[tactic(auto, unfolding(crate::specs::Report::shown, crate::specs::Report::fitted_line))]
 fn fitted_line(
     page: &mut Page<u8>,
     subject: usize,
@@ -156,21 +163,20 @@ fn fitted_line(
     ensures { page.new
         ≡ with_items (fitted_line subject observation population individual) page.old }
 {
-    page.put(b'F');
-    decimal_field(page, subject);
-    decimal_field(page, observation);
-    hexadecimal_field(page, population);
-    hexadecimal_field(page, individual);
-    page.put(b'\n');
+    let fields = [
+        Field::Number(subject),
+        Field::Number(observation),
+        Field::Word(population),
+        Field::Word(individual),
+    ];
+    line(page, b'F', &fields);
 }
 
-#[tactic(auto, using(crate::proofs::ReportPaths::line_told), unfolding(crate::specs::Report::shrinkage_line))]
+#[tactic(auto, unfolding(crate::specs::Report::shown, crate::specs::Report::shrinkage_line))]
 fn shrinkage_line(page: &mut Page<u8>, shrinkage: f64)
     ensures { page.new ≡ with_items (shrinkage_line shrinkage) page.old }
 {
-    page.put(b'H');
-    hexadecimal_field(page, float64::to_word(shrinkage));
-    page.put(b'\n');
+    line(page, b'H', &[Field::Word(float64::to_word(shrinkage))]);
 }
 
 // Eta of every subject: the results have three words for each.
@@ -221,6 +227,7 @@ fn subjects_of(counts: &[u64]) -> usize
 
 // Writes the lines of a finished objective: `O` with the objective and the evaluations, an `S` line with the
 // eta of each subject, an `F` line with the predictions of each observation, and `H` with the shrinkage.
+#[tactic(auto, using(crate::proofs::Paths::few_subjects, words::proofs::Pages::with_append), unfolding(crate::specs::Report::finished))]
 pub fn finished(
     page: &mut Page<u8>,
     objective: f64,

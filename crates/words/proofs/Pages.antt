@@ -7,10 +7,6 @@ use Rattle.words.specs.declared.Page.{Page}
 use Rattle.words.proofs.Front.{write_append}
 
 module _ {A : Type 0} where
-  pub with_none : (p : Page A) → with_items [] p ≡ p
-  unfolding with_items write
-  with_none p = refl
-
   pub with_first : (x : A) (xs : List A) (p : Page A) → with_items (x ∷ xs) p ≡ with_items xs (with_items (x ∷ []) p)
   unfolding with_items write
   with_first x xs p = refl
