@@ -70,7 +70,8 @@ fn first_parameters() -> Parameters
     }
 }
 
-// The answer to a question: the simulator's rows of the subject that is searched.
+// The answer to a question: the simulator's rows of the subject that is searched. (That the input is no longer than
+// 256 records is asked of each of these, since the public function hands it on as it was lent.)
 fn answer(
     input: &[u8],
     at: Called,

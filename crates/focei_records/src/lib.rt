@@ -36,6 +36,7 @@ fn word_at(input: &[u8], at: usize) -> u64
     u64::from(half_at(input, at)) + 4294967296 * u64::from(half_at(input, at + 4))
 }
 
+// Of record i, which must be there: the bytes are lent as they were read, and what reads them has counted them.
 #[tactic(auto, unfolding(crate::specs::Records::subject_at))]
 fn subject_at(input: &[u8], i: usize) -> usize
     requires { i < length input.now / 48 }

@@ -1,7 +1,7 @@
 // Setup, new objective and failure with the state and the answer as words (see lib.rt). The tally goes by
 // value here, and of the observations there is what was found of them. Each function is defined for all
 // values and words. Words that are no state are refused with 19, and so is a setup that is lent too few for
-// one.
+// one. The three are alike but for the call that each hands on, with what that call takes.
 ghost use Rattle.std.specs.Prelude.{◌≡◌};
 ghost use Rattle.host_calls.specs.Hosting.{setup_of, parameters_of, out, open_with, objective_with, failure_with};
 

@@ -259,6 +259,7 @@ fn through_kept_by<S: Searching>(
     let mut search = S::own(start.search);
     let mut left = fuel;
     let mut given = hand;
+    // not over a range: what is left of the requests is part of the answer
     'kept: loop {
         search = settings.take(fit, rows, given, search, work);
         let wanted = settings.wanted(search);

@@ -2,7 +2,8 @@
 // lent words: subject after subject, a search asks for points, kept evaluations or replies answer it, and its
 // mode is added to the objective. Here are the counts and the warm starts in lent words, and what is done
 // with a mode; `kept_points` takes a search through kept evaluations, `answers` keeps a reply, and `steps`
-// has the loop over the requests. Each function is defined for all values and words.
+// has the loop over the requests. What is lent goes as slices through every call, since which of them a call may
+// write differs from call to call. Each function is defined for all values and words.
 #![tactic(auto)]
 
 ghost use Rattle.std.specs.Prelude.{◌≡◌};

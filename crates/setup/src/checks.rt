@@ -53,7 +53,8 @@ fn is_cohort(effects: u32, subjects: usize, total: usize, observations: usize) -
 // ---- 5
 
 // Whether too few words are lent: 12 for each row of the largest subject, 24 for each row that is kept, one
-// warm start for each subject and effect, three results for each subject and two for each observation.
+// warm start for each subject and effect, three results for each subject and two for each observation. (The counts'
+// bounds are asked here and not of their type, since anyone may make one.)
 fn is_short(setup: Setup, subjects: usize, counts: Counts, lent: Lent) -> bool
     requires { (setup.effects ≤ 2) × (setup.k ≤ 100000) × (subjects ≤ 4096) × (counts.total ≤ 100000) × (counts.largest ≤ 100000) }
     ensures { result ≡ is_short setup subjects counts.total counts.largest lent }

@@ -1,5 +1,5 @@
 // The kept evaluations, over lent words: positions, keys and terms cross as arrays of words (the numbers and
-// words of CacheOrder, CacheKey and CachedTerms, in their order).
+// words of CacheOrder, CacheKey and CachedTerms, in their order): C lends arrays, and each is taken apart here.
 ghost use Rattle.std.specs.Prelude.{◌≡◌};
 ghost use Rattle.cache.specs.Cache.{find, terms_of, copied, insert};
 ghost use Rattle.test_exports.specs.Words.{key_of, order_of, order_words, terms_from, term_words, is_found, slot_or};

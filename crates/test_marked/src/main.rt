@@ -7,6 +7,8 @@ ghost use Rattle.std.specs.Prelude.{◌≡◌, ◌<◌};
 ghost use Rattle.mode.specs.Rules.{grid_point};
 ghost use Rattle.test_marked.specs.Marked.{four};
 
+// Each row of the table is a function of its own, since each is proved from its own line of the table.
+//
 // value 3, f 1, f_eta 2, a 1, p 0: score -4, information 4.
 fn additive_row() {
     let mut terms = [0.0, 0.0, 0.0];

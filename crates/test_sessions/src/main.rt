@@ -119,7 +119,8 @@ fn read_tally(reader: &mut impl Read, left: &mut u64) -> io::Result<Tally> {
     })
 }
 
-// ---- calls
+// ---- calls: what is lent goes as slices, one by one; of a struct of several, whose fields are lent on, the check makes
+// no proof
 
 fn shrinkage_of(setup: Setup, state: State, counts: &[u64]) -> u64 {
     if setup.effects == 2 {
