@@ -47,6 +47,34 @@ const OBSERVATIONS: usize = 2560;
 
 const REPLY: usize = 8192;
 
+// The program's own words.
+#[derive(Clone, Copy)]
+struct Memory {
+    observations: [u64; OBSERVATIONS],
+    counts: [u64; SUBJECTS],
+    reply: [u64; REPLY],
+    cache: [u64; CACHE],
+    work: [u64; WORK],
+    warm: [u64; WARM],
+    results: [u64; RESULTS],
+}
+
+// The acts of a script, by their numbers from 0 on; any other number is none.
+#[derive(Clone, Copy)]
+enum Act {
+    Setup,
+    Objective,
+    Reply,
+    Failure,
+    Warm,
+    Lengths,
+    SetupAnew,
+    Counts,
+    Observations,
+    Tally,
+    None,
+}
+
 // How many words are lent.
 #[derive(Clone, Copy)]
 struct Lengths {
@@ -105,7 +133,7 @@ fn read_observations(
     observations: &mut [u64],
     left: &mut u64,
 ) -> io::Result<usize> {
-    let n = reading::at_most(reading::number(reading::next(reader, left)?), OBSERVATIONS);
+    let n = reading::number(reading::next(reader, left)?).min(OBSERVATIONS);
     reading::fill(reader, observations, OBSERVATION_WORDS * n, left)?;
     Ok(n)
 }
@@ -119,14 +147,29 @@ fn read_tally(reader: &mut impl Read, left: &mut u64) -> io::Result<Tally> {
     })
 }
 
-// ---- calls: what is lent goes as slices, one by one; of a struct of several, whose fields are lent on, the check makes
-// no proof
+fn act_of(number: u64) -> Act {
+    match number {
+        0 => Act::Setup,
+        1 => Act::Objective,
+        2 => Act::Reply,
+        3 => Act::Failure,
+        4 => Act::Warm,
+        5 => Act::Lengths,
+        6 => Act::SetupAnew,
+        7 => Act::Counts,
+        8 => Act::Observations,
+        9 => Act::Tally,
+        _ => Act::None,
+    }
+}
+
+// ---- calls
 
 fn shrinkage_of(setup: Setup, state: State, counts: &[u64]) -> u64 {
     if setup.effects == 2 {
         return 0;
     }
-    let subjects = reading::at_most(counts.len(), SUBJECTS) as u32;
+    let subjects = counts.len().min(SUBJECTS) as u32;
     float64::to_word(session::shrinkage(state, subjects))
 }
 
@@ -153,130 +196,90 @@ fn began(begun: Begun, state: State) -> Given {
     }
 }
 
-fn open(
-    host: Host,
-    observations: &[u64],
-    counts: &[u64],
-    cache: &mut [u64],
-    work: &mut [u64],
-    warm: &mut [u64],
-    results: &[u64],
-) -> Given {
+// How many words of the observations are lent.
+fn observed(host: Host) -> usize
+    ensures { result ≤ 2560 }
+{
+    OBSERVATION_WORDS * host.observations.min(OBSERVATIONS / OBSERVATION_WORDS)
+}
+
+// As many of the program's own words as are lent.
+fn lent(words: &mut [u64], length: usize) -> &mut [u64] {
+    let end = length.min(words.len());
+    &mut words[..end]
+}
+
+fn open(host: Host, memory: &mut Memory) -> Given {
     let begun = program_calls::open(
         host.setup,
         host.tally,
-        observations,
-        counts,
-        cache,
-        work,
-        warm,
-        results,
+        &memory.observations[..observed(host)],
+        &memory.counts[..host.subjects.min(SUBJECTS)],
+        lent(&mut memory.cache, host.lengths.cache),
+        lent(&mut memory.work, host.lengths.work),
+        lent(&mut memory.warm, host.lengths.warm),
+        &memory.results[..host.lengths.results.min(RESULTS)],
     );
     began(begun, host.state)
 }
 
-fn objective(
-    host: Host,
-    observations: &[u64],
-    counts: &[u64],
-    cache: &[u64],
-    work: &mut [u64],
-    warm: &mut [u64],
-    results: &mut [u64],
-) -> Given {
+fn objective(host: Host, memory: &mut Memory) -> Given {
     let called = program_calls::objective(
         host.setup,
         host.parameters,
         host.state,
         host.tally,
-        observations,
-        counts,
-        cache,
-        work,
-        warm,
-        results,
+        &memory.observations[..observed(host)],
+        &memory.counts[..host.subjects.min(SUBJECTS)],
+        &memory.cache[..host.lengths.cache.min(CACHE)],
+        lent(&mut memory.work, host.lengths.work),
+        lent(&mut memory.warm, host.lengths.warm),
+        lent(&mut memory.results, host.lengths.results),
     );
-    told(host.setup, called, counts)
+    told(
+        host.setup,
+        called,
+        &memory.counts[..host.subjects.min(SUBJECTS)],
+    )
 }
 
-fn reply(
-    host: Host,
-    observations: &[u64],
-    counts: &[u64],
-    reply: &[u64],
-    cache: &mut [u64],
-    work: &mut [u64],
-    warm: &mut [u64],
-    results: &mut [u64],
-) -> Given {
+fn reply(host: Host, memory: &mut Memory) -> Given {
     let called = program_calls::reply(
         host.setup,
         host.state,
         host.tally,
-        observations,
-        counts,
-        reply,
-        cache,
-        work,
-        warm,
-        results,
+        &memory.observations[..observed(host)],
+        &memory.counts[..host.subjects.min(SUBJECTS)],
+        &memory.reply[..host.replied.min(REPLY)],
+        lent(&mut memory.cache, host.lengths.cache),
+        lent(&mut memory.work, host.lengths.work),
+        lent(&mut memory.warm, host.lengths.warm),
+        lent(&mut memory.results, host.lengths.results),
     );
-    told(host.setup, called, counts)
+    told(
+        host.setup,
+        called,
+        &memory.counts[..host.subjects.min(SUBJECTS)],
+    )
 }
 
-fn failure(
-    host: Host,
-    observations: &[u64],
-    counts: &[u64],
-    cache: &[u64],
-    work: &mut [u64],
-    warm: &[u64],
-    results: &[u64],
-) -> Given {
+fn failure(host: Host, memory: &mut Memory) -> Given {
     let called = program_calls::failure(
         host.setup,
         host.state,
         host.tally,
-        observations,
-        counts,
-        cache,
-        work,
-        warm,
-        results,
+        &memory.observations[..observed(host)],
+        &memory.counts[..host.subjects.min(SUBJECTS)],
+        &memory.cache[..host.lengths.cache.min(CACHE)],
+        lent(&mut memory.work, host.lengths.work),
+        &memory.warm[..host.lengths.warm.min(WARM)],
+        &memory.results[..host.lengths.results.min(RESULTS)],
     );
-    told(host.setup, called, counts)
-}
-
-fn dispatched(
-    kind: u64,
-    host: Host,
-    observations: &[u64],
-    counts: &[u64],
-    words: &[u64],
-    cache: &mut [u64],
-    work: &mut [u64],
-    warm: &mut [u64],
-    results: &mut [u64],
-) -> Given {
-    if kind == 0 {
-        return open(host, observations, counts, cache, work, warm, results);
-    }
-    if kind == 1 {
-        return objective(host, observations, counts, cache, work, warm, results);
-    }
-    if kind == 2 {
-        return reply(
-            host,
-            observations,
-            counts,
-            words,
-            cache,
-            work,
-            warm,
-            results,
-        );
-    }
-    failure(host, observations, counts, cache, work, warm, results)
+    told(
+        host.setup,
+        called,
+        &memory.counts[..host.subjects.min(SUBJECTS)],
+    )
 }
 
 fn flag(is_set: bool, value: u64) -> u64
@@ -295,72 +298,37 @@ fn seen(cache: &[u64], work: &[u64], is_changed: bool) -> u64 {
     idle + empty + flag(is_changed, 4)
 }
 
-// A call over what is lent, and its answer.
-fn call(
-    writer: &mut impl Write,
-    kind: u64,
-    host: Host,
-    observations: &[u64],
-    counts: &[u64],
-    words: &[u64],
-    cache: &mut [u64],
-    work: &mut [u64],
-    warm: &mut [u64],
-    results: &mut [u64],
-) -> io::Result<Given> {
-    let before = digests::mark(work, digests::mark(cache, 0));
-    let given = dispatched(
-        kind,
-        host,
-        observations,
-        counts,
-        words,
-        cache,
-        work,
-        warm,
-        results,
-    );
-    let after = digests::mark(work, digests::mark(cache, 0));
+fn mark(host: Host, memory: &Memory) -> u64 {
+    let cache = digests::mark(&memory.cache[..host.lengths.cache.min(CACHE)], 0);
+    digests::mark(&memory.work[..host.lengths.work.min(WORK)], cache)
+}
+
+fn given_by(act: Act, host: Host, memory: &mut Memory) -> Given {
+    match act {
+        Act::Setup => open(host, memory),
+        Act::Objective => objective(host, memory),
+        Act::Reply => reply(host, memory),
+        _ => failure(host, memory),
+    }
+}
+
+// A call over as many of the program's own words as are lent, and its answer.
+fn call(writer: &mut impl Write, act: Act, host: Host, memory: &mut Memory) -> io::Result<Host> {
+    let before = mark(host, memory);
+    let given = given_by(act, host, memory);
+    let is_changed = before != mark(host, memory);
+    let lengths = host.lengths;
     answers::write(
         writer,
         given.answer,
         given.tally,
-        digests::digest(warm),
-        digests::digest(results),
-        seen(cache, work, before != after),
-    )?;
-    Ok(given)
-}
-
-// A call over as many of the program's own words as are lent.
-fn lend(
-    writer: &mut impl Write,
-    kind: u64,
-    host: Host,
-    observations: &[u64],
-    counts: &[u64],
-    words: &[u64],
-    cache: &mut [u64],
-    work: &mut [u64],
-    warm: &mut [u64],
-    results: &mut [u64],
-) -> io::Result<Host> {
-    let lengths = host.lengths;
-    let cache_end = reading::at_most(lengths.cache, cache.len());
-    let work_end = reading::at_most(lengths.work, work.len());
-    let warm_end = reading::at_most(lengths.warm, warm.len());
-    let results_end = reading::at_most(lengths.results, results.len());
-    let given = call(
-        writer,
-        kind,
-        host,
-        observations,
-        counts,
-        words,
-        &mut cache[0..cache_end],
-        &mut work[0..work_end],
-        &mut warm[0..warm_end],
-        &mut results[0..results_end],
+        digests::digest(&memory.warm[..lengths.warm.min(WARM)]),
+        digests::digest(&memory.results[..lengths.results.min(RESULTS)]),
+        seen(
+            &memory.cache[..lengths.cache.min(CACHE)],
+            &memory.work[..lengths.work.min(WORK)],
+            is_changed,
+        ),
     )?;
     Ok(Host {
         state: given.state,
@@ -371,129 +339,57 @@ fn lend(
 
 // ---- an act's own words
 
-// What is read and is no word of the program's own. An act of any other number has none.
-fn read_values(reader: &mut impl Read, kind: u64, host: Host, left: &mut u64) -> io::Result<Host> {
+// Reads what an act has of its own; a setup, a failure and an act of any other number have
+// nothing.
+fn read_act(
+    reader: &mut impl Read,
+    act: Act,
+    host: Host,
+    left: &mut u64,
+    memory: &mut Memory,
+) -> io::Result<Host> {
     let mut next = host;
-    if kind == 1 {
-        next.parameters = reading::parameters(reader, left)?;
-    }
-    if kind == 5 {
-        next.lengths = read_lengths(reader, left)?;
-    }
-    if kind == 6 {
-        next.setup = reading::setup(reader, left)?;
-    }
-    if kind == 9 {
-        next.tally = read_tally(reader, left)?;
+    match act {
+        Act::Objective => next.parameters = reading::parameters(reader, left)?,
+        Act::Reply => next.replied = read_words(reader, &mut memory.reply, left)?,
+        Act::Warm => {
+            read_words(reader, &mut memory.warm, left)?;
+        }
+        Act::Lengths => next.lengths = read_lengths(reader, left)?,
+        Act::SetupAnew => next.setup = reading::setup(reader, left)?,
+        Act::Counts => next.subjects = read_words(reader, &mut memory.counts, left)?,
+        Act::Observations => {
+            next.observations = read_observations(reader, &mut memory.observations, left)?;
+        }
+        Act::Tally => next.tally = read_tally(reader, left)?,
+        Act::Setup | Act::Failure | Act::None => {}
     }
     Ok(next)
 }
 
-fn read_act(
-    reader: &mut impl Read,
-    kind: u64,
-    host: Host,
-    left: &mut u64,
-    observations: &mut [u64],
-    counts: &mut [u64],
-    words: &mut [u64],
-    warm: &mut [u64],
-) -> io::Result<Host> {
-    let mut next = host;
-    if kind == 2 {
-        next.replied = read_words(reader, words, left)?;
-        return Ok(next);
-    }
-    if kind == 4 {
-        read_words(reader, warm, left)?;
-        return Ok(next);
-    }
-    if kind == 7 {
-        next.subjects = read_words(reader, counts, left)?;
-        return Ok(next);
-    }
-    if kind == 8 {
-        next.observations = read_observations(reader, observations, left)?;
-        return Ok(next);
-    }
-    read_values(reader, kind, next, left)
-}
-
-// The next act, over the program's own words.
-fn act_on(
-    writer: &mut impl Write,
-    kind: u64,
-    host: Host,
-    observations: &[u64],
-    counts: &[u64],
-    words: &[u64],
-    cache: &mut [u64],
-    work: &mut [u64],
-    warm: &mut [u64],
-    results: &mut [u64],
-) -> io::Result<Host> {
-    if 3 < kind {
-        return Ok(host);
-    }
-    let end = OBSERVATION_WORDS
-        * reading::at_most(host.observations, observations.len() / OBSERVATION_WORDS);
-    let subjects = reading::at_most(host.subjects, counts.len());
-    let replied = reading::at_most(host.replied, words.len());
-    lend(
-        writer,
-        kind,
-        host,
-        &observations[0..end],
-        &counts[0..subjects],
-        &words[0..replied],
-        cache,
-        work,
-        warm,
-        results,
-    )
-}
-
 // ---- a session
 
-fn act(
+// Reads and does the next act: the first four are calls over what is lent.
+fn next_act(
     reader: &mut impl Read,
     writer: &mut impl Write,
     host: Host,
     left: &mut u64,
-    observations: &mut [u64; OBSERVATIONS],
-    counts: &mut [u64; SUBJECTS],
-    words: &mut [u64; REPLY],
-    cache: &mut [u64; CACHE],
-    work: &mut [u64; WORK],
-    warm: &mut [u64; WARM],
-    results: &mut [u64; RESULTS],
+    memory: &mut Memory,
 ) -> io::Result<Host> {
-    let kind = reading::next(reader, left)?;
-    let read = read_act(reader, kind, host, left, observations, counts, words, warm)?;
-    act_on(
-        writer,
-        kind,
-        read,
-        observations,
-        counts,
-        words,
-        cache,
-        work,
-        warm,
-        results,
-    )
+    let act = act_of(reading::next(reader, left)?);
+    let read = read_act(reader, act, host, left, memory)?;
+    match act {
+        Act::Setup | Act::Objective | Act::Reply | Act::Failure => call(writer, act, read, memory),
+        _ => Ok(read),
+    }
 }
 
-fn begin(
-    reader: &mut impl Read,
-    left: &mut u64,
-    observations: &mut [u64],
-    counts: &mut [u64],
-) -> io::Result<Host> {
+fn begin(reader: &mut impl Read, left: &mut u64, memory: &mut Memory) -> io::Result<Host> {
     let setup = reading::setup(reader, left)?;
     let lengths = read_lengths(reader, left)?;
-    let subjects = read_words(reader, counts, left)?;
-    let number = read_observations(reader, observations, left)?;
+    let subjects = read_words(reader, &mut memory.counts, left)?;
+    let number = read_observations(reader, &mut memory.observations, left)?;
     let state = session::first_state(setup);
     Ok(Host {
         setup,
@@ -518,31 +414,21 @@ fn replay_session(reader: &mut impl Read, writer: &mut impl Write) -> io::Result
         return Ok(false);
     }
     left = n;
-    let mut observations = [UNTOUCHED; OBSERVATIONS];
-    let mut counts = [UNTOUCHED; SUBJECTS];
-    let mut words = [UNTOUCHED; REPLY];
-    let mut cache = [UNTOUCHED; CACHE];
-    let mut work = [UNTOUCHED; WORK];
-    let mut warm = [UNTOUCHED; WARM];
-    let mut results = [UNTOUCHED; RESULTS];
-    let mut host = begin(reader, &mut left, &mut observations, &mut counts)?;
+    let mut memory = Memory {
+        observations: [UNTOUCHED; OBSERVATIONS],
+        counts: [UNTOUCHED; SUBJECTS],
+        reply: [UNTOUCHED; REPLY],
+        cache: [UNTOUCHED; CACHE],
+        work: [UNTOUCHED; WORK],
+        warm: [UNTOUCHED; WARM],
+        results: [UNTOUCHED; RESULTS],
+    };
+    let mut host = begin(reader, &mut left, &mut memory)?;
     for _ in 0..u64::MAX {
         if left == 0 {
             break;
         }
-        host = act(
-            reader,
-            writer,
-            host,
-            &mut left,
-            &mut observations,
-            &mut counts,
-            &mut words,
-            &mut cache,
-            &mut work,
-            &mut warm,
-            &mut results,
-        )?;
+        host = next_act(reader, writer, host, &mut left, &mut memory)?;
     }
     Ok(true)
 }

@@ -17,13 +17,6 @@ pub fn small(word: u64) -> u32 {
     (word % 0x1_0000_0000) as u32
 }
 
-// A number, or `most` where it is above.
-pub fn at_most(n: usize, most: usize) -> usize
-    ensures { result ≤ most }
-{
-    n.min(most)
-}
-
 // The next word of the script; 0 beyond the last. Where the input ends, none is left.
 pub fn next(reader: &mut impl Read, left: &mut u64) -> io::Result<u64> {
     if *left == 0 {
@@ -44,7 +37,7 @@ fn float(reader: &mut impl Read, left: &mut u64) -> io::Result<f64> {
 
 // Reads the next n words of the script to the first n of these. Words that have no room here are passed over.
 pub fn fill(reader: &mut impl Read, words: &mut [u64], n: usize, left: &mut u64) -> io::Result<()> {
-    let end = at_most(n, number(*left));
+    let end = n.min(number(*left));
     for i in 0..end {
         words::put(words, i, next(reader, left)?);
     }
