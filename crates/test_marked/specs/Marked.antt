@@ -45,7 +45,8 @@ pub record Marked : Type 0 where
   -- the same with two effects, whatever the sensitivities
   pub no_variance_2 : (value : Float) (f_eta : List Float) → row_variance (observation_of value zero one) zero f_eta ≡ refused 11
   pub infinite_prediction_2 :
-      (value additive : Float) (f_eta : List Float) (s : Bool) → row_variance (observation_of value additive zero) (inf s) f_eta ≡ refused 11
+      (value additive : Float) (f_eta : List Float) (s : Bool)
+      → row_variance (observation_of value additive zero) (inf s) f_eta ≡ refused 11
   -- the inverse of (2,0;0,4): (0.5,-0;-0,0.25), det 8
   pub inverse :
       inverse_positive (pair (pair two zero) (pair zero four))

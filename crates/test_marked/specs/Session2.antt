@@ -82,7 +82,8 @@ module _ (eta_bound : Float) (simulator : ℕ → ℕ → List ℕ) where
   -- setup, lent zeros: `state_size` words for the state, 5 for an answer, 24 K for kept evaluations, 12 work words, 2 warm words, 5 results
   unfoldable pub opened : Out
   opened =
-      setup_over (setup_with eta_bound) (1 ∷ []) observations no_tally (zeros state_size) (zeros 5) (zeros 600) (zeros 12) (zeros 2) (zeros 5)
+      setup_over (setup_with eta_bound) (1 ∷ []) observations no_tally (zeros state_size) (zeros 5) (zeros 600) (zeros 12) (zeros 2)
+      (zeros 5)
 
   -- a call, lent what the one before left
   unfoldable pub after : Out → Call → Out
