@@ -4,7 +4,8 @@
 
 ghost use Rattle.std.specs.Prelude.{◌≡◌, [], ◌∷◌, length, get_or, set};
 ghost use Rattle.words.specs.Words.{smaller, zeros};
-ghost use Rattle.words.specs.Page.{blank, with_items};
+ghost use Rattle.words.specs.Written.{written, write};
+ghost use Rattle.words.specs.Page.{blank, page_from, with_items};
 
 // The smaller of two numbers.
 pub fn smaller(a: usize, b: usize) -> usize
@@ -53,11 +54,19 @@ impl<'a, T: Copy> Page<'a, T> {
         Page { out, at: 0 }
     }
 
-    // The place, which is the number of items that were written.
+    // A page of what is lent, from a place on, which may lie beyond the end: there nothing will be written.
+    pub fn from_place(out: &'a mut [T], at: usize) -> Page<'a, T>
+        ensures { result ≡ page_from at out.entry }
+    {
+        Page { out, at }
+    }
+
+    // The place: of a page from its front on, the number of items that were written.
     pub fn end(&self) -> usize
         ensures { result ≡ self.now.at }
     {
-        self.at
+        let place = self.at;
+        place
     }
 
     // Writes an item, and goes on to the place after it. At the end of what is lent nothing is written, and
@@ -71,4 +80,26 @@ impl<'a, T: Copy> Page<'a, T> {
             self.at += 1;
         }
     }
+}
+
+// ---- one byte or word at a place
+
+// Writes a byte at a place and gives the place after it. At the end of what is lent nothing is written, and
+// the place stays.
+pub fn byte(out: &mut [u8], at: usize, value: u8) -> usize
+    ensures { written result out.new ≡ write (value ∷ []) (written at out.old) }
+{
+    let mut page = Page::from_place(out, at);
+    page.put(value);
+    page.end()
+}
+
+// Writes a word at a place and gives the place after it. At the end of what is lent nothing is written, and
+// the place stays.
+pub fn word(out: &mut [u64], at: usize, word: u64) -> usize
+    ensures { written result out.new ≡ write (word ∷ []) (written at out.old) }
+{
+    let mut page = Page::from_place(out, at);
+    page.put(word);
+    page.end()
 }
