@@ -1,35 +1,19 @@
 -- Words copied one after another, in runs and around rings. Assumes nothing.
-use Rattle.std.proofs.Common.{◌≡◌, ℕ, zero, suc, ◌+◌, ◌-◌, ◌*◌, ◌%◌, ◌<◌, ◌≤◌, List, ◌++◌, length, take, drop, get_or, set, sym, refl, ap, ◌∙◌, ap₂, add-zero, mod-lt, mod-eq_of_lt, zero-add, length-drop, length-take-le, drop-cons, append_assoc, arith}
-use Rattle.std.proofs.lemmas.List.Edits.{sets, sets-eq, paste_all}
-use Rattle.std.proofs.lemmas.Slice.{put_mid-paste}
-use borrow.Rule.Slice.PartMut.{put_mid}
+use Rattle.std.proofs.Common.{◌≡◌, ℕ, zero, suc, ◌+◌, ◌-◌, ◌*◌, ◌%◌, ◌<◌, ◌≤◌, List, get_or, set, sym, refl, ap, ◌∙◌, ap₂, add-zero, mod-lt, mod-eq_of_lt, zero-add, arith}
 use native.Mathlib.Nat.{mod-add-mod, add-mul-mod_self_left}
 use Rattle.cache.specs.Cache.{row_place, row_at, copy_from, copy_run, put_ring}
 
--- ---- a run is a write of a part of one list over a part of the other
-run_sets : (n : ℕ) (v : List ℕ) (from : ℕ) (w : List ℕ) (to i : ℕ) → from + i + n ≤ length v → copy_run n v from w to i ≡ sets w (to + i) (take n (drop (from + i) v))
-unfolding copy_run
-run_sets zero v from w to i h = refl
-run_sets (suc n) v from w to i h =
-    let x = get_or v (from + i) 0 in
-    let a : to + (i + 1) ≡ suc (to + i) = omega arith in
-    let b : from + (i + 1) ≡ suc (from + i) = omega arith in
-    run_sets n v from (set w (to + i) x) to (i + 1) (omega arith)
-    ∙ (λ d. sets (set w (to + i) x) (a d) (take n (drop (b d) v)))
-    ∙ ap (λ (l : List ℕ). sets w (to + i) (take (suc n) l)) (sym (drop-cons v (from + i) 0 (omega arith)))
+-- ---- a turn of a run
+module _ (w : List ℕ) (from to n i : ℕ) (out : List ℕ) where
+  pub run_end : n ≤ i → out ≡ copy_run (n - i) w from out to i
+  unfolding copy_run
+  run_end h = let z : n - i ≡ 0 = omega arith in ap (λ (m : ℕ). copy_run m w from out to i) (sym z)
 
-pub run_put : (v w : List ℕ) (from to n : ℕ) {j k : ℕ} {ys : List ℕ} → ys ≡ take j (drop from v) → j ≡ n → k ≡ n → from + n ≤ length v → to + n ≤ length w → put_mid to k w ys ≡ copy_run n v from w to 0
-run_put v w from to n {j} {k} {ys} e p q h l =
-    let part = take n (drop from v) in
-    let size : length part ≡ n = length-take-le n (drop from v) (omega (arith, length-drop from v)) in
-    let put : put_mid to k w ys ≡ take to w ++ (part ++ drop (to + n) w) =
-    put_mid-paste to k w ys part n (e ∙ ap (λ (m : ℕ). take m (drop from v)) p) (sym q) (sym size) ∙ paste_all w to part n (sym size) in
-    let one : copy_run n v from w to 0 ≡ sets w (to + 0) (take n (drop (from + 0) v)) = run_sets n v from w to 0 (omega arith) in
-    let two : sets w (to + 0) (take n (drop (from + 0) v)) ≡ sets w to part = λ d. sets w (add-zero to d) (take n (drop (add-zero from d) v)) in
-    let three : sets w to part ≡ take to w ++ (part ++ drop (to + length part) w) =
-    sets-eq part w to (omega arith) ∙ append_assoc (take to w) part (drop (to + length part) w) in
-    let four : take to w ++ (part ++ drop (to + length part) w) ≡ take to w ++ (part ++ drop (to + n) w) = ap (λ (m : ℕ). take to w ++ (part ++ drop (to + m) w)) size in
-    put ∙ sym (one ∙ two ∙ three ∙ four)
+  pub run_step : {out' : List ℕ} → i < n → out' ≡ set out (to + i) (get_or w (from + i) 0) → copy_run (n - (i + 1)) w from out' to (i + 1) ≡ copy_run (n - i) w from out to i
+  unfolding copy_run
+  run_step h r =
+      let z : n - i ≡ suc (n - (i + 1)) = omega arith in
+      ap (λ (l : List ℕ). copy_run (n - (i + 1)) w from l to (i + 1)) r ∙ ap (λ (m : ℕ). copy_run m w from out to i) (sym z)
 
 -- ---- n words of v, word f i of it to word g i, one after another from i on: runs and rings are this
 unfoldable pub moved : ℕ → List ℕ → (ℕ → ℕ) → List ℕ → (ℕ → ℕ) → ℕ → List ℕ

@@ -81,12 +81,14 @@ pub fn modulo(a: usize, b: usize) -> usize
 }
 
 // Copies n words, from word `from` on, to `out`, from word `to` on: by places, as the definitions of runs and
-// rings have them.
+// rings have them, and by a loop, since runs are short and the archives are to need no `memmove`.
 fn copy_run(words: &[u64], from: usize, n: usize, out: &mut [u64], to: usize)
     requires { (from + n ≤ length words.now) × (to + n ≤ length out.old) }
     ensures { out.new ≡ copy_run n words.now from out.old to 0 }
 {
-    out[to..to + n].copy_from_slice(&words[from..from + n]);
+    for i in 0..n {
+        out[to + i] = words[from + i];
+    }
 }
 
 // ---- the hash

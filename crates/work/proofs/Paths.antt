@@ -1,18 +1,13 @@
 -- The ways through the code: one law for each, over plain variables. Assumes nothing.
-use mathlib.Core.Path.{◌≡◌, refl, sym, ap, ◌∙◌}
+use mathlib.Core.Path.{◌≡◌, refl, ap, ◌∙◌}
 use mathlib.Core.Bool.{Bool, true, false}
-use mathlib.Core.List.{List, ◌++◌}
-use Rattle.std.proofs.Common.{◌⊎◌, inl, inr, ⊎_elim, length-set, length-drop, length-take-le, drop-cons}
-use Rattle.std.proofs.lemmas.Bool.{cases_lt}
-use Rattle.std.proofs.lemmas.List.{drop-set-lt, drop-set-add, take-set-le}
-use Rattle.std.proofs.lemmas.List.Edits.{sets, sets-eq}
-use Prim.Native.Nat.{ℕ, zero, suc, ◌+◌, ◌-◌, ◌*◌, ◌≤◌, ◌<◌}
-use native.Mathlib.Nat.{mul-le-mul, mul-le-mul_left}
+use mathlib.Core.List.{List}
+use Prim.Native.Nat.{ℕ, suc, ◌+◌, ◌-◌, ◌*◌, ◌≤◌, ◌<◌}
+use native.Mathlib.Nat.{mul-le-mul}
 use native.Mathlib.Omega.{arith}
 use borrow.Author.Tests.{eq-eqb, ne_eqb}
 use lib.Dec.{eqb}
-use lib.ListN.{length, take, drop, get_or, set}
-use lib.Seq.{paste}
+use lib.ListN.{get_or, set}
 use lib.Ieee.{Float, eq}
 use Rattle.float64.specs.Arithmetic.{word}
 use Rattle.float64.specs.Pick.{yes, no, yes_of, no_of}
@@ -56,45 +51,7 @@ module _ (n from to i : ℕ) (w : List ℕ) where
       let t : to + (i + 1) ≡ to + i + 1 = omega arith in
       (λ d. copy_words (n - (i + 1)) (f d) (t d) ((q ∙ ap (set w (to + i)) e) d)) ∙ ap (λ (m : ℕ). copy_words m (from + i) (to + i) w) (one_more n i h)
 
--- ---- n words copied at once, where those that are written do not come before they are read
-part_kept : (n m to : ℕ) (w : List ℕ) (x : ℕ) → (to < m) ⊎ (m + n ≤ to) → take n (drop m (set w to x)) ≡ take n (drop m w)
-part_kept n m to w x c =
-    ⊎_elim (λ (h : to < m). ap (take n) (drop-set-lt m w to x h)) (λ (h : m + n ≤ to).
-    let z : to ≡ m + (to - m) = omega arith in
-    ap (λ (j : ℕ). take n (drop m (set w j x))) z ∙ ap (take n) (drop-set-add m w (to - m) x) ∙ take-set-le n (drop m w) (to - m) x (omega arith)) c
-
-copy_sets : (n from to : ℕ) (w : List ℕ) → from + n ≤ length w → to + n ≤ length w → (to ≤ from) ⊎ (from + n ≤ to) → copy_words n from to w ≡ sets w to (take n (drop from w))
-unfolding copy_words
-copy_sets zero from to w h l c = refl
-copy_sets (suc n) from to w h l c =
-    let x = get_or w from 0 in
-    let same : length (set w to x) ≡ length w = length-set w to x in
-    let a : to + 1 ≡ suc to = omega arith in
-    let b : from + 1 ≡ suc from = omega arith in
-    copy_sets n (from + 1) (to + 1) (set w to x) (omega arith) (omega arith) (⊎_elim (λ (y : to ≤ from). inl (omega arith)) (λ (y : from + suc n ≤ to). inr (omega arith)) c)
-    ∙ ap (sets (set w to x) (to + 1)) (part_kept n (from + 1) to w x (⊎_elim (λ (y : to ≤ from). inl (omega arith)) (λ (y : from + suc n ≤ to). inr (omega arith)) c))
-    ∙ (λ d. sets (set w to x) (a d) (take n (drop (b d) w)))
-    ∙ ap (λ (r : List ℕ). sets w to (take (suc n) r)) (sym (drop-cons w from 0 (omega arith)))
-
-copies_at_once : (n from to : ℕ) (w : List ℕ) → from + n ≤ length w → to + n ≤ length w → (to ≤ from) ⊎ (from + n ≤ to) → paste w to (drop from w) n ≡ copy_words n from to w
-copies_at_once n from to w h l c =
-    let part = take n (drop from w) in
-    let size : length part ≡ n = length-take-le n (drop from w) (omega (arith, length-drop from w)) in
-    sym (copy_sets n from to w h l c ∙ sets-eq part w to (omega arith) ∙ ap (λ (m : ℕ). take to w ++ part ++ drop (to + m) w) size)
-
--- as with two blocks
-blocks_apart : (n p q : ℕ) → (n * q ≤ n * p) ⊎ (n * p + n ≤ n * q)
-blocks_apart n p q =
-    ⊎_elim (λ (h : p < q). inr (let m : n * (p + 1) ≤ n * q = mul-le-mul_left n (let z : p + 1 ≤ q = omega arith in z) in omega arith)) (λ (h : q ≤ p). inl (mul-le-mul_left n h)) (cases_lt p q)
-
-pub block_at_once : {n a b j : ℕ} (rows from to : ℕ) (w : List ℕ) → n ≡ rows_length rows → a ≡ block rows from → b ≡ block rows to → j ≡ n → a + n ≤ length w → b + n ≤ length w
-    → paste w b (drop a w) j ≡ copy_words n a b w
-unfolding block
-block_at_once {n} {a} {b} rows from to w e p q z h l =
-    let apart : (b ≤ a) ⊎ (a + n ≤ b) = ⊎_elim (λ (y : rows_length rows * smaller to 3 ≤ rows_length rows * smaller from 3). inl (omega arith))
-    (λ (y : rows_length rows * smaller from 3 + rows_length rows ≤ rows_length rows * smaller to 3). inr (omega arith)) (blocks_apart (rows_length rows) (smaller from 3) (smaller to 3)) in
-    ap (λ (m : ℕ). paste w b (drop a w) m) z ∙ copies_at_once n a b w h l apart
-
+-- ---- a block copied
 module _ (rows from to : ℕ) (w : List ℕ) where
   pub stays : from ≡ to → w ≡ copy_block rows from to w
   unfolding copy_block

@@ -77,7 +77,18 @@ fn copy_each(work: &mut [u64], n: usize, from: usize, to: usize)
     }
 }
 
-// Copies a block to another: at once where both are lent.
+// Copies n words as `copy_words` does, where all of them are lent: a loop without a test for each word, since
+// blocks are short and the archives are to need no `memmove`.
+fn copy_lent(work: &mut [u64], n: usize, from: usize, to: usize)
+    requires { (from + n ≤ length work.old) × (to + n ≤ length work.old) }
+    ensures { work.new ≡ copy_words n from to work.old }
+{
+    for i in 0..n {
+        work[to + i] = work[from + i];
+    }
+}
+
+// Copies a block to another.
 fn copy_block(work: &mut [u64], rows: usize, from: usize, to: usize)
     ensures { work.new ≡ copy_block rows from to work.old }
 {
@@ -88,7 +99,7 @@ fn copy_block(work: &mut [u64], rows: usize, from: usize, to: usize)
     let first = block(rows, from);
     let last = block(rows, to);
     if first.max(last) + n <= work.len() {
-        work.copy_within(first..first + n, last);
+        copy_lent(work, n, first, last);
     } else {
         copy_each(work, n, first, last);
     }

@@ -1,6 +1,6 @@
 -- `copy_block` meets its contract: each exit by its law. Assumes nothing.
-use Rattle.std.proofs.Common.{◌∙◌, arith}
-use Rattle.work.proofs.Paths.{block_low, stays, copies, block_at_once}
+use Rattle.std.proofs.Common.{arith}
+use Rattle.work.proofs.Paths.{block_low, stays, copies}
 use Rattle.work.proofs.copy_block.Goals as goal
 
 pub returns-then-from-to : goal.returns-then-from-to
@@ -18,10 +18,11 @@ copy_each-requires c =
     let last = block_low _ _ c.block-last.ensures in
     (omega arith, omega arith, omega arith)
 
+pub copy_lent-requires : goal.copy_lent-requires
+copy_lent-requires c = (omega arith, omega arith)
+
 pub returns-then-max-n : goal.returns-then-max-n
-returns-then-max-n c =
-    copies _ _ _ _ c.if-from-to.false c.rows_length-n.ensures c.block-first.ensures c.block-last.ensures
-    (c.copy_within.ensures.after ∙ block_at_once _ _ _ _ c.rows_length-n.ensures c.block-first.ensures c.block-last.ensures (omega arith) (omega arith) (omega arith))
+returns-then-max-n c = copies _ _ _ _ c.if-from-to.false c.rows_length-n.ensures c.block-first.ensures c.block-last.ensures c.copy_lent.ensures
 
 pub returns-else-max-n : goal.returns-else-max-n
 returns-else-max-n c = copies _ _ _ _ c.if-from-to.false c.rows_length-n.ensures c.block-first.ensures c.block-last.ensures c.copy_each.ensures
