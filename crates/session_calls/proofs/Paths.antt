@@ -43,7 +43,7 @@ use Rattle.subject.specs.declared.EvaluationError.TheVariants as E
 use Rattle.setup.specs.declared.AdmissionError.{AdmissionError}
 use Rattle.setup.specs.declared.AdmissionError.TheVariants as A
 use Rattle.search.specs.declared.Refusal.{Refusal}
-use Rattle.session_calls.specs.Refusals.{refusal_of}
+use Rattle.session_calls.specs.Refusals.{refusal_of, refused_by_verdict}
 use Rattle.subject.specs.Observations.{Check}
 use Rattle.mode.specs.declared.Request.{Request}
 use Rattle.mode.specs.declared.Request.TheVariants as Wants
@@ -79,7 +79,7 @@ module _ (setup : Setup) (counts : List ℕ) (n : ℕ) (check : Check) (tally : 
 
   refused_opening : (error : AdmissionError) → begun_with (record { opening = Err (refusal_of error); tally = tally }) cache work warm
       ≡ opening setup counts (lent_by n (length cache) (length work) (length warm) (length results)) tally cache work warm results (Err error)
-  unfolding opening refusal_of
+  unfolding opening refusal_of refused_by_verdict
   refused_opening (A.Refused number) = refl
   refused_opening (A.Unsound at) = refl
 
@@ -94,7 +94,7 @@ through_pick f b x y = sym (pick_through f b (λ _. refl) refl)
 -- a refusal of the checks, before anything is altered
 refused_onward : (f : Held words → Ran (Held words) Step) (h : Held words) (go : Moved (Held words) Step) (error : AdmissionError)
     → ran (Refused (refusal_of error)) h ≡ onward (when_admitted words h go (Err error)) f
-unfolding when_admitted onward refusal_of
+unfolding when_admitted onward refusal_of refused_by_verdict
 refused_onward f h go (A.Refused number) = refl
 refused_onward f h go (A.Unsound at) = refl
 

@@ -88,7 +88,7 @@ pub fn ended_as(state: State, tally: Tally, refusal: Refusal, work: &mut [u64]) 
 // ---- refusals that alter nothing
 
 // What the answer says of a refusal of the checks: document 01's number, and with 4 the observation's place.
-#[tactic(auto, unfolding(crate::specs::Refusals::refusal_of))]
+#[tactic(auto, unfolding(crate::specs::Refusals::refusal_of, crate::specs::Refusals::refused_by_verdict))]
 fn refusal_of(error: AdmissionError) -> Refusal
     ensures { result ≡ refusal_of error }
 {
