@@ -406,40 +406,56 @@ fn begin(reader: &mut impl Read, left: &mut u64, memory: &mut Memory) -> io::Res
     })
 }
 
+fn untouch(memory: &mut Memory) {
+    memory.observations.fill(UNTOUCHED);
+    memory.counts.fill(UNTOUCHED);
+    memory.reply.fill(UNTOUCHED);
+    memory.cache.fill(UNTOUCHED);
+    memory.work.fill(UNTOUCHED);
+    memory.warm.fill(UNTOUCHED);
+    memory.results.fill(UNTOUCHED);
+}
+
 // Runs the next session of the script. False at the end of the input.
-fn replay_session(reader: &mut impl Read, writer: &mut impl Write) -> io::Result<bool> {
+fn replay_session(
+    reader: &mut impl Read,
+    writer: &mut impl Write,
+    memory: &mut Memory,
+) -> io::Result<bool> {
     let mut left = 1;
     let n = reading::next(reader, &mut left)?;
     if n == 0 {
         return Ok(false);
     }
     left = n;
-    let mut memory = Memory {
-        observations: [UNTOUCHED; OBSERVATIONS],
-        counts: [UNTOUCHED; SUBJECTS],
-        reply: [UNTOUCHED; REPLY],
-        cache: [UNTOUCHED; CACHE],
-        work: [UNTOUCHED; WORK],
-        warm: [UNTOUCHED; WARM],
-        results: [UNTOUCHED; RESULTS],
-    };
-    let mut host = begin(reader, &mut left, &mut memory)?;
+    untouch(memory);
+    let mut host = begin(reader, &mut left, memory)?;
     for _ in 0..u64::MAX {
         if left == 0 {
             break;
         }
-        host = next_act(reader, writer, host, &mut left, &mut memory)?;
+        host = next_act(reader, writer, host, &mut left, memory)?;
     }
     Ok(true)
 }
 
 // The loops must be seen to end, and nothing says that an input does: so they count turns, to a number that no
-// run reaches. A read or a write that fails ends the program with its error.
+// run reaches. A read or a write that fails ends the program with its error. The program's own words are made of
+// zeros, once: arrays of other words would be made first, and then copied into the struct.
 fn main(rt: HostRuntime) -> io::Result<()> {
     let mut stdin = rt.stdin();
     let mut stdout = rt.stdout();
+    let mut memory = Memory {
+        observations: [0; OBSERVATIONS],
+        counts: [0; SUBJECTS],
+        reply: [0; REPLY],
+        cache: [0; CACHE],
+        work: [0; WORK],
+        warm: [0; WARM],
+        results: [0; RESULTS],
+    };
     for _ in 0..u64::MAX {
-        if !replay_session(&mut stdin, &mut stdout)? {
+        if !replay_session(&mut stdin, &mut stdout, &mut memory)? {
             break;
         }
     }
