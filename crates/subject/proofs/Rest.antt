@@ -1,11 +1,14 @@
 -- What is left of the part of a list that a loop goes through, from place i up to e, and what the loop makes of it. Assumes nothing.
+use Rattle.std.specs.Prelude.{Err, Ok}
 use Rattle.std.proofs.Common.{◌≡◌, ℕ, zero, suc, ◌+◌, ◌-◌, ◌<◌, ◌≤◌, List, [], ◌∷◌, length, take, drop, get_or, refl, sym, ap, ◌∙◌, arith}
 use Rattle.std.proofs.Math.Seq.{drop-cons}
 use Rattle.words.specs.Words.{smaller}
 use Rattle.words.proofs.Runs.{len_part, one_more}
 use Rattle.likelihood.specs.declared.population_focei.Observation.{Observation}
 use Rattle.subject.specs.Observations.{no_observation, observation_at, check_observation, check_observations, Check}
-use Rattle.subject.specs.Subject.{Evaluating, add_observation, add_observations}
+use Rattle.subject.specs.Subject.{Evaluation, Evaluating, evaluating, add_after, add_observation, add_observations}
+use Rattle.subject.specs.declared.EvaluationError.{EvaluationError}
+use Rattle.subject.specs.declared.Sums.{Sums}
 use Rattle.subject.specs.declared.Trial.{Trial}
 
 module _ {A : Type 0} where
@@ -37,6 +40,33 @@ pub adds_next : (trial : Trial) (reply : List ℕ) (os : List Observation) (i e 
 adds_next trial reply os i e x h b at q =
     ap (add_observations trial reply (take (e - (i + 1)) (drop (i + 1) os))) (q ∙ ap (λ (z : Observation). add_observation trial reply z x) at)
     ∙ sym (ap (λ (l : List Observation). add_observations trial reply l x) (one_first no_observation os i e h b))
+
+-- after a refusal nothing is added, however many are left
+none_added : (trial : Trial) (reply : List ℕ) (os : List Observation) (error : EvaluationError) (work : List ℕ)
+    → add_observations trial reply os (evaluating (Err error) work) ≡ evaluating (Err error) work
+unfolding add_observation add_after
+none_added trial reply [] error work = refl
+none_added trial reply (o ∷ os) error work = none_added trial reply os error work
+
+pub all_refused : (trial : Trial) (reply : List ℕ) (os : List Observation) {x : Evaluation} (work : List ℕ) {error : EvaluationError} → x ≡ Err error
+    → evaluating (Err error) work ≡ add_observations trial reply os (evaluating x work)
+all_refused trial reply os work {error = error} t =
+    sym (none_added trial reply os error work) ∙ ap (λ (x : Evaluation). add_observations trial reply os (evaluating x work)) (sym t)
+
+-- a turn from the sums of those before: y is what the observation at i makes of them, w the work words afterwards
+module _ (trial : Trial) (reply : List ℕ) (os : List Observation) (i e : ℕ) (sums : Sums) (work w : List ℕ) {o : Observation} {y : Evaluation} (h : i < e) (b : e ≤ length os)
+    (at : o ≡ observation_at os i) (q : evaluating y w ≡ add_observation trial reply o (evaluating (Ok sums) work)) where
+  abbrev left : Evaluation → Evaluating
+  left x = add_observations trial reply (take (e - (i + 1)) (drop (i + 1) os)) (evaluating x w)
+
+  abbrev made : Evaluating
+  made = add_observations trial reply (take (e - i) (drop i os)) (evaluating (Ok sums) work)
+
+  pub turn_adds : {z : Evaluation} → y ≡ z → left z ≡ made
+  turn_adds t = adds_next trial reply os i e (evaluating (Ok sums) work) h b at (ap (λ (x : Evaluation). evaluating x w) (sym t) ∙ q)
+
+  pub turn_refused : {error : EvaluationError} → y ≡ Err error → evaluating (Err error) w ≡ made
+  turn_refused t = all_refused trial reply (take (e - (i + 1)) (drop (i + 1) os)) w t ∙ turn_adds refl
 
 pub checks_next : (width : ℕ) (counts : List ℕ) (os : List Observation) (i e : ℕ) {o : Observation} (x : Check) {y : Check} → i < e → e ≤ length os
     → o ≡ observation_at os i → y ≡ check_observation width counts o x

@@ -30,7 +30,7 @@ pub trait Run: Copy {
 }
 
 // An evaluation with the observations from number `from` up to, but without, `to` added, one after the other:
-// with a subject's, where these are its bounds.
+// with a subject's, where these are its bounds. The first refusal ends it.
 pub fn add_run<R: Run>(
     run: R,
     from: usize,
@@ -45,12 +45,14 @@ pub fn add_run<R: Run>(
         (evaluating evaluation work.old) }
 {
     let end = smaller(to, run.count());
-    let mut sums = evaluation;
+    // From turn to turn go the sums alone. In an evaluation a refusal shares their place, and the compiler adds each
+    // of them by itself, which takes longer.
+    let mut sums = evaluation?;
     for i in from..end {
         let observation = run.at(i);
-        sums = super::rows::add_observation(sums, observation, trial, reply, work);
+        sums = super::rows::add_observation(Ok(sums), observation, trial, reply, work)?;
     }
-    sums
+    Ok(sums)
 }
 
 // Document 01's check 4 with the observations from number `from` up to, but without, `to`, one after the
